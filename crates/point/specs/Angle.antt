@@ -1,0 +1,46 @@
+-- 01, "Primitives, from 000 and 001": angles, by `approx_atan2` of point.rs, and when an angle has changed. Assumes nothing.
+use mathlib.Core.Bool.{Bool, false, cond}
+use lib.Ieee.{Float, lt, le, neg}
+use Rattle.leaves.specs.Single.{_⊖_, _⊗_, _⊘_, f32, zero32}
+use Rattle.leaves.specs.Fma.{fma32}
+use Rattle.leaves.specs.Small.{absOf, minOf, maxOf}
+use Rattle.point.specs.declared.Point.{Point}
+use Rattle.point.specs.declared.Angle.{Angle}
+use Rattle.point.specs.declared.Angle.the-variants.{Missing, Known}
+use Rattle.point.specs.Point.{lenOf}
+
+-- π and π/2 as f32, 3.1415927 and 1.5707964
+abbrev pub pi : Float
+pi = f32 0x4049_0fdb
+
+abbrev pub halfPi : Float
+halfPi = f32 0x3fc9_0fdb
+
+-- the constants are -0.046496473, 0.15931422 and -0.32762277
+unfoldable pub approxAtan2Of : Float → Float → Float
+approxAtan2Of y x =
+    let x-abs = absOf x in
+    let y-abs = absOf y in
+    let a = minOf x-abs y-abs ⊘ maxOf x-abs y-abs in
+    let s = a ⊗ a in
+    let r = fma32 (fma32 (fma32 s (f32 0xbd3e_7316) (f32 0x3e23_2344)) s (f32 0xbea7_be2c)) (s ⊗ a) a in
+    let steep = cond (lt x-abs y-abs) (halfPi ⊖ r) r in
+    let behind = cond (lt x zero32) (pi ⊖ steep) steep in
+    cond (lt y zero32) (neg behind) behind
+
+-- "Angle is missing below 2^-23, otherwise `approx_atan2`"; a NaN for a length has none either
+unfoldable pub angleOf : Point → Angle
+angleOf d = cond (le (f32 0x3400_0000) (lenOf d)) (Known (approxAtan2Of (d .y) (d .x))) Missing
+
+-- "`diff`: |a1-a0|; less π if over π; then π minus it if over π/2."
+unfoldable pub diffOf : Float → Float → Float
+diffOf a0 a1 =
+    let turn = absOf (a1 ⊖ a0) in
+    let folded = cond (lt pi turn) (turn ⊖ pi) turn in
+    cond (lt halfPi folded) (pi ⊖ folded) folded
+
+-- "Changed means both angles known and diff over 0.001. So a full reversal is no change."
+unfoldable pub changedOf : Angle → Angle → Bool
+changedOf Missing a1 = false
+changedOf (Known a0) Missing = false
+changedOf (Known a0) (Known a1) = lt (f32 0x3a83_126f) (diffOf a0 a1)

@@ -1,0 +1,3 @@
+pub mod Point
+pub mod Angle
+pub mod Curve
