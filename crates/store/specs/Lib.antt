@@ -1,0 +1,5 @@
+pub mod Columns
+pub mod Closing
+pub mod Drawing
+pub mod Replay
+pub mod Drawable
