@@ -140,7 +140,7 @@ product-le a b c d h k =
     le-trans (mul-le-mul p q) (le-of-eq (regroup 65536 64 4194304 b d refl))
   where
   regroup : (x y z b d : ℕ) → x * y ≡ z → x * b * (y * d) ≡ z * (b * d)
-  regroup x y z b d e = rw (← e) (simp (mul-assoc, mul-comm, mul-left-comm))
+  regroup x y z b d e = rw (← e) (simp (mul-assoc, mul-left-comm))
 
 module _ (s : Bool) (m : ℕ) (e : ℤ) (h : inside 16 (fin s m e) ≡ true) where
   product-inside : (w : Float) → weightOkOf w ≡ true → inside 22 (fin s m e ⊗ w) ≡ true
