@@ -46,7 +46,7 @@ writes-at (RatCubic p1 p2 p3 w1 w2) st c = le-refl (st .points)
 writes-at Build st c = closed-at st c _
 
 -- columns of one length with room in x have room in all
-room-fits : (st : StoreState) (c : Columns) → Counted st c → (w : Writes) → roomOf w st c ≡ true → Fitting w st c
+pub room-fits : (st : StoreState) (c : Columns) → Counted st c → (w : Writes) → roomOf w st c ≡ true → Fitting w st c
 unfolding roomOf
 room-fits st c f w r =
     let behind = w .at + length (w .points) in

@@ -8,3 +8,4 @@ pub mod Ranges
 pub mod Written
 pub mod Sound
 pub mod Keeping
+pub mod Laws
