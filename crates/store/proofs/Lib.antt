@@ -9,3 +9,4 @@ pub mod Written
 pub mod Sound
 pub mod Keeping
 pub mod Laws
+pub mod Built
