@@ -1,10 +1,9 @@
 -- After a build that answered Done the last point equals the open point, as floats after the division by the weight, where none of these is NaN. Assumes nothing.
-use Prim.Native.Nat.{ℕ, _+_, _-_, _*_, _≤_, _<_}
+use Prim.Native.Nat.{ℕ, _+_, _-_, _*_, _<_}
 use native.Mathlib.Omega.{arith}
 use native.Mathlib.Nat.{add-zero}
 use mathlib.Core.Path.{_≡_, refl, sym, ap, _∙_, subst}
 use mathlib.Core.Bool.{Bool, true, false, not, true≢false}
-use mathlib.Core.List.{List, [], _∷_}
 use lib.ListN.{length}
 use lib.Seq.{getD-set-same, getD-set-other}
 use lib.Ieee.{Float, nan, inf, fin, eq, isNan, up, down}
@@ -97,8 +96,9 @@ module _ (st : StoreState) (c : Columns) (a : Accepted Build st c) where
 pub build-closes : (st : StoreState) (c : Columns) → isDone (drawOf Build st c .answer) ≡ true → Closed (drawOf Build st c)
 build-closes st c e = subst Closed (sym (a .outcome)) (go (unclosedOf st c) refl)
   where
-  a : Accepted Build st c
-  a = accepted Build st c e
-  go : (b : Bool) → unclosedOf st c ≡ b → Closed (acceptedOutcome Build st c)
-  go true e = was-open st c a e
-  go false e = was-closed st c a e
+    a : Accepted Build st c
+    a = accepted Build st c e
+
+    go : (b : Bool) → unclosedOf st c ≡ b → Closed (acceptedOutcome Build st c)
+    go true e = was-open st c a e
+    go false e = was-closed st c a e

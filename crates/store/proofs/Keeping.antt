@@ -1,23 +1,21 @@
 -- The writes of an accepted call keep a store as flattening's test for 3 asks. Assumes nothing.
-use Prim.Native.Nat.{ℕ, suc, _+_, _-_, _≤_, _<_}
+use Prim.Native.Nat.{ℕ, _+_, _≤_, _<_}
 use native.Mathlib.Omega.{arith}
-use native.Mathlib.Nat.{le-refl, le-trans}
+use native.Mathlib.Nat.{le-refl}
 use mathlib.Core.Path.{_≡_, refl, sym, ap, _∙_, subst}
-use mathlib.Core.Bool.{Bool, true, false, _&&_}
+use mathlib.Core.Bool.{Bool, true, false}
 use mathlib.Core.List.{List, [], _∷_, _++_, map}
-use lib.ListN.{length, getD, take, length-map, List·getD-append}
+use lib.ListN.{length, getD, take, List·getD-append}
 use lib.Seq.{sets, length-sets, length-take-le, getD-take}
-use lib.Dec.{leb, eqb}
+use lib.Dec.{leb}
 use lib.Ieee.{Float, nan}
-use borrow.Author.Tests.{le-leb}
 use Rattle.point.specs.declared.WeightedPoint.{WeightedPoint}
 use Rattle.point.specs.declared.Point.{Point}
 use Rattle.point.specs.Point.{plain, rationalOf}
 use Rattle.store.specs.declared.StoreState.{StoreState}
 use Rattle.store.specs.declared.Call.{Call}
 use Rattle.store.specs.declared.Call.the-variants.{Move, Line, Quad, Cubic, RatQuad, RatCubic, Build}
-use Rattle.store.specs.Columns.{Columns, columns, usesOf, lastCommandOf, moveCommand, storedPointOf}
-use Rattle.store.specs.Closing.{unclosedOf}
+use Rattle.store.specs.Columns.{Columns, columns, usesOf, storedPointOf}
 use Rattle.store.specs.Drawing.{Writes, every, coordinateOkOf, weightOkOf, coordinatesOf, weightsOf, appended, closed, moved, writesOf, written, stateAfter}
 use Rattle.store.specs.Drawable.{storedOkOf, knownOf, totalUsesOf}
 use Rattle.store.specs.Plan.{Fitting}
@@ -80,13 +78,14 @@ module _ (st : StoreState) (c : Columns) (g : Sound st c) where
       let i = st .opening in
       let hy : n ≤ length (c .y) = omega arith in
       let hw : n ≤ length (c .weight) = omega arith in
-      record
-      { weight = at weightOkOf (c .weight) n i (f .opening) hw (g .weights)
-      ; x = at storedOkOf (c .x) n i (f .opening) (f .points) (g .xs)
-      ; y = at storedOkOf (c .y) n i (f .opening) hy (g .ys) }
+      record {
+        weight = at weightOkOf (c .weight) n i (f .opening) hw (g .weights);
+        x = at storedOkOf (c .x) n i (f .opening) (f .points) (g .xs);
+        y = at storedOkOf (c .y) n i (f .opening) hy (g .ys);
+      }
     where
-    at : (ok : Float → Bool) (l : List Float) (n i : ℕ) → i < n → n ≤ length l → every ok (take n l) ≡ true → ok (getD l i nan) ≡ true
-    at ok l n i h k e = ap ok (sym (getD-take n l i nan h)) ∙ every-at ok nan (take n l) i (rw (length-take-le n l k) h) e
+      at : (ok : Float → Bool) (l : List Float) (n i : ℕ) → i < n → n ≤ length l → every ok (take n l) ≡ true → ok (getD l i nan) ≡ true
+      at ok l n i h k e = ap ok (sym (getD-take n l i nan h)) ∙ every-at ok nan (take n l) i (rw (length-take-le n l k) h) e
 
   appended-good : (ps : List WeightedPoint) (k : ℕ) → AllOk ps → length ps ≡ usesOf k → leb k 3 ≡ true → Good (appended st ps k) st
   unfolding appended totalUsesOf knownOf
@@ -94,8 +93,8 @@ module _ (st : StoreState) (c : Columns) (g : Sound st c) where
       let o = g .counted .opening in
       record { at = le-refl (st .points); count = sum (st .points) e; opening = omega arith; known = and-both (leb k 3) true h refl; points = a }
     where
-    sum : (n : ℕ) {a b : ℕ} → a ≡ b → n + a ≡ n + (b + 0)
-    sum n e = omega arith
+      sum : (n : ℕ) {a b : ℕ} → a ≡ b → n + a ≡ n + (b + 0)
+      sum n e = omega arith
 
   closed-good : (unclosed : Bool) → Good (closed st c unclosed) st
   unfolding closed totalUsesOf knownOf
@@ -184,22 +183,24 @@ module _ (st : StoreState) (c : Columns) (g : Sound st c) (w : Writes) (v : Good
       let f = g .counted in
       let s = v .count in
       let o = v .opening in
-      record
-      { counted =
-          record
-          { y = length-sets (c .y) (w .at) (map yOf (w .points)) ∙ f .y ∙ sym (length-sets (c .x) (w .at) (map xOf (w .points)))
-          ; weight = length-sets (c .weight) (w .at) (map weightOf (w .points)) ∙ f .weight ∙ sym (length-sets (c .x) (w .at) (map xOf (w .points)))
-          ; some = omega arith
-          ; points = rw (length-sets (c .x) (w .at) (map xOf (w .points))) (r .points .x)
-          ; begun = omega arith
-          ; commands = rw (length-sets (c .commands) (st .commands) (w .commands)) (r .commands)
-          ; opening = o }
-      ; known = ap knownOf commands-after ∙ known-append (take (st .commands) (c .commands)) (w .commands) (g .known) (v .known)
-      ; first = first-kept ∙ g .first
-      ; uses = ap totalUsesOf commands-after ∙ uses-append (take (st .commands) (c .commands)) (w .commands) ∙ ap (λ (n : ℕ). n + totalUsesOf (w .commands)) (g .uses) ∙ sym s
-      ; weights = column-ok weightOkOf weightOf (w .points) (c .weight) (w .at) (st .points) (v .at) (r .points .weight) (g .weights) (weights-ok (w .points) (v .points))
-      ; xs = column-ok storedOkOf xOf (w .points) (c .x) (w .at) (st .points) (v .at) (r .points .x) (g .xs) (xs-ok (w .points) (v .points))
-      ; ys = column-ok storedOkOf yOf (w .points) (c .y) (w .at) (st .points) (v .at) (r .points .y) (g .ys) (ys-ok (w .points) (v .points)) }
+      record {
+        counted =
+            record {
+              y = length-sets (c .y) (w .at) (map yOf (w .points)) ∙ f .y ∙ sym (length-sets (c .x) (w .at) (map xOf (w .points)));
+              weight = length-sets (c .weight) (w .at) (map weightOf (w .points)) ∙ f .weight ∙ sym (length-sets (c .x) (w .at) (map xOf (w .points)));
+              some = omega arith;
+              points = rw (length-sets (c .x) (w .at) (map xOf (w .points))) (r .points .x);
+              begun = omega arith;
+              commands = rw (length-sets (c .commands) (st .commands) (w .commands)) (r .commands);
+              opening = o;
+            };
+        known = ap knownOf commands-after ∙ known-append (take (st .commands) (c .commands)) (w .commands) (g .known) (v .known);
+        first = first-kept ∙ g .first;
+        uses = ap totalUsesOf commands-after ∙ uses-append (take (st .commands) (c .commands)) (w .commands) ∙ ap (λ (n : ℕ). n + totalUsesOf (w .commands)) (g .uses) ∙ sym s;
+        weights = column-ok weightOkOf weightOf (w .points) (c .weight) (w .at) (st .points) (v .at) (r .points .weight) (g .weights) (weights-ok (w .points) (v .points));
+        xs = column-ok storedOkOf xOf (w .points) (c .x) (w .at) (st .points) (v .at) (r .points .x) (g .xs) (xs-ok (w .points) (v .points));
+        ys = column-ok storedOkOf yOf (w .points) (c .y) (w .at) (st .points) (v .at) (r .points .y) (g .ys) (ys-ok (w .points) (v .points));
+      }
 
   pub sound-kept : Sound (stateAfter w st) (written w st c)
   sound-kept = subst (λ (d : Columns). Sound (stateAfter w st) d) (sym (all-written w st c)) sound-after

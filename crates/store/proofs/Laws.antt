@@ -1,35 +1,30 @@
 -- Laws of the drawing store, over the definitions: what a refusal keeps, that counts never fall, that a build closes, and that whatever the calls draw passes
 -- flattening's test for 3. Assumes nothing.
-use Prim.Native.Nat.{ℕ, suc, _+_, _-_, _≤_, _<_}
+use Prim.Native.Nat.{_+_, _≤_, _<_}
 use native.Mathlib.Omega.{arith}
 use native.Mathlib.Nat.{le-refl, le-add-right}
 use mathlib.Core.Path.{_≡_, refl, sym, ap, _∙_, subst}
-use mathlib.Core.Bool.{Bool, true, false, not, _&&_, _||_, cond, false≢true, true≢false}
+use mathlib.Core.Bool.{Bool, true, false, not, _||_, cond, false≢true, true≢false}
 use mathlib.Core.List.{List, [], _∷_}
-use lib.Dec.{leb, eqb}
-use lib.ListN.{length, getD, take, set, length-set}
-use lib.Seq.{take-suc-set, getD-set-same, getD-set-other}
-use lib.Ieee.{Float, nan, inf, fin, eq, isNan, up, down}
-use borrow.Author.Tests.{not-false, eq-eqb, eqb-true, eqb-false}
+use lib.Dec.{eqb}
+use lib.ListN.{length, length-set}
+use lib.Seq.{take-suc-set, getD-set-same}
+use borrow.Author.Tests.{eqb-true, eqb-false}
 use Rattle.answer.specs.declared.Answer.{Answer}
 use Rattle.answer.specs.declared.Answer.the-variants.{Done, BadCoordinate, BadWeight, Unusable, StoreFull}
 use Rattle.answer.specs.Number.{isDone}
 use Rattle.answer.proofs.Laws.{done-is}
 use Rattle.leaves.specs.Single.{zero32, one32}
 use Rattle.point.specs.declared.Point.{Point}
-use Rattle.point.specs.declared.WeightedPoint.{WeightedPoint}
-use Rattle.point.specs.Point.{pointAt, plain, appliedOf, sameOf}
+use Rattle.point.specs.Point.{pointAt, plain}
 use Rattle.store.specs.declared.StoreState.{StoreState}
 use Rattle.store.specs.declared.Call.{Call}
 use Rattle.store.specs.declared.Call.the-variants.{Move, Line, Quad, Cubic, RatQuad, RatCubic, Build}
-use Rattle.store.specs.Columns.{Columns, columns, stateAt, moveCommand, lastCommandOf, storedPointOf, putPoint, putCommand, evenOf, usableOf}
-use Rattle.store.specs.Closing.{unclosedOf}
-use Rattle.store.specs.Drawing.{Writes, Outcome, outcome, every, coordinateOkOf, weightOkOf, coordinatesOf, weightsOf, appended, closed, moved, writesOf, putPoints, putCommands, written, stateAfter, roomOf, answerOf, drawOf, freshOf}
+use Rattle.store.specs.Columns.{Columns, columns, stateAt, moveCommand, putPoint, putCommand, evenOf, usableOf}
+use Rattle.store.specs.Drawing.{Outcome, outcome, every, coordinateOkOf, weightOkOf, coordinatesOf, weightsOf, appended, closed, moved, writesOf, written, stateAfter, roomOf, answerOf, drawOf, freshOf}
 use Rattle.store.specs.Replay.{replayOf}
 use Rattle.store.specs.Drawable.{storedOkOf, knownOf, totalUsesOf, drawableOf}
-use Rattle.store.specs.Plan.{Fitting}
 use Rattle.store.proofs.Tests.{and-left, and-right, or-false-left, or-false-right}
-use Rattle.store.proofs.Usable.{Counted, usable-counts}
 use Rattle.store.proofs.Deciding.{room-fits}
 use Rattle.store.proofs.Ranges.{one-ok, zero-stored}
 use Rattle.store.proofs.Sound.{Sound, sound, sound-drawable}
@@ -51,9 +46,9 @@ module _ (call : Call) (st : StoreState) (c : Columns) where
   pub draw-answer : drawOf call st c .answer ≡ answerOf call st c
   draw-answer = go (isDone (answerOf call st c)) refl
     where
-    go : (b : Bool) → isDone (answerOf call st c) ≡ b → drawOf call st c .answer ≡ answerOf call st c
-    go true e = ap (λ (o : Outcome). o .answer) (cases true e) ∙ sym (done-is (answerOf call st c) e)
-    go false e = ap (λ (o : Outcome). o .answer) (cases false e)
+      go : (b : Bool) → isDone (answerOf call st c) ≡ b → drawOf call st c .answer ≡ answerOf call st c
+      go true e = ap (λ (o : Outcome). o .answer) (cases true e) ∙ sym (done-is (answerOf call st c) e)
+      go false e = ap (λ (o : Outcome). o .answer) (cases false e)
 
   pub refused : isDone (drawOf call st c .answer) ≡ false → drawOf call st c ≡ refusedOutcome
   refused e = cases false (ap isDone (sym draw-answer) ∙ e)
@@ -91,14 +86,16 @@ pub fresh-refused-keeps : (c : Columns) → isDone (freshOf c .answer) ≡ false
 unfolding freshOf
 fresh-refused-keeps c e = go (evenOf c) (eqb (length (c .x)) 0 || eqb (length (c .commands)) 0) e
   where
-  done : Outcome
-  done = outcome Done (stateAt 1 1 0) (putCommand (putPoint c 0 (plain (pointAt zero32 zero32))) 0 moveCommand)
-  by : Bool → Bool → Outcome
-  by v n = cond (not v) (outcome Unusable (stateAt 0 0 0) c) (cond n (outcome StoreFull (stateAt 0 0 0) c) done)
-  go : (v n : Bool) → isDone (by v n .answer) ≡ false → (by v n .state ≡ stateAt 0 0 0) × (by v n .columns ≡ c)
-  go false n e = (refl, refl)
-  go true true e = (refl, refl)
-  go true false e = absurd (true≢false e)
+    done : Outcome
+    done = outcome Done (stateAt 1 1 0) (putCommand (putPoint c 0 (plain (pointAt zero32 zero32))) 0 moveCommand)
+
+    by : Bool → Bool → Outcome
+    by v n = cond (not v) (outcome Unusable (stateAt 0 0 0) c) (cond n (outcome StoreFull (stateAt 0 0 0) c) done)
+
+    go : (v n : Bool) → isDone (by v n .answer) ≡ false → (by v n .state ≡ stateAt 0 0 0) × (by v n .columns ≡ c)
+    go false n e = (refl, refl)
+    go true true e = (refl, refl)
+    go true false e = absurd (true≢false e)
 
 -- ---- by every call but fresh the counts never fall
 moved-count : (st : StoreState) (c : Columns) (p : Point) (again unclosed : Bool)
@@ -133,21 +130,21 @@ counted-after call st c = (writes-count call st c, le-add-right (st .commands) (
 pub counts-kept : (call : Call) (st : StoreState) (c : Columns) → NoFewer st (drawOf call st c .state)
 counts-kept call st c = go (isDone (drawOf call st c .answer)) refl
   where
-  go : (b : Bool) → isDone (drawOf call st c .answer) ≡ b → NoFewer st (drawOf call st c .state)
-  go true e = subst (λ (o : Outcome). NoFewer st (o .state)) (sym (accepted call st c e .outcome)) (counted-after call st c)
-  go false e = subst (λ (o : Outcome). NoFewer st (o .state)) (sym (refused call st c e)) (le-refl (st .points), le-refl (st .commands))
+    go : (b : Bool) → isDone (drawOf call st c .answer) ≡ b → NoFewer st (drawOf call st c .state)
+    go true e = subst (λ (o : Outcome). NoFewer st (o .state)) (sym (accepted call st c e .outcome)) (counted-after call st c)
+    go false e = subst (λ (o : Outcome). NoFewer st (o .state)) (sym (refused call st c e)) (le-refl (st .points), le-refl (st .commands))
 
 -- ---- what the calls draw passes flattening's test for 3
 drawn-sound : (call : Call) (st : StoreState) (c : Columns) → Sound st c → Sound (drawOf call st c .state) (drawOf call st c .columns)
 drawn-sound call st c g = go (isDone (drawOf call st c .answer)) refl
   where
-  go : (b : Bool) → isDone (drawOf call st c .answer) ≡ b → Sound (drawOf call st c .state) (drawOf call st c .columns)
-  go true e =
-      let a = accepted call st c e in
-      let w = writesOf call st c in
-      subst (λ (o : Outcome). Sound (o .state) (o .columns)) (sym (a .outcome))
-      (sound-kept st c g w (writes-good st c g call (a .coordinates) (a .weights)) (room-fits st c (g .counted) w (a .room)))
-  go false e = subst (λ (o : Outcome). Sound (o .state) (o .columns)) (sym (refused call st c e)) g
+    go : (b : Bool) → isDone (drawOf call st c .answer) ≡ b → Sound (drawOf call st c .state) (drawOf call st c .columns)
+    go true e =
+        let a = accepted call st c e in
+        let w = writesOf call st c in
+        subst (λ (o : Outcome). Sound (o .state) (o .columns)) (sym (a .outcome))
+        (sound-kept st c g w (writes-good st c g call (a .coordinates) (a .weights)) (room-fits st c (g .counted) w (a .room)))
+    go false e = subst (λ (o : Outcome). Sound (o .state) (o .columns)) (sym (refused call st c e)) g
 
 pub drawn-drawable : (call : Call) (st : StoreState) (c : Columns) → drawableOf st c ≡ true → drawableOf (drawOf call st c .state) (drawOf call st c .columns) ≡ true
 drawn-drawable call st c e = sound-drawable _ _ (drawn-sound call st c (sound st c e))
@@ -167,35 +164,39 @@ fresh-made c v n =
     let py : 0 < length (c .y) = omega (arith, hx) in
     let pw : 0 < length (c .weight) = omega (arith, hx) in
     let pk : 0 < lk = omega (arith, hk) in
-    record
-    { counted =
-        record
-        { y = length-set (c .y) 0 zero32 ∙ ey ∙ sym (length-set (c .x) 0 zero32)
-        ; weight = length-set (c .weight) 0 one32 ∙ ew ∙ sym (length-set (c .x) 0 zero32)
-        ; some = le-refl 1
-        ; points = rw (length-set (c .x) 0 zero32) px
-        ; begun = le-refl 1
-        ; commands = rw (length-set (c .commands) 0 0) pk
-        ; opening = le-refl 1 }
-    ; known = ap knownOf (take-suc-set (c .commands) 0 0 pk)
-    ; first = getD-set-same (c .commands) 0 0 0 pk
-    ; uses = ap totalUsesOf (take-suc-set (c .commands) 0 0 pk)
-    ; weights = ap (every weightOkOf) (take-suc-set (c .weight) 0 one32 pw) ∙ rw one-ok
-    ; xs = ap (every storedOkOf) (take-suc-set (c .x) 0 zero32 px) ∙ rw zero-stored
-    ; ys = ap (every storedOkOf) (take-suc-set (c .y) 0 zero32 py) ∙ rw zero-stored }
+    record {
+      counted =
+          record {
+            y = length-set (c .y) 0 zero32 ∙ ey ∙ sym (length-set (c .x) 0 zero32);
+            weight = length-set (c .weight) 0 one32 ∙ ew ∙ sym (length-set (c .x) 0 zero32);
+            some = le-refl 1;
+            points = rw (length-set (c .x) 0 zero32) px;
+            begun = le-refl 1;
+            commands = rw (length-set (c .commands) 0 0) pk;
+            opening = le-refl 1;
+          };
+      known = ap knownOf (take-suc-set (c .commands) 0 0 pk);
+      first = getD-set-same (c .commands) 0 0 0 pk;
+      uses = ap totalUsesOf (take-suc-set (c .commands) 0 0 pk);
+      weights = ap (every weightOkOf) (take-suc-set (c .weight) 0 one32 pw) ∙ rw one-ok;
+      xs = ap (every storedOkOf) (take-suc-set (c .x) 0 zero32 px) ∙ rw zero-stored;
+      ys = ap (every storedOkOf) (take-suc-set (c .y) 0 zero32 py) ∙ rw zero-stored;
+    }
 
 fresh-sound : (c : Columns) → isDone (freshOf c .answer) ≡ true → Sound (freshOf c .state) (freshOf c .columns)
 unfolding freshOf
 fresh-sound c e = go (evenOf c) (eqb (length (c .x)) 0 || eqb (length (c .commands)) 0) refl refl e
   where
-  done : Outcome
-  done = outcome Done (stateAt 1 1 0) (putCommand (putPoint c 0 (plain (pointAt zero32 zero32))) 0 moveCommand)
-  by : Bool → Bool → Outcome
-  by v n = cond (not v) (outcome Unusable (stateAt 0 0 0) c) (cond n (outcome StoreFull (stateAt 0 0 0) c) done)
-  go : (v n : Bool) → evenOf c ≡ v → (eqb (length (c .x)) 0 || eqb (length (c .commands)) 0) ≡ n → isDone (by v n .answer) ≡ true → Sound (by v n .state) (by v n .columns)
-  go false n p q e = absurd (false≢true e)
-  go true true p q e = absurd (false≢true e)
-  go true false p q e = fresh-made c p q
+    done : Outcome
+    done = outcome Done (stateAt 1 1 0) (putCommand (putPoint c 0 (plain (pointAt zero32 zero32))) 0 moveCommand)
+
+    by : Bool → Bool → Outcome
+    by v n = cond (not v) (outcome Unusable (stateAt 0 0 0) c) (cond n (outcome StoreFull (stateAt 0 0 0) c) done)
+
+    go : (v n : Bool) → evenOf c ≡ v → (eqb (length (c .x)) 0 || eqb (length (c .commands)) 0) ≡ n → isDone (by v n .answer) ≡ true → Sound (by v n .state) (by v n .columns)
+    go false n p q e = absurd (false≢true e)
+    go true true p q e = absurd (false≢true e)
+    go true false p q e = fresh-made c p q
 
 replay-sound : (calls : List Call) (o : Outcome) → Sound (o .state) (o .columns) → Sound (replayOf calls o .state) (replayOf calls o .columns)
 unfolding replayOf

@@ -1,30 +1,19 @@
 -- A store that passes flattening's test for 3, in facts. Assumes nothing.
-use Prim.Native.Nat.{ℕ, suc, _+_, _-_, _≤_, _<_}
+use Prim.Native.Nat.{ℕ, _-_, _≤_, _<_}
 use native.Mathlib.Omega.{arith}
-use native.Mathlib.Nat.{le-refl, le-trans}
-use mathlib.Core.Path.{_≡_, refl, sym, ap, _∙_, subst}
-use mathlib.Core.Bool.{Bool, true, false, _&&_}
-use mathlib.Core.List.{List, [], _∷_, _++_, map}
-use lib.ListN.{length, getD, take, length-map, List·getD-append}
-use lib.Seq.{sets, length-sets, length-take-le, getD-take}
-use lib.Dec.{leb, ltb, eqb}
-use lib.Ieee.{Float, nan}
-use borrow.Author.Tests.{leb-true, le-leb, lt-ltb, eqb-true, eq-eqb}
-use Rattle.point.specs.declared.WeightedPoint.{WeightedPoint}
-use Rattle.point.specs.declared.Point.{Point}
-use Rattle.point.specs.Point.{plain, rationalOf}
+use mathlib.Core.Path.{_≡_, subst}
+use mathlib.Core.Bool.{true, _&&_}
+use lib.ListN.{length, getD, take}
+use lib.Seq.{length-take-le, getD-take}
+use lib.Dec.{eqb}
+use borrow.Author.Tests.{le-leb, lt-ltb, eqb-true, eq-eqb}
 use Rattle.store.specs.declared.StoreState.{StoreState}
-use Rattle.store.specs.declared.Call.{Call}
-use Rattle.store.specs.declared.Call.the-variants.{Move, Line, Quad, Cubic, RatQuad, RatCubic, Build}
-use Rattle.store.specs.Columns.{Columns, columns, evenOf, usableOf, lastCommandOf, moveCommand, storedPointOf}
-use Rattle.store.specs.Closing.{unclosedOf}
-use Rattle.store.specs.Drawing.{Writes, every, coordinateOkOf, weightOkOf, coordinatesOf, weightsOf, appended, closed, moved, writesOf, written, stateAfter, roomOf}
+use Rattle.store.specs.Columns.{Columns, evenOf, usableOf, lastCommandOf, moveCommand}
+use Rattle.store.specs.Drawing.{every, weightOkOf}
 use Rattle.store.specs.Drawable.{storedOkOf, knownOf, totalUsesOf, drawableOf}
-use Rattle.store.specs.Plan.{Fitting}
-use Rattle.store.proofs.Tests.{and-left, and-right, and-both, every-append}
+use Rattle.store.proofs.Tests.{and-left, and-right}
 use Rattle.store.proofs.Usable.{Counted, usable-counts}
-use Rattle.store.proofs.Ranges.{coordinate-stored, product-stored, one-ok}
-use Rattle.store.proofs.Written.{xOf, yOf, weightOf, all-written, take-sets, take-mapped, every-take, every-at, known-at, known-append, uses-append}
+use Rattle.store.proofs.Written.{known-at}
 
 pub record Sound (st : StoreState) (c : Columns) : Type 0 where
   pub counted : Counted st c
@@ -50,14 +39,15 @@ module _ (st : StoreState) (c : Columns) where
       let e₃ = and-left t₃ _ e₄ in
       let e₂ = and-left t₂ _ e₃ in
       let e₁ = and-left t₁ _ e₂ in
-      record
-      { counted = usable-counts st c (and-left t₀ _ e₁)
-      ; known = and-right t₀ _ e₁
-      ; first = eqb-true (getD (c .commands) 0 0) moveCommand (and-right t₁ _ e₂)
-      ; uses = eqb-true (totalUsesOf (take (st .commands) (c .commands))) (st .points) (and-right t₂ _ e₃)
-      ; weights = and-right t₃ _ e₄
-      ; xs = and-right t₄ _ e₅
-      ; ys = and-right t₅ _ e }
+      record {
+        counted = usable-counts st c (and-left t₀ _ e₁);
+        known = and-right t₀ _ e₁;
+        first = eqb-true (getD (c .commands) 0 0) moveCommand (and-right t₁ _ e₂);
+        uses = eqb-true (totalUsesOf (take (st .commands) (c .commands))) (st .points) (and-right t₂ _ e₃);
+        weights = and-right t₃ _ e₄;
+        xs = and-right t₄ _ e₅;
+        ys = and-right t₅ _ e;
+      }
 
   module _ (g : Sound st c) where
     last-known : lastCommandOf st c ≤ 3
@@ -78,23 +68,25 @@ module _ (st : StoreState) (c : Columns) where
     unfolding usableOf
     usable =
         let f = g .counted in
-        rw
-        ( is-even
-        , le-leb 1 (st .points) (f .some)
-        , le-leb (st .points) (length (c .x)) (f .points)
-        , le-leb 1 (st .commands) (f .begun)
-        , le-leb (st .commands) (length (c .commands)) (f .commands)
-        , lt-ltb (st .opening) (st .points) (f .opening)
-        , le-leb (lastCommandOf st c) 3 last-known)
+        rw (
+          is-even,
+          le-leb 1 (st .points) (f .some),
+          le-leb (st .points) (length (c .x)) (f .points),
+          le-leb 1 (st .commands) (f .begun),
+          le-leb (st .commands) (length (c .commands)) (f .commands),
+          lt-ltb (st .opening) (st .points) (f .opening),
+          le-leb (lastCommandOf st c) 3 last-known,
+        )
 
     pub sound-drawable : drawableOf st c ≡ true
     unfolding drawableOf
     sound-drawable =
-        rw
-        ( usable
-        , g .known
-        , eq-eqb (getD (c .commands) 0 0) moveCommand (g .first)
-        , eq-eqb (totalUsesOf (take (st .commands) (c .commands))) (st .points) (g .uses)
-        , g .weights
-        , g .xs
-        , g .ys)
+        rw (
+          usable,
+          g .known,
+          eq-eqb (getD (c .commands) 0 0) moveCommand (g .first),
+          eq-eqb (totalUsesOf (take (st .commands) (c .commands))) (st .points) (g .uses),
+          g .weights,
+          g .xs,
+          g .ys,
+        )

@@ -1,9 +1,8 @@
 -- What the functions that write the columns make of them. Assumes nothing.
 use Prim.Native.Nat.{ℕ, _+_, _≤_, _<_}
 use native.Mathlib.Omega.{arith}
-use native.Mathlib.Nat.{le-trans}
-use mathlib.Core.Path.{_≡_, refl, sym, ap, _∙_}
-use mathlib.Core.Bool.{Bool, true, false, not, _&&_, _||_, true≢false}
+use mathlib.Core.Path.{_≡_, sym, ap, _∙_}
+use mathlib.Core.Bool.{Bool, true, false, not, _||_}
 use mathlib.Core.List.{List, [], _∷_}
 use lib.Dec.{eqb}
 use lib.ListN.{length, set}
@@ -22,7 +21,7 @@ use Rattle.store.specs.declared.plan.Decision.{Decision}
 use Rattle.store.specs.declared.plan.Decision.the-variants.{Store}
 use Rattle.store.specs.Columns.{Columns, columns, stateAt, putPoint, putCommand, evenOf, moveCommand}
 use Rattle.store.specs.Drawing.{outcome, putPoints, putCommands, written, stateAfter, drawOf, freshOf}
-use Rattle.store.specs.Plan.{pointsIn, commandsIn, writesBy, Room, Fitting, Fits, Decided, carriedOut}
+use Rattle.store.specs.Plan.{pointsIn, commandsIn, writesBy, Room, Fitting, Decided, carriedOut}
 use Rattle.store.proofs.Tests.{and-left, and-right, or-false-left, or-false-right}
 
 -- ---- points and commands

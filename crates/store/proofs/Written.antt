@@ -1,12 +1,12 @@
 -- What the columns hold after the writes of a call, as lists: what was before, then what was written. Assumes nothing.
-use Prim.Native.Nat.{ℕ, zero, suc, _+_, _-_, _≤_, _<_}
+use Prim.Native.Nat.{ℕ, zero, suc, _+_, _≤_, _<_}
 use native.Mathlib.Omega.{arith}
 use native.Mathlib.Numerals.{add-one}
 use mathlib.Core.Path.{_≡_, refl, sym, ap, _∙_}
 use mathlib.Core.Bool.{Bool, true, _&&_}
-use mathlib.Core.List.{List, [], _∷_, _++_, map, append-assoc}
-use lib.ListN.{length, getD, take, drop, take-append-drop, length-append, length-map, List·getD-append}
-use lib.Seq.{sets, sets-eq, length-sets, length-take-le, take-at, take-take, getD-take}
+use mathlib.Core.List.{List, [], _∷_, _++_, map}
+use lib.ListN.{length, getD, take, drop, take-append-drop, length-append, length-map}
+use lib.Seq.{sets, sets-eq, length-take-le, take-at, take-take}
 use lib.Dec.{leb}
 use lib.Ieee.{Float}
 use borrow.Author.Tests.{leb-true}
@@ -15,7 +15,7 @@ use Rattle.store.specs.declared.StoreState.{StoreState}
 use Rattle.store.specs.Columns.{Columns, columns, usesOf, putPoint, putCommand}
 use Rattle.store.specs.Drawing.{Writes, every, putPoints, putCommands, written}
 use Rattle.store.specs.Drawable.{knownOf, totalUsesOf}
-use Rattle.store.proofs.Tests.{and-left, and-right, and-both, and-assoc, every-append}
+use Rattle.store.proofs.Tests.{and-left, and-right, and-both, every-append}
 
 -- ---- the columns of a list of points
 abbrev pub xOf : WeightedPoint → Float
@@ -40,8 +40,8 @@ commands-written i (k ∷ ks) c = commands-written (i + 1) ks (putCommand c i k)
 
 pub all-written : (w : Writes) (st : StoreState) (c : Columns)
     → written w st c
-      ≡ columns (sets (c .x) (w .at) (map xOf (w .points))) (sets (c .y) (w .at) (map yOf (w .points))) (sets (c .weight) (w .at) (map weightOf (w .points)))
-        (sets (c .commands) (st .commands) (w .commands))
+    ≡ columns (sets (c .x) (w .at) (map xOf (w .points))) (sets (c .y) (w .at) (map yOf (w .points))) (sets (c .weight) (w .at) (map weightOf (w .points)))
+    (sets (c .commands) (st .commands) (w .commands))
 unfolding written
 all-written w st c =
     ap (putCommands (st .commands) (w .commands)) (points-written (w .at) (w .points) c) ∙ commands-written (st .commands) (w .commands) _
@@ -84,9 +84,9 @@ pub uses-append : (l m : List ℕ) → totalUsesOf (l ++ m) ≡ totalUsesOf l + 
 unfolding totalUsesOf
 uses-append [] m = sym (zero-plus (totalUsesOf m))
   where
-  zero-plus : (n : ℕ) → 0 + n ≡ n
-  zero-plus n = omega arith
+    zero-plus : (n : ℕ) → 0 + n ≡ n
+    zero-plus n = omega arith
 uses-append (k ∷ l) m = regroup (usesOf k) (totalUsesOf l) (totalUsesOf m) (uses-append l m)
   where
-  regroup : (a b d : ℕ) {s : ℕ} → s ≡ b + d → a + s ≡ a + b + d
-  regroup a b d e = omega arith
+    regroup : (a b d : ℕ) {s : ℕ} → s ≡ b + d → a + s ≡ a + b + d
+    regroup a b d e = omega arith
