@@ -2,6 +2,7 @@
 ghost use mathlib.Core.Path.{_≡_};
 ghost use lib.ListN.{getD, set};
 ghost use lib.Ieee.{nan};
+ghost use Rattle.columns.specs.Flags.{flagByteOf, isFlagOf};
 
 pub fn read_f32(column: &[f32], i: usize) -> f32
     ensures { λ r. ⌜ r ≡ getD (now (column .entry)) i nan ⌝ }
@@ -52,4 +53,16 @@ pub fn put_u8(column: &mut [u8], i: usize, v: u8)
     if i < column.len() {
         column[i] = v;
     }
+}
+
+pub fn flag_byte(flag: bool) -> u8
+    ensures { λ r. ⌜ r ≡ flagByteOf flag ⌝ }
+{
+    if flag { 1 } else { 0 }
+}
+
+pub fn is_flag(byte: u8) -> bool
+    ensures { λ r. ⌜ r ≡ isFlagOf byte ⌝ }
+{
+    byte != 0
 }

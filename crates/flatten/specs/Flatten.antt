@@ -12,7 +12,8 @@ use Rattle.primitives.specs.declared.Setting.{Setting}
 use Rattle.store.specs.declared.StoreState.{StoreState}
 use Rattle.store.specs.Columns.{Columns}
 use Rattle.store.specs.Drawable.{drawableOf}
-use Rattle.tables.specs.Tables.{QuadTable, SplineTable, flagByte}
+use Rattle.columns.specs.Flags.{flagByteOf}
+use Rattle.tables.specs.Tables.{QuadTable, SplineTable}
 use Rattle.tables.specs.Run.{World}
 use Rattle.tables.specs.Commands.{tablesOf}
 use Rattle.walk.specs.Walk.{Item, walkOf, wordsOf}
@@ -53,7 +54,7 @@ unfoldable pub writeOutput : QuadTable → SplineTable → List Item → Output 
 writeOutput q s items o =
     let points = pointsOf q s items in
     output (over (wordsOf items) (o .words)) (over (map (λ p. p .point .x) points) (o .x)) (over (map (λ p. p .point .y) points) (o .y))
-    (over (map (λ p. flagByte (p .end)) points) (o .end))
+    (over (map (λ p. flagByteOf (p .end)) points) (o .end))
 
 -- "9 comes last": the walk fits, or the tables are complete and nothing else is written
 unfoldable pub walked : Bool → World → List Item → Output → Flattening

@@ -13,13 +13,13 @@ pub enum Setting {
 // How many quads and splines the tables take.
 pub struct Capacities {
     pub quads: usize,
-    pub splines: usize,
+    pub splines: u32,
 }
 
 // The answer so far, what is stored, whether a contour mark waits, and the last angle.
 pub struct State {
     pub answer: Answer,
-    pub splines: usize,
+    pub splines: u32,
     pub quads: usize,
     pub mark: bool,
     pub last: Angle,
@@ -80,7 +80,7 @@ pub struct SplineRow {
 // The row that goes to spline `at`; `clears` takes the flag of the spline before it.
 pub struct SplineEdit {
     pub clears: bool,
-    pub at: usize,
+    pub at: u32,
     pub row: SplineRow,
     pub next: State,
 }

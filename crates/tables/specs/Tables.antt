@@ -1,10 +1,11 @@
 -- 01, "Primitives" and "Numbered answers": the quad table and the spline table as records of columns, their capacities, and what an edit stores. Assumes nothing.
 use Prim.Native.Nat.{ℕ, _+_, _-_, _*_, _/_, min}
-use mathlib.Core.Bool.{Bool, true, false, not, cond}
+use mathlib.Core.Bool.{Bool, true, false, cond}
 use mathlib.Core.List.{List}
 use lib.Dec.{eqb}
 use lib.Ieee.{Float, nan}
 use lib.ListN.{length, getD, set}
+use Rattle.columns.specs.Flags.{flagByteOf, isFlagOf}
 use Rattle.leaves.specs.Single.{zero32}
 use Rattle.point.specs.Point.{pointAt}
 use Rattle.command.specs.Packing.{indexLimit}
@@ -27,7 +28,7 @@ pub record QuadTable : Type 0 where
   pub partial-curvatures : List Float
   pub partial-splines : List ℕ
 
--- curvature is the spline's sum; contour is 1 for a flag and 0 for none
+-- curvature is the spline's sum; contour has its flags
 pub record SplineTable : Type 0 where
   pub curvature : List Float
   pub p0x : List Float
@@ -54,13 +55,6 @@ quadTable x y weight x0 dx-recip k0 dk curvatures-recip partial-curvatures parti
 abbrev pub splineTable : List Float → List Float → List Float → List Float → List Float → List ℕ → SplineTable
 splineTable curvature p0x p0y p2x p2y contour =
     record { curvature = curvature; p0x = p0x; p0y = p0y; p2x = p2x; p2y = p2y; contour = contour }
-
--- ---- flags: any byte but 0 is a flag, and 1 is what is written
-unfoldable pub flagByte : Bool → ℕ
-flagByte flag = cond flag 1 0
-
-unfoldable pub isFlag : ℕ → Bool
-isFlag byte = not (eqb byte 0)
 
 -- ---- "A table's capacity is its shortest column; a column with three numbers for each quad counts whole threes."
 unfoldable pub quadCapacityOf : QuadTable → ℕ
@@ -109,7 +103,7 @@ putQuad q i row =
 
 -- the flag of the spline before k goes, where it is cleared
 unfoldable pub clearFlag : Bool → List ℕ → ℕ → List ℕ
-clearFlag true contour k = set contour (k - 1) (flagByte false)
+clearFlag true contour k = set contour (k - 1) (flagByteOf false)
 clearFlag false contour k = contour
 
 unfoldable pub putSpline : SplineTable → SplineEdit → SplineTable
@@ -122,7 +116,7 @@ putSpline s edit =
       p0y = set (s .p0y) k (row .p0 .y);
       p2x = set (s .p2x) k (row .p2 .x);
       p2y = set (s .p2y) k (row .p2 .y);
-      contour = set (clearFlag (edit .clears) (s .contour) k) k (flagByte (row .contour));
+      contour = set (clearFlag (edit .clears) (s .contour) k) k (flagByteOf (row .contour));
     }
 
 unfoldable pub splineAt : SplineTable → ℕ → SplineRow
@@ -131,7 +125,7 @@ splineAt s k =
       curvature = getD (s .curvature) k nan;
       p0 = pointAt (getD (s .p0x) k nan) (getD (s .p0y) k nan);
       p2 = pointAt (getD (s .p2x) k nan) (getD (s .p2y) k nan);
-      contour = isFlag (getD (s .contour) k 0);
+      contour = isFlagOf (getD (s .contour) k 0);
     }
 
 -- what stands for the last spline where there is none yet; a mark waits there, so it decides nothing
