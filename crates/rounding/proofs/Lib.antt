@@ -2,6 +2,7 @@ pub mod Halves
 pub mod Rounding
 pub mod Packing
 pub mod Parts
+pub mod Values
 pub mod Sums
 pub mod Lifts
 pub mod Roots
