@@ -1,0 +1,1 @@
+// The quad table and the spline table on lent columns, and the run over a drawing's primitives.

@@ -1,0 +1,1 @@
+// The walk over the tables, in words: populate_buffers of path.rs.
