@@ -1,5 +1,8 @@
 // Packed commands of the walk: PointCommand of path.rs.
 
+ghost use mathlib.Core.Path.{_≡_};
+ghost use Rattle.command.specs.Packing.{packOf, unpackOf};
+
 pub enum PointCommand {
     // A new line begins at the first point of this spline.
     Start(usize),
@@ -16,4 +19,26 @@ impl PointCommand {
     pub const INDEX_MASK: u32 = 0x3f_ffff;
 
     pub const FLAG_BIT: u32 = 0x40_0000;
+
+    // The digits of an infinity, which no step has, mark a Start, and with the sign an End.
+    const NO_STEP: u32 = 0x7f80_0000;
+
+    const SIGN_BIT: u32 = 0x8000_0000;
+
+    pub fn unpack(word: u32) -> Self
+        ensures { λ r. ⌜ r ≡ unpackOf word ⌝ }
+    {
+        let field = word & Self::NO_STEP;
+        if field != Self::NO_STEP {
+            let step = f32::from_bits(word);
+            return Self::Incr(step);
+        }
+        let index = (word & Self::INDEX_MASK) as usize;
+        let sign = word & Self::SIGN_BIT;
+        if sign == 0 {
+            return Self::Start(index);
+        }
+        let flag = word & Self::FLAG_BIT;
+        Self::End(index, flag != 0)
+    }
 }

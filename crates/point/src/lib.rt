@@ -1,14 +1,75 @@
 // Points, angles and curvature: point.rs, and the top of path.rs.
 
+ghost use mathlib.Core.Path.{_≡_};
+ghost use Rattle.point.specs.Point.{pointAt, plain, rationalOf, appliedOf, minusOf, sameOf};
+
 pub struct Point {
     pub x: f32,
     pub y: f32,
+}
+
+impl Point {
+    pub fn new(x: f32, y: f32) -> Self
+        ensures { λ r. ⌜ r ≡ pointAt x y ⌝ }
+    {
+        Self { x, y }
+    }
+
+    // Rust's `self - other`.
+    pub fn minus(self, other: Point) -> Self
+        ensures { λ r. ⌜ r ≡ minusOf self other ⌝ }
+    {
+        Self {
+            x: self.x - other.x,
+            y: self.y - other.y,
+        }
+    }
+
+    // Rust's `self == other`: equal as floats.
+    pub fn same(self, other: Point) -> bool
+        ensures { λ r. ⌜ r ≡ sameOf self other ⌝ }
+    {
+        (self.x == other.x) & (self.y == other.y)
+    }
 }
 
 // A rational control point holds its coordinates times its weight.
 pub struct WeightedPoint {
     pub point: Point,
     pub weight: f32,
+}
+
+impl WeightedPoint {
+    pub fn plain(p: Point) -> Self
+        ensures { λ r. ⌜ r ≡ plain p ⌝ }
+    {
+        Self {
+            point: p,
+            weight: 1.0,
+        }
+    }
+
+    pub fn rational(p: Point, w: f32) -> Self
+        ensures { λ r. ⌜ r ≡ rationalOf p w ⌝ }
+    {
+        Self {
+            point: Point {
+                x: p.x * w,
+                y: p.y * w,
+            },
+            weight: w,
+        }
+    }
+
+    pub fn applied(self) -> Point
+        ensures { λ r. ⌜ r ≡ appliedOf self ⌝ }
+    {
+        let w_recip = 1.0 / self.weight;
+        Point {
+            x: self.point.x * w_recip,
+            y: self.point.y * w_recip,
+        }
+    }
 }
 
 // The Rust's Option<f32>: a direction too short has no angle.
