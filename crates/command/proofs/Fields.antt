@@ -2,17 +2,17 @@
 use Prim.Native.Nat.{ℕ, zero, suc, _+_, _*_, _/_, _%_, _^_, _<_, _≤_}
 use mathlib.Core.Path.{_≡_, refl, sym, _∙_, ap}
 use mathlib.Core.Bool.{Bool, true, false, not, cond}
-use native.Mathlib.Nat.{mod-eq-of-lt}
+use native.Mathlib.Nat.{mod-eq-of-lt, add-zero}
 use native.Mathlib.Omega.{arith}
-use lib.Dec.{T, eqb}
-use lib.Bits.{bitAnd, and-high, and-mask}
+use lib.Dec.{eqb, lit<}
+use lib.Bits.{bitAnd, bitOr, and-high, and-mask, or-shifted-r, or-block, or-zero-r}
 use lib.Ieee.{binary32, nanBits}
 use lib.Ieee.Bits.{nanBits-above}
 use borrow.Author.Tests.{eq-eqb, ne-eqb, le-ltb}
 use Rattle.leaves.specs.Bits.{floatOf}
 use Rattle.command.specs.declared.PointCommand.{PointCommand}
 use Rattle.command.specs.declared.PointCommand.the-variants.{Start, Incr, End}
-use Rattle.command.specs.Packing.{indexLimit, unpackOf}
+use Rattle.command.specs.Packing.{indexLimit, packOf, unpackOf}
 
 -- the eight digits below the sign are all ones: the word is no step
 abbrev pub Marked : ℕ → Type 0
@@ -74,3 +74,26 @@ bit (suc (suc b)) l = absurd (omega arith)
 
 pub flag : (w : ℕ) → not (eqb (bitAnd w 0x40_0000) 0) ≡ eqb (w / 0x40_0000 % 2) 1
 flag w = rw (and-high w 1 22) (bit (w / 0x40_0000 % 2) (omega arith))
+
+-- ---- the words that the code puts together
+
+index-lt : (i : ℕ) → i % indexLimit < 2 ^ 22
+index-lt i = omega arith
+
+pub start : (i : ℕ) → bitOr (i % indexLimit) 0x7f80_0000 ≡ packOf (Start i)
+unfolding packOf
+start i = or-shifted-r 0x1fe 22 (i % indexLimit) (index-lt i)
+
+end : (i : ℕ) → bitOr (i % indexLimit) 0xff80_0000 ≡ 0xff80_0000 + i % indexLimit
+end i = or-shifted-r 0x3fe 22 (i % indexLimit) (index-lt i)
+
+pub end-plain : (i : ℕ) → bitOr (i % indexLimit) 0xff80_0000 ≡ packOf (End i false)
+unfolding packOf
+end-plain i = end i ∙ sym (add-zero (0xff80_0000 + i % indexLimit))
+
+-- the flag's bit is the lowest of the ten above the index, and an End's word does not have it
+pub end-flagged : (i : ℕ) → bitOr (bitOr (i % indexLimit) 0xff80_0000) 0x40_0000 ≡ packOf (End i true)
+unfolding packOf
+end-flagged i =
+    let r = i % indexLimit in
+    ap (λ (x : ℕ). bitOr x 0x40_0000) (end i) ∙ or-block 22 0x3fe 1 r 0 (index-lt i) (lit< tt) ∙ ap (λ (x : ℕ). 0x3ff * 2 ^ 22 + x) (or-zero-r r) ∙ omega arith

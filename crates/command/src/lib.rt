@@ -20,16 +20,36 @@ impl PointCommand {
 
     pub const FLAG_BIT: u32 = 0x40_0000;
 
-    // The digits of an infinity, which no step has, mark a Start, and with the sign an End.
-    const NO_STEP: u32 = 0x7f80_0000;
+    // What marks a Start and an End: the bits of the infinities, which no step has.
+    const START_WORD: u32 = 0x7f80_0000;
+
+    const END_WORD: u32 = 0xff80_0000;
 
     const SIGN_BIT: u32 = 0x8000_0000;
+
+    // An index is masked, as in the Rust; no accepted drawing has one at the limit.
+    pub fn pack(self) -> u32
+        ensures { λ r. ⌜ r ≡ packOf self ⌝ }
+    {
+        match self {
+            PointCommand::Start(i) => {
+                let index = (i % Self::INDEX_LIMIT) as u32;
+                index | Self::START_WORD
+            }
+            PointCommand::Incr(step) => leaves::bits(step),
+            PointCommand::End(i, flag) => {
+                let index = (i % Self::INDEX_LIMIT) as u32;
+                let word = index | Self::END_WORD;
+                if flag { word | Self::FLAG_BIT } else { word }
+            }
+        }
+    }
 
     pub fn unpack(word: u32) -> Self
         ensures { λ r. ⌜ r ≡ unpackOf word ⌝ }
     {
-        let field = word & Self::NO_STEP;
-        if field != Self::NO_STEP {
+        let mark = word & Self::START_WORD;
+        if mark != Self::START_WORD {
             let step = f32::from_bits(word);
             return Self::Incr(step);
         }

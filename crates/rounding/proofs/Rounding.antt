@@ -13,7 +13,8 @@ use lib.Ieee.Digits.{size-lt, size-le, size-reaches}
 use lib.Ieee.Fits.{round-is, two, two-le-pos, kept-lt}
 use lib.Ieee.Nearest.{closest}
 use lib.Ieee.Order.{drop, kept}
-use Rattle.rounding.specs.Halves.{halve, closest-halves, halve-sticky}
+use Rattle.rounding.specs.Halves.{halve}
+use Rattle.rounding.proofs.Halves.{closest-halves, halve-sticky}
 
 -- ---- how many digits are dropped
 size-gt : (n j : ℕ) → 2 ^ j ≤ n → j < size n

@@ -12,7 +12,8 @@ use lib.Pow.{pow-add, pow-pos}
 use lib.Ieee.{Float, Format, prec, low, round, sum}
 use lib.Ieee.Scale.{round-same}
 use lib.Ieee.Bits.{is-true, is-false}
-use Rattle.rounding.specs.Rounding.{sticky, coarser}
+use Rattle.rounding.specs.Alike.{Between, Alike}
+use Rattle.rounding.proofs.Rounding.{sticky, coarser}
 
 le-or-lt : (a b : ℕ) → (a ≤ b) ⊎ (b < a)
 le-or-lt a b = go (leb a b) (leb→le a b) (nleb→lt a b)
@@ -45,13 +46,7 @@ sum-same f s a t b c a' b' c' C C' e d =
     ∙ ap₂ (λ (x y : Float). cond (ltb a' b') x y) (round-same f t (b - a) c (b' - a') c' C C' (scaled-sub a b c a' b' c' e d))
     (ap (λ (x : Bool). round f (s && x) (a - b) c) g ∙ round-same f (s && ltb b' a') (a - b) c (a' - b') c' C C' (scaled-sub b a c b' a' c' d e)))
 
--- ---- N and M are alike at 2 ^ t: equal, or strictly between the same two multiples of 2 ^ t
-abbrev pub Between : ℕ → ℕ → ℕ → Type 0
-Between u j N = (j * u < N) × (N < j * u + u)
-
-abbrev pub Alike : ℕ → ℕ → ℕ → Type 0
-Alike t N M = (N ≡ M) ⊎ ((j : ℕ) × Between (2 ^ t) j N × Between (2 ^ t) j M)
-
+-- ---- N and M that are alike at 2 ^ t
 between-split : (u j N : ℕ) → Between u j N → (r : ℕ) × (N ≡ j * u + r) × (0 < r) × (r < u)
 between-split u j N h = (N - j * u, joined (j * u) N (h .0), more (j * u) N (h .0), less (j * u) N u (h .0) (h .1))
   where

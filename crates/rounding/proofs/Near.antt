@@ -8,12 +8,10 @@ use native.Mathlib.Nat.{mul-assoc, mul-comm, mul-mul-mul-comm, pow-suc, add-mul,
 use native.Mathlib.Omega.{arith}
 use lib.Dec.{T, leb, leb→le, nleb→lt}
 use lib.Ieee.{Float, binary32, units}
-use Rattle.rounding.specs.Halves.{halve, halve-even, halve-over}
-use Rattle.rounding.specs.Roots.{IsRoot, rooted, rooted-at, square-lt}
-
-pub record IsNear (n r : ℕ) : Type 0 where
-  pub below : r * r < n + r
-  pub above : n ≤ r * r + r
+use Rattle.rounding.specs.Halves.{halve}
+use Rattle.rounding.specs.Roots.{rooted, IsNear}
+use Rattle.rounding.proofs.Halves.{halve-even, halve-over}
+use Rattle.rounding.proofs.Roots.{IsRoot, rooted-at, square-lt}
 
 pub square-suc : (x : ℕ) → (x + 1) * (x + 1) ≡ x * x + x + x + 1
 square-suc x = last x ((x + 1) * (x + 1)) (x * (x + 1)) (x * x) (add-mul x 1 (x + 1)) (mul-add x x 1)

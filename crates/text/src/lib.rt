@@ -1,0 +1,1 @@
+// Fixed byte strings, hex digits and decimal digits, read and written on slices.
