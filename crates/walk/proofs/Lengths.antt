@@ -1,12 +1,14 @@
 -- How many items the walk has: the sum over its splines, that it fits, and the loop that adds it up. Assumes nothing.
 use Prim.Native.Nat.{ℕ, zero, suc, _+_, _-_, _*_, _/_, _≤_, _<_}
 use native.Mathlib.Omega.{arith}
-use native.Mathlib.Nat.{le-of-lt, le-refl, div-lt-iff-lt-mul}
+use native.Mathlib.Nat.{le-of-lt, le-refl, le-trans, div-lt-iff-lt-mul}
 use mathlib.Core.Path.{_≡_, refl, sym, _∙_, ap, ap₂, subst}
 use mathlib.Core.Bool.{Bool, true, false, cond}
 use mathlib.Core.List.{List, [], _∷_, _++_}
 use lib.ListN.{length, length-append}
-use lib.Ieee.{Float, le}
+use lib.Dec.{T, le→leb}
+use lib.IntN.{pos}
+use lib.Ieee.{Float, binary32, le, inFloat}
 use lib.Ieee.Positive.{num, den, den-pos}
 use Rattle.leaves.specs.Single.{zero32}
 use Rattle.leaves.specs.Whole.{limit32, wholeUpOf}
@@ -29,6 +31,11 @@ whole-up-bound x = go (le zero32 x) (le x limit32) refl refl
     go true false h k = subst (λ (n : ℕ). n ≤ 65537) (whole-up-is x true false h k) (le-refl 65537)
     go false true h k = subst (λ (n : ℕ). n ≤ 65537) (whole-up-is x false true h k) (le-refl 65537)
     go false false h k = subst (λ (n : ℕ). n ≤ 65537) (whole-up-is x false false h k) (le-refl 65537)
+
+-- a number so small is an f32
+pub small-exact : (n : ℕ) → n ≤ 65537 → T (inFloat binary32 (pos n))
+unfolding inFloat
+small-exact n h = le→leb n 16777216 (le-trans h (omega arith))
 
 pub steps-bound : (x : Float) → stepsOf x ≤ 65536
 steps-bound x = let h = whole-up-bound x in omega arith

@@ -2,6 +2,7 @@
 use Prim.Native.Nat.{ℕ, zero, suc, _+_, _-_}
 use mathlib.Core.Bool.{cond}
 use lib.Ieee.{Float}
+use Rattle.leaves.specs.Single.{_⊘_, whole32}
 use Rattle.leaves.specs.Whole.{wholeUpOf}
 use Rattle.primitives.specs.declared.SplineRow.{SplineRow}
 use Rattle.tables.specs.Tables.{SplineTable, splineAt}
@@ -10,6 +11,10 @@ use Rattle.walk.specs.Walk.{startsAfterOf}
 -- "Then m-1 steps of size c/m; none when m is 0"
 abbrev pub stepsOf : Float → ℕ
 stepsOf sum = wholeUpOf sum - 1
+
+-- "of size c/m"
+abbrev pub sizeOf : Float → Float
+sizeOf sum = sum ⊘ whole32 (wholeUpOf sum)
 
 -- the steps, the End, and a Start where there is one
 unfoldable pub splineLengthOf : ℕ → SplineRow → SplineRow → ℕ

@@ -4,7 +4,7 @@ ghost use mathlib.Core.Path.{_≡_};
 ghost use Prim.Native.Nat.{_≤_};
 ghost use Rattle.tables.specs.Tables.{splineTable};
 ghost use Rattle.walk.specs.Walk.{startsAfterOf, cursorAtOf};
-ghost use Rattle.walk.specs.Length.{stepsOf, splineLengthOf, walkLengthOf};
+ghost use Rattle.walk.specs.Length.{stepsOf, sizeOf, splineLengthOf, walkLengthOf};
 use primitives::SplineRow;
 use tables::spline_at;
 
@@ -27,6 +27,14 @@ pub fn steps(sum: f32) -> u32
 {
     let m = leaves::whole_up(sum);
     if m == 0 { 0 } else { m - 1 }
+}
+
+// The size of those steps; a NaN where there are none.
+pub fn size(sum: f32) -> f32
+    ensures { λ r. ⌜ r ≡ sizeOf sum ⌝ }
+{
+    let m = leaves::whole_up(sum);
+    sum / m as f32
 }
 
 // The cursor for step p: on by one, and no further, where p exceeds the sum of its quad.

@@ -1,16 +1,13 @@
 -- `walk::cursor_at` meets its contract: past the end the sum is a NaN, which no step exceeds. Assumes nothing.
-use Prim.Native.Nat.{ℕ, _^_, _+_, _≤_}
-use native.Mathlib.Nat.{le-trans}
-use native.Mathlib.Omega.{arith}
-use mathlib.Core.Path.{_≡_, refl, ap}
+use Prim.Native.Nat.{ℕ, _≤_}
+use mathlib.Core.Path.{_≡_}
 use mathlib.Core.List.{List}
-use lib.Dec.{T, leb, le→leb}
-use lib.IntN.{pos}
-use lib.Ieee.{Float, nan, binary32, lt, inFloat}
+use lib.Ieee.{Float, nan, lt}
 use lib.ListN.{getD, length}
 use borrow.Author.Needs.{needs}
 use Rattle.columns.proofs.Past.{getD-past}
 use Rattle.walk.specs.Walk.{cursorAtOf}
+use Rattle.walk.proofs.Lengths.{small-exact}
 use Rattle.walk.proofs.cursor_at.Statement.{statement}
 use Rattle.walk.proofs.cursor_at.Tie as tie
 
@@ -25,8 +22,7 @@ shared-slice-read-sum : tie.Need-shared-slice-read-sum
 shared-slice-read-sum c = search needs
 
 int-to-float-if2 : tie.Need-int-to-float-if2
-unfolding inFloat
-int-to-float-if2 c = le→leb _ 16777216 (le-trans (c .before .before .before .pre) (omega arith))
+int-to-float-if2 c = small-exact _ (c .before .before .before .pre)
 
 add-result : tie.Need-add-result
 add-result c = search needs
