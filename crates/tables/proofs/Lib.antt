@@ -1,1 +1,2 @@
 pub mod RunningSums
+pub mod Pushes
