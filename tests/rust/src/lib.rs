@@ -56,6 +56,10 @@ mod path_knife {
     include!(concat!(env!("OUT_DIR"), "/path_knife.rs"));
 }
 
+pub mod against;
 pub mod call;
+pub mod drawings;
+pub mod model;
 pub mod original;
+pub mod rng;
 pub mod seen;

@@ -61,6 +61,19 @@ macro_rules! original {
             pub fn flatten(calls: &[Call]) -> Seen {
                 probe::see(&replay(calls))
             }
+
+            /// The pieces of each cubic of a store made by hand, its flattening, and what closing makes of it.
+            pub fn pieces_of_store(store: &Store) -> Vec<usize> {
+                probe::pieces_of_store(store)
+            }
+
+            pub fn flatten_store(store: &Store) -> Seen {
+                probe::see_store(store)
+            }
+
+            pub fn close_store(store: &Store) -> Store {
+                probe::close_store(store)
+            }
         }
     };
 }
