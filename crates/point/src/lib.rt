@@ -1,14 +1,36 @@
 // Points, angles and curvature: point.rs, and the top of path.rs.
+mod curve;
+mod direction;
 
+pub use curve::cubic_at;
+pub use curve::curvature;
+pub use curve::eval_cubic;
+pub use curve::eval_quad;
+pub use curve::inv_curvature;
+pub use curve::lerp;
+pub use curve::quad_at;
+pub use direction::approx_atan2;
+pub use direction::changed;
+pub use direction::diff;
 ghost use mathlib.Core.Path.{_≡_};
-ghost use Rattle.point.specs.Point.{pointAt, plain, rationalOf, appliedOf, minusOf, sameOf};
+ghost use Rattle.point.specs.Point.{pointAt, plain, rationalOf, appliedOf, minusOf, sameOf, lenOf};
+ghost use Rattle.point.specs.Angle.{angleOf};
 
 pub struct Point {
     pub x: f32,
     pub y: f32,
 }
 
+// The Rust's Option<f32>: a direction too short has no angle.
+pub enum Angle {
+    Missing,
+    Known(f32),
+}
+
 impl Point {
+    // f32::EPSILON, 2^-23: the least length that has an angle.
+    const EPSILON: f32 = 1.1920929e-7;
+
     pub fn new(x: f32, y: f32) -> Self
         ensures { λ r. ⌜ r ≡ pointAt x y ⌝ }
     {
@@ -30,6 +52,21 @@ impl Point {
         ensures { λ r. ⌜ r ≡ sameOf self other ⌝ }
     {
         (self.x == other.x) & (self.y == other.y)
+    }
+
+    pub fn len(self) -> f32
+        ensures { λ r. ⌜ r ≡ lenOf self ⌝ }
+    {
+        leaves::sqrt(self.x * self.x + self.y * self.y)
+    }
+
+    pub fn angle(self) -> Angle
+        ensures { λ r. ⌜ r ≡ angleOf self ⌝ }
+    {
+        if self.len() >= Self::EPSILON {
+            return Angle::Known(approx_atan2(self.y, self.x));
+        }
+        Angle::Missing
     }
 }
 
@@ -70,10 +107,4 @@ impl WeightedPoint {
             y: self.point.y * w_recip,
         }
     }
-}
-
-// The Rust's Option<f32>: a direction too short has no angle.
-pub enum Angle {
-    Missing,
-    Known(f32),
 }

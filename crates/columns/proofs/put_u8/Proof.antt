@@ -1,0 +1,21 @@
+-- `columns::put_u8` meets its contract: past the end it writes nothing, and `set` changes nothing. Assumes nothing.
+use mathlib.Core.Path.{sym}
+use lib.Seq.{set-out}
+use borrow.Author.Needs.{needs}
+use Rattle.columns.proofs.put_u8.Statement.{statement}
+use Rattle.columns.proofs.put_u8.Tie as tie
+
+slice-write-column : tie.Need-slice-write-column
+slice-write-column c = search needs
+
+same-length : tie.Need-same-length
+same-length c = search needs
+
+returns : tie.Need-returns
+returns c = search needs
+
+returns-2 : tie.Need-returns-2
+returns-2 c = sym (set-out (c .before .args .column .now) (c .before .args .i) (c .before .args .v) (c .if1 .left))
+
+pub put-u8-spec : {M : Type 1} → statement M
+put-u8-spec = tie.close (tie.spec slice-write-column same-length returns returns-2)

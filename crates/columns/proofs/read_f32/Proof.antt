@@ -1,0 +1,23 @@
+-- `columns::read_f32` meets its contract: past the end `getD` gives what stands for nothing. Assumes nothing.
+use mathlib.Core.Path.{sym}
+use lib.Ieee.{nan, div, ofBits}
+use Rattle.columns.proofs.Past.{getD-past}
+use borrow.Author.Needs.{needs}
+use Rattle.columns.proofs.read_f32.Statement.{statement}
+use Rattle.columns.proofs.read_f32.Tie as tie
+
+mul-result : tie.Need-mul-result
+mul-result c = search needs
+
+shared-slice-read-result : tie.Need-shared-slice-read-result
+shared-slice-read-result c = search needs
+
+returns : tie.Need-returns
+returns c = search needs
+
+returns-2 : tie.Need-returns-2
+unfolding div ofBits
+returns-2 c = sym (getD-past (c .before .args .column .now) (c .before .args .i) nan (c .if1 .left))
+
+pub read-f32-spec : {M : Type 1} → statement M
+read-f32-spec = tie.close (tie.spec mul-result shared-slice-read-result returns returns-2)

@@ -1,0 +1,66 @@
+-- 01, "The program": "It reads standard input, builds, flattens in the screen setting." All of its output, from all of its input. Assumes nothing.
+use Prim.Native.Nat.{ℕ, _*_}
+use mathlib.Core.Bool.{Bool, true, false, cond}
+use mathlib.Core.List.{List, [], _∷_}
+use lib.Dec.{leb}
+use lib.Ieee.{Float}
+use lib.ListN.{length, replicate}
+use Rattle.leaves.specs.Single.{zero32}
+use Rattle.answer.specs.declared.Answer.{Answer}
+use Rattle.answer.specs.declared.Answer.the-variants.{Done, InputTooLong}
+use Rattle.answer.specs.Number.{isDone}
+use Rattle.primitives.specs.declared.Setting.the-variants.{Screen}
+use Rattle.store.specs.declared.Call.the-variants.{Build}
+use Rattle.store.specs.Columns.{Columns, columns}
+use Rattle.store.specs.Drawing.{Outcome, drawOf, freshOf}
+use Rattle.tables.specs.Tables.{QuadTable, quadTable, SplineTable, splineTable}
+use Rattle.tables.specs.Run.{World}
+use Rattle.walk.specs.Walk.{walkOf}
+use Rattle.evaluate.specs.Evaluate.{Finished, finished as finishedPoint, pointsOf}
+use Rattle.flatten.specs.Flatten.{Flattening, Output, output, flattenOf}
+use Rattle.listing.specs.Reading.{Progress, going, finished, stopped, readOf}
+use Rattle.listing.specs.Writing.{reportOf}
+
+-- "Room: 512 points, 512 commands, 256 quads, 256 splines, 512 words."
+unfoldable pub zeros : ℕ → List Float
+zeros n = replicate n zero32
+
+unfoldable pub programColumns : Columns
+programColumns = columns (zeros 512) (zeros 512) (zeros 512) (replicate 512 0)
+
+unfoldable pub programQuads : QuadTable
+programQuads = quadTable (zeros 768) (zeros 768) (zeros 768) (zeros 256) (zeros 256) (zeros 256) (zeros 256) (zeros 256) (zeros 256) (replicate 256 0)
+
+unfoldable pub programSplines : SplineTable
+programSplines = splineTable (zeros 256) (zeros 256) (zeros 256) (zeros 256) (zeros 256) (replicate 256 0)
+
+unfoldable pub programOutput : Output
+programOutput = output (replicate 512 0) (zeros 512) (zeros 512) (replicate 512 0)
+
+-- "On a refusal points is 0 and no point follows."; line is 0 for 5 to 9 and for 0
+unfoldable pub flatReport : Bool → Flattening → List ℕ
+flatReport false f = reportOf (f .result .answer) 0 []
+flatReport true f = reportOf Done 0 (pointsOf (f .quads) (f .splines) (walkOf (f .quads) (f .splines) (f .result .splines)))
+
+-- the final build, refused on line 0, and the flattening
+unfoldable pub built : Bool → Outcome → List ℕ
+built false o = reportOf (o .answer) 0 []
+built true o =
+    let f = flattenOf Screen (o .state) (o .columns) programQuads programSplines programOutput in
+    flatReport (isDone (f .result .answer)) f
+
+unfoldable pub builtFrom : Outcome → List ℕ
+builtFrom o = let b = drawOf Build (o .state) (o .columns) in built (isDone (b .answer)) b
+
+unfoldable pub afterReading : Progress → List ℕ
+afterReading (going at line o) = builtFrom o
+afterReading (finished o) = builtFrom o
+afterReading (stopped answer line) = reportOf answer line []
+
+-- "11 is tested first": input over 16,384 bytes
+unfoldable pub listingIn : Bool → List ℕ → List ℕ
+listingIn false text = reportOf InputTooLong 0 []
+listingIn true text = afterReading (readOf text (freshOf programColumns))
+
+unfoldable pub listingOf : List ℕ → List ℕ
+listingOf text = listingIn (leb (length text) 16384) text

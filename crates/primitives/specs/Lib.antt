@@ -1,0 +1,4 @@
+pub mod Quads
+pub mod Cubics
+pub mod Splines
+pub mod Plan

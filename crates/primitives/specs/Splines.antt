@@ -1,0 +1,59 @@
+-- 01, "Primitives, from 000 and 001": when a primitive opens a spline, and the spline's row and the state after it. Assumes nothing.
+use Prim.Native.Nat.{ℕ, _+_, _-_}
+use mathlib.Core.Bool.{Bool, true, false, not, _||_, cond}
+use lib.Ieee.{Float, le}
+use Rattle.leaves.specs.Single.{f32, zero32}
+use Rattle.answer.specs.declared.Answer.{Answer}
+use Rattle.answer.specs.declared.Answer.the-variants.{Done}
+use Rattle.point.specs.declared.Point.{Point}
+use Rattle.point.specs.declared.Angle.{Angle}
+use Rattle.point.specs.declared.Angle.the-variants.{Missing, Known}
+use Rattle.point.specs.Point.{minusOf, lenOf}
+use Rattle.point.specs.Angle.{changedOf}
+use Rattle.primitives.specs.declared.Setting.{Setting}
+use Rattle.primitives.specs.declared.Setting.the-variants.{Screen, Knife}
+use Rattle.primitives.specs.declared.State.{State}
+use Rattle.primitives.specs.declared.SplineRow.{SplineRow}
+use Rattle.primitives.specs.declared.SplineEdit.{SplineEdit}
+
+-- 0.0625: MAX_ERROR
+abbrev pub maxError : Float
+maxError = f32 0x3d80_0000
+
+abbrev pub stateOf : Answer → ℕ → ℕ → Bool → Angle → State
+stateOf answer splines quads mark last = record { answer = answer; splines = splines; quads = quads; mark = mark; last = last }
+
+-- "its start is 0.0625 or more from the last spline's end"
+unfoldable pub farOf : Point → SplineRow → Bool
+farOf start last = le maxError (lenOf (minusOf start (last .p2)))
+
+-- "A primitive opens a new spline if a contour mark waits, or the angle changed, or its start is 0.0625 or more from the last spline's end."
+unfoldable pub opensOf : State → SplineRow → Angle → Point → Bool
+opensOf st last angle start = st .mark || changedOf (st .last) angle || farOf start last
+
+-- "A line sets the last angle to its own, missing or not. Knife setting: a line without angle keeps the last angle."
+unfoldable pub lineAngleOf : Setting → Angle → Angle → Angle
+lineAngleOf Screen last angle = angle
+lineAngleOf Knife last Missing = last
+lineAngleOf Knife last (Known a) = Known a
+
+-- "A spline's sum starts at 0."
+unfoldable pub sumBefore : Bool → SplineRow → Float
+sumBefore opens last = cond opens zero32 (last .curvature)
+
+-- "The mark moves to the new spline. Every primitive sets the spline's end." Where no mark waits the new spline takes the flag of the one before.
+unfoldable pub splineEditOf : Bool → State → SplineRow → Point → Point → Float → ℕ → Angle → SplineEdit
+splineEditOf true st last start end sum quads angle =
+    record {
+      clears = not (st .mark);
+      at = st .splines;
+      row = record { curvature = sum; p0 = start; p2 = end; contour = true };
+      next = stateOf Done (st .splines + 1) quads false angle;
+    }
+splineEditOf false st last start end sum quads angle =
+    record {
+      clears = false;
+      at = st .splines - 1;
+      row = record { curvature = sum; p0 = last .p0; p2 = end; contour = last .contour };
+      next = stateOf Done (st .splines) quads false angle;
+    }

@@ -1,0 +1,1 @@
+// Theorems over the definitions, in proofs/. There is no code here.

@@ -1,0 +1,82 @@
+-- 01, "Packed words and the walk": the walk as a list of items, each a command with the step's number and its quad. Assumes nothing.
+use Prim.Native.Nat.{ℕ, zero, suc, _+_, _-_}
+use mathlib.Core.Bool.{Bool, _||_, cond}
+use mathlib.Core.List.{List, [], _∷_, _++_, map}
+use lib.Dec.{eqb}
+use lib.Ieee.{Float, nan, lt}
+use lib.ListN.{getD}
+use Rattle.leaves.specs.Single.{_⊘_, whole32}
+use Rattle.leaves.specs.Whole.{wholeUpOf}
+use Rattle.point.specs.Point.{minusOf, lenOf}
+use Rattle.command.specs.declared.PointCommand.{PointCommand}
+use Rattle.command.specs.declared.PointCommand.the-variants.{Start, Incr, End}
+use Rattle.command.specs.Packing.{packOf}
+use Rattle.primitives.specs.declared.SplineRow.{SplineRow}
+use Rattle.primitives.specs.Splines.{maxError}
+use Rattle.tables.specs.Tables.{QuadTable, SplineTable, splineAt}
+
+-- a Start and an End are no step, and stand with step and quad 0, as in `populate_buffers`
+pub record Item : Type 0 where
+  pub command : PointCommand
+  pub step : ℕ
+  pub quad : ℕ
+
+abbrev pub item : PointCommand → ℕ → ℕ → Item
+item command step quad = record { command = command; step = step; quad = quad }
+
+-- "For spline k with sum c, m is c rounded up to whole."
+unfoldable pub subdivisionsOf : SplineTable → ℕ → ℕ
+subdivisionsOf s k = wholeUpOf (splineAt s k .curvature)
+
+-- "steps of size c/m"
+unfoldable pub stepSizeOf : SplineTable → ℕ → Float
+stepSizeOf s k = splineAt s k .curvature ⊘ whole32 (subdivisionsOf s k)
+
+-- "Start k is written for the first spline, after a flagged one, or where the start is more than 0.0625 from the previous end."
+abbrev pub startsAfterOf : ℕ → SplineRow → SplineRow → Bool
+startsAfterOf k last row = eqb k 0 || last .contour || lt maxError (lenOf (minusOf (last .p2) (row .p0)))
+
+unfoldable pub startsOf : SplineTable → ℕ → Bool
+startsOf s k = startsAfterOf k (splineAt s (k - 1)) (splineAt s k)
+
+-- "The quad cursor goes on by one at step p when p exceeds the cursor's sum"
+abbrev pub cursorAtOf : List Float → ℕ → ℕ → ℕ
+cursorAtOf sums p cursor = cond (lt (getD sums cursor nan) (whole32 p)) (cursor + 1) cursor
+
+unfoldable pub cursorAt : QuadTable → ℕ → ℕ → ℕ
+cursorAt q p cursor = cursorAtOf (q .partial-curvatures) p cursor
+
+-- n steps from step p on
+unfoldable pub stepsFrom : QuadTable → Float → ℕ → ℕ → ℕ → List Item
+stepsFrom q size zero p cursor = []
+stepsFrom q size (suc n) p cursor = let i = cursorAt q p cursor in item (Incr size) p i ∷ stepsFrom q size n (p + 1) i
+
+-- the cursor after n steps from step p on
+unfoldable pub cursorFrom : QuadTable → ℕ → ℕ → ℕ → ℕ
+cursorFrom q zero p cursor = cursor
+cursorFrom q (suc n) p cursor = cursorFrom q n (p + 1) (cursorAt q p cursor)
+
+-- "and by one after each spline with m over 0"
+unfoldable pub cursorAfter : QuadTable → SplineTable → ℕ → ℕ → ℕ
+cursorAfter q s k cursor = cond (eqb (subdivisionsOf s k) 0) cursor (cursorFrom q (subdivisionsOf s k - 1) 1 cursor + 1)
+
+-- "Then m-1 steps of size c/m; none when m is 0, and then 0/0 is not stored. Then End k."
+unfoldable pub splineItemsOf : QuadTable → SplineTable → ℕ → ℕ → List Item
+splineItemsOf q s k cursor =
+    cond (startsOf s k) (item (Start k) 0 0 ∷ []) []
+    ++ (stepsFrom q (stepSizeOf s k) (subdivisionsOf s k - 1) 1 cursor
+    ++ (item (End k (splineAt s k .contour)) 0 0 ∷ []))
+
+-- n splines from spline k on
+unfoldable pub walkFrom : QuadTable → SplineTable → ℕ → ℕ → ℕ → List Item
+walkFrom q s zero k cursor = []
+walkFrom q s (suc n) k cursor = splineItemsOf q s k cursor ++ walkFrom q s n (k + 1) (cursorAfter q s k cursor)
+
+unfoldable pub walkOf : QuadTable → SplineTable → ℕ → List Item
+walkOf q s n = walkFrom q s n 0 0
+
+unfoldable pub wordOf : Item → ℕ
+wordOf i = packOf (i .command)
+
+unfoldable pub wordsOf : List Item → List ℕ
+wordsOf items = map wordOf items
