@@ -17,7 +17,8 @@ use Rattle.tables.specs.Tables.{QuadTable, SplineTable}
 use Rattle.tables.specs.Run.{World}
 use Rattle.tables.specs.Commands.{tablesOf}
 use Rattle.walk.specs.Walk.{Item, walkOf, wordsOf}
-unfoldable pub use Rattle.evaluate.specs.Output.{Output, output, over, fitsOutput, writeOutput}
+pub use Rattle.evaluate.specs.Output.{Output, output}
+unfoldable pub use Rattle.evaluate.specs.Output.{over, fitsOutput, writeOutput}
 use Rattle.flatten.specs.declared.Flattened.{Flattened}
 
 -- what the caller is left with
