@@ -1,3 +1,5 @@
 pub mod Past
 pub mod Written
 pub mod Runs
+pub mod Lengths
+pub mod Cuts

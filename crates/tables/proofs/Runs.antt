@@ -51,3 +51,20 @@ module _ (setting : Setting) (caps : Capacities) (p : Primitive) (st : State) (q
       → w ≡ runOf setting caps (p ∷ []) (world st q s)
   unfolding runOf pushOf
   pushes d el ee ew = rw (d, ew, ee, el)
+
+-- ---- lists of primitives
+module _ (setting : Setting) (caps : Capacities) where
+  -- "a refusal stops the run"
+  pub run-stop : (ps : List Primitive) (w : World) → isDone (w .state .answer) ≡ false → runOf setting caps ps w ≡ w
+  unfolding runOf
+  run-stop [] w e = refl
+  run-stop (p ∷ ps) w e = rw e (run-stop ps w e)
+
+  pub run-append : (ps qs : List Primitive) (w : World) → runOf setting caps (ps ++ qs) w ≡ runOf setting caps qs (runOf setting caps ps w)
+  unfolding runOf
+  run-append [] qs w = refl
+  run-append (p ∷ ps) qs w = run-append ps qs (cond (isDone (w .state .answer)) (pushOf setting caps p w) w)
+
+  pub run-cons : (p : Primitive) (ps : List Primitive) (w : World) → runOf setting caps (p ∷ ps) w ≡ runOf setting caps ps (runOf setting caps (p ∷ []) w)
+  unfolding runOf
+  run-cons p ps w = refl

@@ -1,18 +1,18 @@
 // Primitives pushed into the tables: push_line, push_quad and push_cubic of path.rs, by way of the plan.
-use answer::is_done;
 use crate::rows::last_spline;
 use crate::rows::put_quad;
 use crate::rows::put_spline;
+use answer::is_done;
 use primitives::Capacities;
 use primitives::Cubic;
-use primitives::cubic_pieces;
-use primitives::cubic_point;
 use primitives::Edit;
-use primitives::piece;
-use primitives::plan;
 use primitives::Primitive;
 use primitives::Setting;
 use primitives::State;
+use primitives::cubic_pieces;
+use primitives::cubic_point;
+use primitives::piece;
+use primitives::plan;
 ghost use mathlib.Core.Path.{_≡_};
 ghost use mathlib.Core.List.{[], _∷_};
 ghost use Rattle.primitives.specs.Cubics.{cubicQuadsOf};
@@ -50,7 +50,20 @@ fn apply(
             spline.next
         }
         Edit::Bend(spline, i, row) => {
-            put_quad(quad_x, quad_y, quad_weight, x0, dx_recip, k0, dk, curvatures_recip, partial_curvatures, partial_splines, i, row);
+            put_quad(
+                quad_x,
+                quad_y,
+                quad_weight,
+                x0,
+                dx_recip,
+                k0,
+                dk,
+                curvatures_recip,
+                partial_curvatures,
+                partial_splines,
+                i,
+                row,
+            );
             put_spline(curvature, p0x, p0y, p2x, p2y, contour, spline);
             spline.next
         }
@@ -86,9 +99,35 @@ pub fn push(
     if !is_done(answer) {
         return st;
     }
-    let last = last_spline(&curvature[..], &p0x[..], &p0y[..], &p2x[..], &p2y[..], &contour[..], st.splines);
+    let last = last_spline(
+        &curvature[..],
+        &p0x[..],
+        &p0y[..],
+        &p2x[..],
+        &p2y[..],
+        &contour[..],
+        st.splines,
+    );
     let edit = plan(setting, caps, st, last, p);
-    apply(quad_x, quad_y, quad_weight, x0, dx_recip, k0, dk, curvatures_recip, partial_curvatures, partial_splines, curvature, p0x, p0y, p2x, p2y, contour, edit)
+    apply(
+        quad_x,
+        quad_y,
+        quad_weight,
+        x0,
+        dx_recip,
+        k0,
+        dk,
+        curvatures_recip,
+        partial_curvatures,
+        partial_splines,
+        curvature,
+        p0x,
+        p0y,
+        p2x,
+        p2y,
+        contour,
+        edit,
+    )
 }
 
 // The pieces of a cubic, or the refusal of too many of them.
@@ -118,7 +157,28 @@ pub fn push_cubic(
 {
     let n = cubic_pieces(c);
     if n > MAX_PIECES {
-        return push(quad_x, quad_y, quad_weight, x0, dx_recip, k0, dk, curvatures_recip, partial_curvatures, partial_splines, curvature, p0x, p0y, p2x, p2y, contour, setting, caps, st, Primitive::Excess);
+        return push(
+            quad_x,
+            quad_y,
+            quad_weight,
+            x0,
+            dx_recip,
+            k0,
+            dk,
+            curvatures_recip,
+            partial_curvatures,
+            partial_splines,
+            curvature,
+            p0x,
+            p0y,
+            p2x,
+            p2y,
+            contour,
+            setting,
+            caps,
+            st,
+            Primitive::Excess,
+        );
     }
     let incr = 1.0 / n as f32;
     let mut state = st;
@@ -130,7 +190,28 @@ pub fn push_cubic(
         let t = i as f32 * incr;
         let end = cubic_point(c, t);
         let quad = piece(c, start, end, t - 0.5 * incr);
-        state = push(quad_x, quad_y, quad_weight, x0, dx_recip, k0, dk, curvatures_recip, partial_curvatures, partial_splines, curvature, p0x, p0y, p2x, p2y, contour, setting, caps, state, quad);
+        state = push(
+            quad_x,
+            quad_y,
+            quad_weight,
+            x0,
+            dx_recip,
+            k0,
+            dk,
+            curvatures_recip,
+            partial_curvatures,
+            partial_splines,
+            curvature,
+            p0x,
+            p0y,
+            p2x,
+            p2y,
+            contour,
+            setting,
+            caps,
+            state,
+            quad,
+        );
         let answer = state.answer;
         going = is_done(answer);
         start = end;
