@@ -28,7 +28,7 @@ both true true e = (refl, refl)
 both true false e = absurd (true≢false (sym e))
 both false b e = absurd (true≢false (sym e))
 
-and-going : (b : Bool) → (b && true) ≡ false → b ≡ false
+pub and-going : (b : Bool) → (b && true) ≡ false → b ≡ false
 and-going true e = e
 and-going false e = refl
 

@@ -3,3 +3,4 @@ pub mod Written
 pub mod Runs
 pub mod Lengths
 pub mod Cuts
+pub mod Taken
