@@ -16,7 +16,9 @@ use lib.Ieee.Order.{transfer}
 use lib.Ieee.Scale.{finite}
 use lib.Ieee.Positive.{num, den, den-pos}
 use Rattle.rounding.specs.Parts.{sig, place}
-use Rattle.rounding.proofs.Parts.{sig-lt, place-le, decode}
+use Rattle.rounding.proofs.Parts.{sig-lt}
+use Rattle.rounding.proofs.Values.{cross, value-finite, worth, worth-value, worth-lt}
+use Rattle.rounding.proofs.Grid.{cut-most}
 use Rattle.leaves.proofs.Against.{plain, above-zero, none}
 use Rattle.leaves.specs.Sixth.{sixthIn, wholeSixth, cutTo, sixthRootOf, Largest}
 use Rattle.leaves.specs.Power.{IsSixthRoot}
@@ -44,43 +46,6 @@ module _ (n d p c X A L K : ℕ) (x : n * L ≡ X * d) (y : p * L ≡ A * c) (k 
   pub raise : 0 < d ^ 6 * c → n ^ 6 * c ≤ p * d ^ 6 → X ^ 6 ≤ A * K
   raise P h = le-of-mul-le-mul-right (le-trans (le-of-eq (sym left)) (le-trans (mul-le-mul-right (L ^ 6) h) (le-of-eq right))) P
 
-le-or-lt : (a b : ℕ) → (a ≤ b) ⊎ (b < a)
-le-or-lt a b = go (leb a b) (leb→le a b) (nleb→lt a b)
-  where
-    go : (t : Bool) → (T t → a ≤ b) → (T (not t) → b < a) → (a ≤ b) ⊎ (b < a)
-    go true h k = inl (h tt)
-    go false h k = inr (k tt)
-
--- ---- w cut to its p leading digits is at least each c * 2 ^ j up to w with c of p digits
-cut-most : (p w c j : ℕ) → 0 < p → c < 2 ^ p → c * 2 ^ j ≤ w → c * 2 ^ j ≤ w / 2 ^ (size w - p) * 2 ^ (size w - p)
-cut-most p w c j P C h = go (size w - p) refl
-  where
-    join : (k : ℕ) → k ≤ j → c * 2 ^ (j - k) * 2 ^ k ≡ c * 2 ^ j
-    join k l = mul-assoc c (2 ^ (j - k)) (2 ^ k) ∙ ap (λ (x : ℕ). c * x) (sym (pow-add 2 (j - k) k) ∙ ap (λ (x : ℕ). 2 ^ x) (back j k l))
-      where
-        back : (j k : ℕ) → k ≤ j → j - k + k ≡ j
-        back j k l = omega arith
-
-    lead : (k : ℕ) → size w - p ≡ k → j < k → 2 ^ (p - 1 + k) ≤ w
-    lead k e l = size-reaches w (p - 1 + k) (room (size w) k e l)
-      where
-        room : (z k : ℕ) → z - p ≡ k → j < k → p - 1 + k < z
-        room z k e l = omega (arith, P)
-
-    up-one : (k : ℕ) → j < k → p + j ≤ p - 1 + k
-    up-one k l = omega (arith, P)
-
-    go : (k : ℕ) → size w - p ≡ k → c * 2 ^ j ≤ w / 2 ^ k * 2 ^ k
-    go k e = elim (le-or-lt k j) [
-      | inl l ↦ le-trans (le-of-eq (sym (join k l))) (mul-le-mul-right (2 ^ k) (le-div-iff-mul-le (pow-pos k) .1 (le-trans (le-of-eq (join k l)) h)))
-      | inr l ↦
-          le-trans (le-of-lt (mul-lt-mul-of-pos-right C (pow-pos j)))
-          (le-trans (le-of-eq (sym (pow-add 2 p j)))
-          (le-trans (pow-mono (up-one k l))
-          (le-trans (le-of-eq (pow-add 2 (p - 1) k))
-          (mul-le-mul-right (2 ^ k) (le-div-iff-mul-le (pow-pos k) .1 (le-trans (le-of-eq (sym (pow-add 2 (p - 1) k))) (lead k e l)))))))
-    ]
-
 -- ---- w below 2 ^ 277, cut: what it is worth, and that it is an f32
 cut-le : (w : ℕ) → w / 2 ^ (size w - 24) * 2 ^ (size w - 24) ≤ w
 cut-le w = less (w / 2 ^ (size w - 24) * 2 ^ (size w - 24)) (w % 2 ^ (size w - 24)) w (div-add-mod' w (2 ^ (size w - 24)))
@@ -103,28 +68,6 @@ units-fits q k Q h = go (ltb (q * 2 ^ k) (2 ^ 277)) (lt→ltb (q * 2 ^ k) (2 ^ 2
 cut-fits : (w : ℕ) → w < 2 ^ 277 → T (fits binary32 (cutTo binary32 w))
 unfolding cutTo
 cut-fits w h = units-fits (w / 2 ^ (size w - 24)) (size w - 24) (kept-lt 24 w) (lt-of-le-of-lt (cut-le w) h)
-
-value-finite : (x : Float) (s : Bool) (a c : ℕ) → HasValue x s a c → T (finite x)
-value-finite nan s a c h = absurd h
-value-finite (inf t) s a c h = absurd h
-value-finite (fin t m e) s a c h = tt
-
-cross : (x : Float) (s : Bool) (a c : ℕ) → HasValue x s a c → num x * c ≡ a * den x
-cross nan s a c h = absurd h
-cross (inf t) s a c h = absurd h
-cross (fin t m e) s a c h = h .1
-
--- ---- an f32 in smallest values
-worth : Float → ℕ
-worth x = sig binary32 (toBits binary32 x) * 2 ^ place binary32 (toBits binary32 x)
-
-worth-value : (x : Float) → T (fits binary32 x) → T (finite x) → HasValue x (leb 2147483648 (toBits binary32 x)) (worth x) (2 ^ 149)
-unfolding worth
-worth-value x F h = decode binary32 x F h
-
-worth-lt : (x : Float) → worth x < 2 ^ 278
-unfolding worth
-worth-lt x = let b = toBits binary32 x in lt-of-lt-of-le (mul-lt-mul-of-pos-right (sig-lt binary32 b) (pow-pos (place binary32 b))) (mul-le-mul-left (2 ^ 24) (pow-mono (place-le binary32 b)))
 
 -- ---- a finite q of 0 or more
 none-left : (A d : ℕ) → 0 < d → 0 ≡ A * d → A ≡ 0
@@ -157,14 +100,14 @@ is-cut (fin false (suc m) e) s A h v = root-value (fin false (suc m) e) s A (pos
 
 module _ (q : Float) (F : T (fits binary32 q)) (f : T (finite q)) (P : T (le plain q)) where
   N : ℕ
-  N = worth q * 2 ^ 745
+  N = worth binary32 q * 2 ^ 745
 
   w : ℕ
   w = wholeSixth N
 
   w-lt : w < 2 ^ 277
   unfolding w N
-  w-lt = sixth-lt w (2 ^ 277) N (whole-sixth-is N .0) (lt-of-lt-of-le (mul-lt-mul-of-pos-right (worth-lt q) (pow-pos 745)) (lit≤ tt))
+  w-lt = sixth-lt w (2 ^ 277) N (whole-sixth-is N .0) (lt-of-lt-of-le (mul-lt-mul-of-pos-right (worth-lt binary32 q) (pow-pos 745)) (lit≤ tt))
 
   r : Float
   r = cutTo binary32 w
@@ -176,23 +119,23 @@ module _ (q : Float) (F : T (fits binary32 q)) (f : T (finite q)) (P : T (le pla
   unfolding r R
   r-value = cut-value w w-lt
 
-  q-cross : num q * 2 ^ 149 ≡ worth q * den q
-  q-cross = cross q (leb 2147483648 (toBits binary32 q)) (worth q) (2 ^ 149) (worth-value q F f)
+  q-cross : num q * 2 ^ 149 ≡ worth binary32 q * den q
+  q-cross = cross q (leb 2147483648 (toBits binary32 q)) (worth binary32 q) (2 ^ 149) (worth-value binary32 q F f)
 
   r-low : num r ^ 6 * den q ≤ num q * den r ^ 6
   unfolding R w N
-  r-low = lower (num r) (den r) (num q) (den q) R (worth q) (2 ^ 149) (2 ^ 745) (cross r false R (2 ^ 149) r-value) q-cross refl (lit< tt) (le-trans (pow-le-pow-left (cut-le w) 6) (whole-sixth-is N .0))
+  r-low = lower (num r) (den r) (num q) (den q) R (worth binary32 q) (2 ^ 149) (2 ^ 745) (cross r false R (2 ^ 149) r-value) q-cross refl (lit< tt) (le-trans (pow-le-pow-left (cut-le w) 6) (whole-sixth-is N .0))
 
   r-most : (x : Float) → T (fits binary32 x) → T (finite x) → num x ^ 6 * den q ≤ num q * den x ^ 6 → num x * den r ≤ num r * den x
   unfolding R w N worth
   r-most x G g h =
-      let X = worth x in
+      let X = worth binary32 x in
       let b = toBits binary32 x in
-      let xc : num x * 2 ^ 149 ≡ X * den x = cross x (leb 2147483648 b) X (2 ^ 149) (worth-value x G g) in
+      let xc : num x * 2 ^ 149 ≡ X * den x = cross x (leb 2147483648 b) X (2 ^ 149) (worth-value binary32 x G g) in
       let rc : num r * 2 ^ 149 ≡ R * den r = cross r false R (2 ^ 149) r-value in
-      let X6 : X ^ 6 ≤ worth q * 2 ^ 745 = raise (num x) (den x) (num q) (den q) X (worth q) (2 ^ 149) (2 ^ 745) xc q-cross refl (mul-pos (one-le-pow 6 (den x) (den-pos x)) (den-pos q)) h in
+      let X6 : X ^ 6 ≤ worth binary32 q * 2 ^ 745 = raise (num x) (den x) (num q) (den q) X (worth binary32 q) (2 ^ 149) (2 ^ 745) xc q-cross refl (mul-pos (one-le-pow 6 (den x) (den-pos x)) (den-pos q)) h in
       let Xw : X ≤ w = le-of-lt-one X w (sixth-lt X (w + 1) N X6 (whole-sixth-is N .1)) in
-      let XR : X ≤ R = cut-most 24 w (sig binary32 b) (place binary32 b) (lit< tt) (sig-lt binary32 b) Xw in
+      let XR : X ≤ R = cut-most 24 w (lit< tt) (sig binary32 b) (place binary32 b) (sig-lt binary32 b) Xw in
       transfer (num x) (num r) (den x) (den r) X R (2 ^ 149) (2 ^ 149) (pow-pos 149) (pow-pos 149) xc rc (mul-le-mul-right (2 ^ 149) XR)
     where
       le-of-lt-one : (a b : ℕ) → a < b + 1 → a ≤ b
@@ -200,7 +143,7 @@ module _ (q : Float) (F : T (fits binary32 q)) (f : T (finite q)) (P : T (le pla
 
   is : r ≡ sixthRootOf q
   unfolding r w N
-  is = is-cut q (leb 2147483648 (toBits binary32 q)) (worth q) P (worth-value q F f)
+  is = is-cut q (leb 2147483648 (toBits binary32 q)) (worth binary32 q) P (worth-value binary32 q F f)
 
   pub sixth-largest : Largest q (sixthRootOf q)
   unfolding r w

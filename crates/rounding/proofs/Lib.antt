@@ -7,3 +7,7 @@ pub mod Sums
 pub mod Lifts
 pub mod Roots
 pub mod Near
+pub mod Signed
+pub mod Grid
+pub mod Closest
+pub mod Nearest
