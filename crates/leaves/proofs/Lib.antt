@@ -2,7 +2,9 @@ pub mod Against
 pub mod Signs
 pub mod WholeUp
 pub mod FmaParts
+pub mod FmaNearest
 pub mod RootParts
+pub mod RootNearest
 pub mod LimbLaws
 pub mod SixthParts
 pub mod SixthLargest

@@ -10,7 +10,7 @@ use lib.IntN.{ℤ, pos}
 use lib.Pow.{pow-add, pow-pos, pow-mono}
 use lib.Ieee.{Float, nan, inf, fin, binary32, prec, up, down, size, odd, units, fits, lt, le, toBits}
 use lib.Ieee.Digits.{size-reaches}
-use lib.Ieee.Fits.{and-l, odd-fits, kept-lt, down-pos, up-pos}
+use lib.Ieee.Fits.{and-l, kept-lt, down-pos, up-pos}
 use lib.Ieee.Exact.{HasValue, units-val}
 use lib.Ieee.Order.{transfer}
 use lib.Ieee.Scale.{finite}
@@ -18,6 +18,7 @@ use lib.Ieee.Positive.{num, den, den-pos}
 use Rattle.rounding.specs.Parts.{sig, place}
 use Rattle.rounding.proofs.Parts.{sig-lt}
 use Rattle.rounding.proofs.Values.{cross, value-finite, worth, worth-value, worth-lt}
+use Rattle.rounding.proofs.Packing.{units-fits}
 use Rattle.rounding.proofs.Grid.{cut-most}
 use Rattle.leaves.proofs.Against.{plain, above-zero, none}
 use Rattle.leaves.specs.Sixth.{sixthIn, wholeSixth, cutTo, sixthRootOf, Largest}
@@ -57,17 +58,9 @@ cut-value : (w : ℕ) → w < 2 ^ 277 → HasValue (cutTo binary32 w) false (w /
 unfolding cutTo
 cut-value w h = units-val binary32 false (w / 2 ^ (size w - 24)) (size w - 24) (lt-of-le-of-lt (cut-le w) h)
 
-units-fits : (q k : ℕ) → q < 2 ^ 24 → q * 2 ^ k < 2 ^ 277 → T (fits binary32 (units binary32 false q k))
-unfolding units
-units-fits q k Q h = go (ltb (q * 2 ^ k) (2 ^ 277)) (lt→ltb (q * 2 ^ k) (2 ^ 277) h)
-  where
-    go : (b : Bool) → T b → T (fits binary32 (cond b (odd 25 false q k 149) (inf false)))
-    go true t = odd-fits binary32 25 false q k (lt-of-lt-of-le Q (lit≤ tt)) (le-of-lt Q) h
-    go false t = absurd t
-
 cut-fits : (w : ℕ) → w < 2 ^ 277 → T (fits binary32 (cutTo binary32 w))
 unfolding cutTo
-cut-fits w h = units-fits (w / 2 ^ (size w - 24)) (size w - 24) (kept-lt 24 w) (lt-of-le-of-lt (cut-le w) h)
+cut-fits w h = units-fits binary32 false (w / 2 ^ (size w - 24)) (size w - 24) (le-of-lt (kept-lt 24 w)) (lt-of-le-of-lt (cut-le w) h)
 
 -- ---- a finite q of 0 or more
 none-left : (A d : ℕ) → 0 < d → 0 ≡ A * d → A ≡ 0

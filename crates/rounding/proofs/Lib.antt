@@ -11,3 +11,4 @@ pub mod Signed
 pub mod Grid
 pub mod Closest
 pub mod Nearest
+pub mod RootNearest

@@ -101,7 +101,6 @@ sum-rounds f s a t b c = go (Bool·beq s t) (ltb a b)
     go false true = refl
     go false false = refl
 
-
 pub sum-signed : (s : Bool) (a : ℕ) (t : Bool) (b : ℕ) → signed (sumSign s a t b) (sumSize s a t b) ≡ signed s a +ℤ signed t b
 unfolding sumSign sumSize
 sum-signed false a false b = refl
