@@ -8,3 +8,4 @@ pub mod RootNearest
 pub mod LimbLaws
 pub mod SixthParts
 pub mod SixthLargest
+pub mod Held

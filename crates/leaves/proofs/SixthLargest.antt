@@ -3,13 +3,13 @@ use mathlib.Core.Path.{_≡_, refl, sym, ap, ap₂, _∙_, subst}
 use mathlib.Core.Logic.{_⊎_, inl, inr}
 use mathlib.Core.Bool.{Bool, true, false, not, cond, _||_}
 use Prim.Native.Nat.{ℕ, zero, suc, _+_, _-_, _*_, _/_, _%_, _^_, _≤_, _<_, zero-le}
-use native.Mathlib.Nat.{mul-one, mul-comm, mul-assoc, mul-left-comm, mul-right-comm, mul-mul-mul-comm, mul-pos, zero-mul, zero-lt-suc, one-le-pow, le-trans, le-of-eq, le-of-lt, lt-of-lt-of-le, lt-of-le-of-lt, lt-of-not-le, not-le-of-lt, mul-le-mul-right, mul-le-mul-left, mul-lt-mul-of-pos-right, le-of-mul-le-mul-right, le-div-iff-mul-le, eq-of-mul-eq-mul-right, pow-le-pow-left, div-add-mod'}
+use native.Mathlib.Nat.{mul-one, mul-comm, mul-assoc, mul-left-comm, mul-right-comm, mul-mul-mul-comm, mul-pos, zero-mul, zero-lt-suc, one-le-pow, le-trans, le-of-eq, le-of-lt, lt-of-lt-of-le, lt-of-le-of-lt, lt-of-not-le, not-le-of-lt, mul-le-mul-right, mul-le-mul-left, mul-lt-mul-of-pos-right, le-of-mul-le-mul-right, lt-of-mul-lt-mul-right, mul-le-mul, eq-zero-or-pos, le-div-iff-mul-le, eq-of-mul-eq-mul-right, pow-le-pow-left, div-add-mod'}
 use native.Mathlib.Omega.{arith}
 use lib.Dec.{T, leb, ltb, eqb, eqb→eq, lt→ltb, lit<, lit≤, leb→le, nleb→lt}
 use lib.IntN.{ℤ, pos}
 use lib.Pow.{pow-add, pow-pos, pow-mono}
-use lib.Ieee.{Float, nan, inf, fin, binary32, prec, up, down, size, odd, units, fits, lt, le, toBits}
-use lib.Ieee.Digits.{size-reaches}
+use lib.Ieee.{Float, nan, inf, fin, binary32, prec, up, down, size, odd, units, fits, lt, le, toBits, ofBits}
+use lib.Ieee.Digits.{size-le}
 use lib.Ieee.Fits.{and-l, kept-lt, down-pos, up-pos}
 use lib.Ieee.Exact.{HasValue, units-val}
 use lib.Ieee.Order.{transfer}
@@ -18,10 +18,11 @@ use lib.Ieee.Positive.{num, den, den-pos}
 use Rattle.rounding.specs.Parts.{sig, place}
 use Rattle.rounding.proofs.Parts.{sig-lt}
 use Rattle.rounding.proofs.Values.{cross, value-finite, worth, worth-value, worth-lt}
-use Rattle.rounding.proofs.Packing.{units-fits}
-use Rattle.rounding.proofs.Grid.{cut-most}
-use Rattle.leaves.proofs.Against.{plain, above-zero, none}
-use Rattle.leaves.specs.Sixth.{sixthIn, wholeSixth, cutTo, sixthRootOf, Largest}
+use Rattle.rounding.proofs.Packing.{units-fits, units-bits, units-finite}
+use Rattle.rounding.proofs.Grid.{leading, cut-most}
+use Rattle.leaves.proofs.Against.{plain, zero-is, above-zero, none}
+use Rattle.leaves.specs.Single.{zero32}
+use Rattle.leaves.specs.Sixth.{sixthIn, wholeSixth, cutTo, sixthRootOf, Largest, nextUp}
 use Rattle.leaves.specs.Power.{IsSixthRoot}
 use Rattle.leaves.proofs.SixthParts.{mul-pow, sixth-lt, whole-sixth-is, root-value}
 
@@ -91,16 +92,25 @@ is-cut (fin t zero e) s A h v = at-zero t e A (none-left A (down e) (down-pos e)
 is-cut (fin true (suc m) e) s A h v = absurd (negative m e h)
 is-cut (fin false (suc m) e) s A h v = root-value (fin false (suc m) e) s A (positive m e) v
 
-module _ (q : Float) (F : T (fits binary32 q)) (f : T (finite q)) (P : T (le plain q)) where
+one-up : (c : ℕ) → c < 16777216 → c + 1 ≤ 16777216
+one-up c h = omega arith
+
+module _ (q : Float) (F : T (fits binary32 q)) (f : T (finite q)) (Q : T (le zero32 q)) where
+  P : T (le plain q)
+  P = subst (λ (z : Float). T (le z q)) zero-is Q
+
   N : ℕ
   N = worth binary32 q * 2 ^ 745
 
   w : ℕ
   w = wholeSixth N
 
-  w-lt : w < 2 ^ 277
+  w-small : w < 2 ^ 171
   unfolding w N
-  w-lt = sixth-lt w (2 ^ 277) N (whole-sixth-is N .0) (lt-of-lt-of-le (mul-lt-mul-of-pos-right (worth-lt binary32 q) (pow-pos 745)) (lit≤ tt))
+  w-small = sixth-lt w (2 ^ 171) N (whole-sixth-is N .0) (lt-of-lt-of-le (mul-lt-mul-of-pos-right (worth-lt binary32 q) (pow-pos 745)) (lit≤ tt))
+
+  w-lt : w < 2 ^ 277
+  w-lt = lt-of-lt-of-le w-small (lit≤ tt)
 
   r : Float
   r = cutTo binary32 w
@@ -142,6 +152,78 @@ module _ (q : Float) (F : T (fits binary32 q)) (f : T (finite q)) (P : T (le pla
   unfolding r w
   sixth-largest = subst (λ (x : Float). Largest q x) is (record { held = cut-fits w w-lt; whole = value-finite r false R (2 ^ 149) r-value; low = r-low; most = r-most })
 
-  -- so the sixth power of each f32 above it, the next one among them, is above q
+  -- so the sixth power of each f32 above it is above q
   pub sixth-above : (x : Float) → T (fits binary32 x) → T (finite x) → num (sixthRootOf q) * den x < num x * den (sixthRootOf q) → num q * den x ^ 6 < num x ^ 6 * den q
   sixth-above x G g l = lt-of-not-le (λ (h : num x ^ 6 * den q ≤ num q * den x ^ 6). not-le-of-lt l (sixth-largest .most x G g h))
+
+  -- ---- the next f32: one more in the last of the 24 digits
+  c : ℕ
+  c = w / 2 ^ (size w - 24)
+
+  k : ℕ
+  k = size w - 24
+
+  full : (k ≡ 0) ⊎ (8388608 ≤ c)
+  unfolding c k
+  full = elim (eq-zero-or-pos k) [ inl z ↦ inl z | inr h ↦ inr (le-div-iff-mul-le (pow-pos k) .1 (leading 24 w (lit< tt) k refl h)) ]
+
+  c-lt : c < 2 ^ 24
+  unfolding c
+  c-lt = kept-lt 24 w
+
+  k-le : k ≤ 147
+  unfolding k
+  k-le = fewer (size w) (size-le w 171 w-small)
+    where
+      fewer : (z : ℕ) → z ≤ 171 → z - 24 ≤ 147
+      fewer z h = omega arith
+
+  next : Float
+  next = units binary32 false (c + 1) k
+
+  next-lt : (c + 1) * 2 ^ k < 2 ^ 277
+  next-lt = lt-of-le-of-lt (mul-le-mul (one-up c c-lt) (pow-mono k-le)) (lit< tt)
+
+  next-value : HasValue next false ((c + 1) * 2 ^ k) (2 ^ 149)
+  unfolding next
+  next-value = units-val binary32 false (c + 1) k next-lt
+
+  next-is : next ≡ nextUp r
+  unfolding next r c k cutTo
+  next-is =
+      units-finite binary32 false (c + 1) k (one-up c c-lt) (more c k full) (within c k c-lt k-le)
+      ∙ ap (λ (b : ℕ). ofBits binary32 b) (regroup (k * 8388608) c ∙ ap (λ (b : ℕ). b + 1) (sym (units-bits binary32 false c k (le-of-lt c-lt) full (lt-of-le-of-lt (cut-le w) w-lt))))
+    where
+      more : (c k : ℕ) → (k ≡ 0) ⊎ (8388608 ≤ c) → (k ≡ 0) ⊎ (8388608 ≤ c + 1)
+      more c k o = elim o [ inl z ↦ inl z | inr h ↦ inr (up-one c h) ]
+        where
+          up-one : (c : ℕ) → 8388608 ≤ c → 8388608 ≤ c + 1
+          up-one c h = omega arith
+
+      within : (c k : ℕ) → c < 16777216 → k ≤ 147 → k * 8388608 + (c + 1) < 2139095040
+      within c k h g = omega arith
+
+      regroup : (a c : ℕ) → 0 + (a + (c + 1)) ≡ 0 + (a + c) + 1
+      regroup a c = omega arith
+
+  above-r : num r * den next < num next * den r
+  unfolding R c k
+  above-r = apart (num r) (den r) (num next) (den next) R ((c + 1) * 2 ^ k) (2 ^ 149) (pow-pos 149) (mul-pos (den-pos r) (den-pos next)) (cross r false R (2 ^ 149) r-value) (cross next false ((c + 1) * 2 ^ k) (2 ^ 149) next-value) (mul-lt-mul-of-pos-right (step c) (pow-pos k))
+    where
+      step : (c : ℕ) → c < c + 1
+      step c = omega arith
+
+      apart : (a d b e A B L : ℕ) → 0 < L → 0 < d * e → a * L ≡ A * d → b * L ≡ B * e → A < B → a * e < b * d
+      apart a d b e A B L P D g h l =
+          lt-of-mul-lt-mul-right L
+          (lt-of-le-of-lt (le-of-eq (mul-right-comm a e L ∙ ap (λ (z : ℕ). z * e) g ∙ mul-assoc A d e))
+          (lt-of-lt-of-le (mul-lt-mul-of-pos-right l D) (le-of-eq (ap (λ (z : ℕ). B * z) (mul-comm d e) ∙ sym (mul-assoc B e d) ∙ ap (λ (z : ℕ). z * d) (sym h) ∙ mul-right-comm b L d))))
+
+  -- r ^ 6 ≤ q < (the next f32 above r) ^ 6
+  pub sixth-between : (num (sixthRootOf q) ^ 6 * den q ≤ num q * den (sixthRootOf q) ^ 6) × (num q * den (nextUp (sixthRootOf q)) ^ 6 < num (nextUp (sixthRootOf q)) ^ 6 * den q)
+  unfolding next
+  sixth-between = (
+    sixth-largest .low,
+    subst (λ (x : Float). num q * den x ^ 6 < num x ^ 6 * den q) (next-is ∙ ap (λ (x : Float). nextUp x) is)
+        (sixth-above next (units-fits binary32 false (c + 1) k (one-up c c-lt) next-lt) (value-finite next false ((c + 1) * 2 ^ k) (2 ^ 149) next-value) (subst (λ (x : Float). num x * den next < num next * den x) is above-r)),
+  )
