@@ -8,11 +8,11 @@ use lib.IntN.{ℤ, pos, negsuc, negℤ, natAbs, _+ℤ_, _*ℤ_}
 use lib.Dec.{T, ltb}
 use lib.Pow.{pow-pos}
 use lib.Ieee.{Float, nan, inf, fin, Format, binary32, prec, emax, low, up, down, unlike, odd, units, round, sum, size, add, mul, ofBits}
-use lib.Ieee.Fits.{down-pos, round-is}
+use lib.Ieee.Fits.{round-is}
 use lib.Ieee.Order.{drop, kept}
-use lib.Ieee.Positive.{den, den-pos}
+use lib.Ieee.Positive.{den-pos}
 use lib.Ieee.Scale.{finite, round-same}
-use Rattle.rounding.specs.Nearest.{signed, signedNum, NearestTo}
+use Rattle.rounding.specs.Nearest.{signed, NearestTo}
 use Rattle.rounding.proofs.Signed.{signed-times, sumSign, sumSize, sum-rounds, sum-signed, zero-sign}
 use Rattle.rounding.proofs.Nearest.{round-nearest}
 use Rattle.leaves.specs.Single.{_⊕_, one32}

@@ -1,12 +1,12 @@
 -- What each leaf gives of f32 values is an f32. Assumes nothing.
-use mathlib.Core.Path.{_≡_, refl, sym, ap, subst}
-use mathlib.Core.Bool.{Bool, true, false, not, _||_, cond}
+use mathlib.Core.Path.{sym, subst}
+use mathlib.Core.Bool.{Bool, true, false, _||_, cond}
 use Prim.Native.Nat.{ℕ, zero, suc, _+_, _-_, _*_, _/_, _^_}
 use lib.IntN.{ℤ, pos}
-use lib.Dec.{T, ltb, ltb→lt}
-use lib.Ieee.{Float, nan, inf, fin, Format, binary32, prec, emax, low, up, down, unlike, odd, units, round, sum, neg, fits, isNan, lt, ofBits}
+use lib.Dec.{T}
+use lib.Ieee.{Float, nan, inf, fin, Format, binary32, up, down, unlike, sum, neg, fits, isNan, lt}
 use lib.Ieee.Bits.{ofBits-fits}
-use lib.Ieee.Fits.{round-fits, inf-fits, nan-fits, neg-fits, add-fits, mul-fits, cond-fits, kept-lt}
+use lib.Ieee.Fits.{round-fits, inf-fits, nan-fits, neg-fits, add-fits, cond-fits, kept-lt}
 use Rattle.rounding.specs.Roots.{root, rooted}
 use Rattle.rounding.proofs.Packing.{units-in}
 use Rattle.rounding.proofs.RootNearest.{keptRoot, keptRoot-digits, rooted-is}

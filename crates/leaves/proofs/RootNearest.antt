@@ -1,7 +1,7 @@
 -- The square root of a positive finite f32 is nearest: no other f32 is closer to the real root. Assumes nothing.
-use mathlib.Core.Path.{_≡_, refl, sym, ap, ap₂, _∙_, subst}
+use mathlib.Core.Path.{_≡_, sym, ap, ap₂, _∙_, subst}
 use mathlib.Core.Bool.{Bool, true, false}
-use Prim.Native.Nat.{ℕ, _+_, _-_, _*_, _/_, _^_, _≤_, _<_}
+use Prim.Native.Nat.{ℕ, _+_, _-_, _*_, _^_, _≤_, _<_}
 use native.Mathlib.Nat.{mul-assoc, mul-comm, mul-left-comm, mul-right-comm, mul-mul-mul-comm, add-mul, mul-pos, mul-le-mul-right, mul-lt-mul-of-pos-right, le-of-mul-le-mul-right, lt-of-mul-lt-mul-right, lt-of-lt-of-le, lt-of-le-of-lt, le-trans, le-of-eq}
 use native.Mathlib.Omega.{arith}
 use lib.Dec.{T, leb, lit≤}
@@ -10,10 +10,10 @@ use lib.Ieee.{Float, nan, inf, fin, binary32, size, units, fits, lt, toBits}
 use lib.Ieee.Bits.{is-true}
 use lib.Ieee.Digits.{size-le}
 use lib.Ieee.Exact.{HasValue, units-val}
-use lib.Ieee.Positive.{num, den, den-pos}
+use lib.Ieee.Positive.{num, den}
 use lib.Ieee.Scale.{finite}
 use Rattle.rounding.specs.Parts.{sig, place}
-use Rattle.rounding.specs.Roots.{root, rooted}
+use Rattle.rounding.specs.Roots.{root}
 use Rattle.rounding.proofs.Parts.{sig-lt}
 use Rattle.rounding.proofs.Packing.{units-fits}
 use Rattle.rounding.proofs.Roots.{root-is, square-lt}

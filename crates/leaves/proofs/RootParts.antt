@@ -1,10 +1,10 @@
 -- `sqrtOf` by the tests that the code makes, and from the digits of a pattern. Assumes nothing.
 use mathlib.Core.Path.{_≡_, refl, sym, ap, _∙_}
 use mathlib.Core.Bool.{Bool, true, false}
-use Prim.Native.Nat.{ℕ, zero, suc, _*_, _/_, _^_, _<_}
+use Prim.Native.Nat.{ℕ, suc, _*_, _/_, _^_, _<_}
 use native.Mathlib.Nat.{mul-right-comm, mul-div-cancel}
 use lib.IntN.{ℤ}
-use lib.Ieee.{Float, nan, inf, fin, binary32, up, down, lt, eq, div}
+use lib.Ieee.{Float, inf, fin, binary32, up, down, lt, eq, div}
 use lib.Ieee.Fits.{down-pos}
 use lib.Ieee.Exact.{HasValue}
 use Rattle.rounding.specs.Roots.{rooted}

@@ -1,14 +1,14 @@
 -- `sixthRootOf q` is the largest f32 whose exact sixth power is at most q, for each finite q of 0 or more. Assumes nothing.
 use mathlib.Core.Path.{_≡_, refl, sym, ap, ap₂, _∙_, subst}
 use mathlib.Core.Logic.{_⊎_, inl, inr}
-use mathlib.Core.Bool.{Bool, true, false, not, cond, _||_}
-use Prim.Native.Nat.{ℕ, zero, suc, _+_, _-_, _*_, _/_, _%_, _^_, _≤_, _<_, zero-le}
-use native.Mathlib.Nat.{mul-one, mul-comm, mul-assoc, mul-left-comm, mul-right-comm, mul-mul-mul-comm, mul-pos, zero-mul, zero-lt-suc, one-le-pow, le-trans, le-of-eq, le-of-lt, lt-of-lt-of-le, lt-of-le-of-lt, lt-of-not-le, not-le-of-lt, mul-le-mul-right, mul-le-mul-left, mul-lt-mul-of-pos-right, le-of-mul-le-mul-right, lt-of-mul-lt-mul-right, mul-le-mul, eq-zero-or-pos, le-div-iff-mul-le, eq-of-mul-eq-mul-right, pow-le-pow-left, div-add-mod'}
+use mathlib.Core.Bool.{Bool, true, false, _||_}
+use Prim.Native.Nat.{ℕ, zero, suc, _+_, _-_, _*_, _/_, _%_, _^_, _≤_, _<_}
+use native.Mathlib.Nat.{mul-one, mul-comm, mul-assoc, mul-right-comm, mul-mul-mul-comm, mul-pos, zero-mul, zero-lt-suc, one-le-pow, le-trans, le-of-eq, le-of-lt, lt-of-lt-of-le, lt-of-le-of-lt, lt-of-not-le, not-le-of-lt, mul-le-mul-right, mul-lt-mul-of-pos-right, le-of-mul-le-mul-right, lt-of-mul-lt-mul-right, mul-le-mul, eq-zero-or-pos, le-div-iff-mul-le, eq-of-mul-eq-mul-right, pow-le-pow-left, div-add-mod'}
 use native.Mathlib.Omega.{arith}
-use lib.Dec.{T, leb, ltb, eqb, eqb→eq, lt→ltb, lit<, lit≤, leb→le, nleb→lt}
-use lib.IntN.{ℤ, pos}
-use lib.Pow.{pow-add, pow-pos, pow-mono}
-use lib.Ieee.{Float, nan, inf, fin, binary32, prec, up, down, size, odd, units, fits, lt, le, toBits, ofBits}
+use lib.Dec.{T, leb, eqb, eqb→eq, lit<, lit≤}
+use lib.IntN.{ℤ}
+use lib.Pow.{pow-pos, pow-mono}
+use lib.Ieee.{Float, nan, inf, fin, binary32, up, down, size, units, fits, lt, le, toBits, ofBits}
 use lib.Ieee.Digits.{size-le}
 use lib.Ieee.Fits.{and-l, kept-lt, down-pos, up-pos}
 use lib.Ieee.Exact.{HasValue, units-val}
@@ -23,7 +23,6 @@ use Rattle.rounding.proofs.Grid.{leading, cut-most}
 use Rattle.leaves.proofs.Against.{plain, zero-is, above-zero, none}
 use Rattle.leaves.specs.Single.{zero32}
 use Rattle.leaves.specs.Sixth.{sixthIn, wholeSixth, cutTo, sixthRootOf, Largest, nextUp}
-use Rattle.leaves.specs.Power.{IsSixthRoot}
 use Rattle.leaves.proofs.SixthParts.{mul-pow, sixth-lt, whole-sixth-is, root-value}
 
 -- ---- sixth powers of fractions: n / d = X / L and p / c = A / L, with L ^ 6 = L * K

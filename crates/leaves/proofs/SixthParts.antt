@@ -1,17 +1,16 @@
 -- `root` and `sixthRootOf`: what they are, and from fewer digits. Assumes nothing.
 use mathlib.Core.Path.{_≡_, refl, sym, ap, ap₂, _∙_, subst}
-use mathlib.Core.Logic.{_⊎_, inl, inr}
-use mathlib.Core.Bool.{Bool, true, false, not, cond, _&&_, _||_, Bool·beq, true≢false}
+use mathlib.Core.Logic.{inr}
+use mathlib.Core.Bool.{Bool, true, false, not, cond}
 use Prim.Native.Nat.{ℕ, zero, suc, _+_, _-_, _*_, _/_, _%_, _^_, _≤_, _<_, zero-le}
-use native.Mathlib.Nat.{mul-one, zero-mul, mul-pos, mul-right-comm, mul-div-cancel, pow-zero, pow-suc, mul-zero, mul-suc, mul-mul-mul-comm, mul-comm, mul-assoc, div-lt-iff-lt-mul, div-eq-of-lt-le, zero-lt-suc, pow-le-pow-left, pow-lt-pow-left, lt-of-lt-of-le, lt-of-le-of-lt, lt-of-not-le, not-le-of-lt, le-trans, le-of-eq, mul-le-mul-right, mul-lt-mul-of-pos-right}
+use native.Mathlib.Nat.{mul-right-comm, mul-div-cancel, pow-zero, pow-suc, mul-zero, mul-suc, mul-mul-mul-comm, mul-assoc, div-lt-iff-lt-mul, div-eq-of-lt-le, zero-lt-suc, pow-le-pow-left, lt-of-lt-of-le, lt-of-le-of-lt, lt-of-not-le, not-le-of-lt, le-trans, le-of-eq, mul-le-mul-right, mul-lt-mul-of-pos-right}
 use native.Mathlib.Omega.{arith}
-use lib.Dec.{T, leb, ltb, eqb, leb→le, nleb→lt, eqb→eq}
-use lib.IntN.{ℤ, pos}
-use borrow.Author.Tests.{lt-ltb, ltb-true}
+use lib.Dec.{T, leb, leb→le, nleb→lt}
+use lib.IntN.{ℤ}
 use lib.Pow.{pow-add, pow-pos}
-use lib.Ieee.{Float, nan, inf, fin, Format, binary32, prec, size, units, up, down, lt, eq, div}
+use lib.Ieee.{Float, inf, fin, Format, binary32, prec, size, units, up, down, lt, eq, div}
 use lib.Ieee.Digits.{size-lt}
-use lib.Ieee.Fits.{two, two-le-pos, up-pos, down-pos}
+use lib.Ieee.Fits.{two, two-le-pos, down-pos}
 use lib.Ieee.Exact.{HasValue}
 use Rattle.leaves.proofs.Against as Against
 use Rattle.leaves.proofs.Against.{plain, positive-is, only-infinity, only-zero}

@@ -7,7 +7,7 @@ use native.Mathlib.Nat.{zero-mul, mul-one, mul-assoc, mul-comm, mul-right-comm, 
 use native.Mathlib.Omega.{arith}
 use lib.IntN.{ℤ, pos}
 use lib.Dec.{T, leb, ltb, eqb, ltb→lt, eqb→eq}
-use lib.Pow.{pow-add, pow-pos, pow-mono, pow-lt}
+use lib.Pow.{pow-add, pow-pos, pow-lt}
 use lib.Ieee.{Float, nan, inf, fin, binary32, up, down, round, le, lt, eq, fits, isNan, toBits, ofBits}
 use lib.Ieee.Fits.{and-l}
 use lib.Ieee.Exact.{HasValue}

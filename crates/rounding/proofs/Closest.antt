@@ -1,11 +1,9 @@
 -- `closest n u` is a whole number nearest to n / u, and at a tie the even one. Assumes nothing.
-use mathlib.Core.Path.{_≡_, refl, sym, ap, ap₂, _∙_, subst}
+use mathlib.Core.Path.{_≡_, sym, ap, _∙_, subst}
 use mathlib.Core.Logic.{_⊎_, inl, inr}
 use Prim.Native.Nat.{ℕ, zero, suc, _+_, _-_, _*_, _/_, _%_, _≤_, _<_, compare, Ordering, Ordering·lt, Ordering·eq, Ordering·gt}
-use native.Mathlib.Nat.{add-mul, suc-mul, mod-lt, div-add-mod', mul-le-mul-right, le-trans, le-of-eq, zero-mul, one-mul}
+use native.Mathlib.Nat.{add-mul, suc-mul, mod-lt, div-add-mod', mul-le-mul-right, le-trans, le-of-eq, one-mul}
 use native.Mathlib.Omega.{arith}
-use mathlib.Core.Bool.{Bool, true, false, not}
-use lib.Dec.{T, leb, leb→le, nleb→lt}
 use lib.Ieee.{nearest}
 use lib.Ieee.Nearest.{closest}
 use Rattle.rounding.proofs.Halves.{Cmp, cmp}

@@ -6,7 +6,7 @@ pub mod Values
 pub mod Sums
 pub mod Lifts
 pub mod Roots
-pub mod Near
+pub mod RootTest
 pub mod Signed
 pub mod Grid
 pub mod Closest

@@ -3,15 +3,14 @@
 -- takes a nearest; or it lies below 2 ^ (prec - 1 + k), itself a multiple of 2 ^ k that n / b reaches, and so is farther still. Assumes nothing.
 use mathlib.Core.Path.{_≡_, refl, sym, ap, ap₂, _∙_, subst}
 use mathlib.Core.Logic.{_⊎_, inl, inr}
-use mathlib.Core.Bool.{Bool, true, false, not, Bool·beq, cond}
-use Prim.Native.Nat.{ℕ, zero, suc, _+_, _-_, _*_, _/_, _%_, _^_, _≤_, _<_, compare}
-use native.Mathlib.Nat.{mul-assoc, mul-comm, mul-right-comm, mul-pos, mul-lt-mul-of-pos-right, mul-le-mul-right, le-of-mul-le-mul-right, eq-of-mul-eq-mul-right, zero-mul, pow-suc, div-mul-le-self, div-div-eq-div-mul, le-div-iff-mul-le, lt-of-lt-of-le, le-trans, le-of-eq, eq-zero-or-pos}
+use mathlib.Core.Bool.{Bool, true, false, cond}
+use Prim.Native.Nat.{ℕ, suc, _+_, _-_, _*_, _/_, _%_, _^_, _≤_, _<_, compare}
+use native.Mathlib.Nat.{mul-assoc, mul-comm, mul-right-comm, mul-pos, mul-lt-mul-of-pos-right, mul-le-mul-right, le-of-mul-le-mul-right, eq-of-mul-eq-mul-right, zero-mul, pow-suc, div-mul-le-self, div-div-eq-div-mul, le-div-iff-mul-le, le-trans, le-of-eq, eq-zero-or-pos}
 use native.Mathlib.Omega.{arith}
-use lib.IntN.{ℤ, pos, negℤ, natAbs, _-ℤ_, _*ℤ_}
+use lib.IntN.{ℤ, pos, natAbs, _-ℤ_, _*ℤ_}
 use lib.Dec.{T, leb, ltb, ltb→lt}
-use lib.Pow.{pow-add, pow-pos, pow-mono}
-use lib.Ieee.{Float, nan, inf, fin, Format, prec, emax, low, up, down, size, odd, units, round, fits, hid, ones, top, toBits}
-use lib.Ieee.Digits.{size-reaches}
+use lib.Pow.{pow-pos}
+use lib.Ieee.{Float, nan, inf, fin, Format, prec, low, up, down, odd, units, round, fits, hid, ones, top, toBits}
 use lib.Ieee.Fits.{two, two-le-pos, round-is, round-fits, kept-lt, nearest-le}
 use lib.Ieee.Exact.{HasValue, units-val}
 use lib.Ieee.Nearest.{closest, nearest-ge}
@@ -22,7 +21,7 @@ use Rattle.rounding.specs.Parts.{sig, place}
 use Rattle.rounding.specs.Nearest.{signed, signedNum, farFrom, NearestTo}
 use Rattle.rounding.proofs.Parts.{sig-lt}
 use Rattle.rounding.proofs.Packing.{units-bits}
-use Rattle.rounding.proofs.Values.{cross, value-finite, worth, worth-value}
+use Rattle.rounding.proofs.Values.{cross, worth, worth-value}
 use Rattle.rounding.proofs.Signed.{gap, apart, apart-is, apart-scale, signed-times}
 use Rattle.rounding.proofs.Grid.{leading, on-grid}
 use Rattle.rounding.proofs.Closest.{closest-near, closest-tie}

@@ -1,16 +1,16 @@
 -- Laws of `sig` and `place`: what a pattern's parts are worth, their bounds, and how code has them by shifts and masks. Assumes nothing.
 use mathlib.Core.Path.{_≡_, refl, sym, ap, ap₂, _∙_, subst}
 use mathlib.Core.Logic.{_⊎_, inl, inr}
-use Prim.Native.Nat.{ℕ, zero, suc, _+_, _-_, _*_, _/_, _%_, _^_, _≤_, _<_, zero-le}
+use Prim.Native.Nat.{ℕ, zero, suc, _+_, _-_, _*_, _/_, _%_, _^_, _≤_, _<_}
 use native.Mathlib.Nat.{pow-suc, zero-add, mul-comm, mul-pos, zero-lt-suc, mod-lt, div-lt-iff-lt-mul, le-add-right}
 use native.Mathlib.Omega.{arith}
-use mathlib.Core.Bool.{Bool, true, false, not, cond}
+use mathlib.Core.Bool.{Bool, true, false, cond}
 use lib.Dec.{T, leb, eqb, eqb·suc-zero}
 use lib.Pow as Pow
 use lib.Pow.{pow-pos}
 use lib.Bits.{bitAnd, and-mask}
 use borrow.Author.Tests.{eq-eqb, ne-eqb}
-use lib.Ieee.{Float, nan, inf, fin, Format, prec, emax, low, odd, fits, hid, ones, top, toBits, ofBits, ofFields}
+use lib.Ieee.{Float, nan, inf, Format, prec, emax, low, odd, fits, hid, ones, top, toBits, ofBits, ofFields}
 use lib.Ieee.Fits.{two, two-le-pos}
 use lib.Ieee.Bits.{ofBits-toBits}
 use lib.Ieee.Exact.{HasValue, odd-sign}

@@ -4,10 +4,10 @@ use mathlib.Core.Path.{_≡_, refl, sym, ap, ap₂, _∙_, subst}
 use mathlib.Core.Logic.{_⊎_, inl, inr}
 use mathlib.Core.Bool.{false}
 use Prim.Native.Nat.{ℕ, zero, suc, _+_, _-_, _*_, _/_, _%_, _^_, _≤_, _<_, compare, Ordering, Ordering·lt, Ordering·eq, Ordering·gt}
-use native.Mathlib.Nat.{mul-assoc, mul-comm, mul-mul-mul-comm, mul-le-mul, mul-le-mul-right, add-mul, one-mul, suc-mul, div-mul-le-self, div-add-mod', mod-lt, le-div-iff-mul-le, le-trans, le-of-eq, le-of-lt, lt-of-lt-of-le}
+use native.Mathlib.Nat.{mul-assoc, mul-comm, mul-mul-mul-comm, mul-le-mul, mul-le-mul-right, add-mul, one-mul, suc-mul, div-mul-le-self, div-add-mod', mod-lt, le-div-iff-mul-le, le-trans, le-of-eq, le-of-lt}
 use native.Mathlib.Omega.{arith}
 use lib.Pow.{pow-pos}
-use lib.Ieee.{Float, Format, prec, size, nearest, units}
+use lib.Ieee.{Format, prec, size, nearest, units}
 use lib.Ieee.Fits.{two, two-le-pos, nearest-le, kept-lt}
 use Rattle.rounding.specs.Roots.{root, rooted}
 use Rattle.rounding.proofs.Halves.{Cmp, cmp}

@@ -2,12 +2,12 @@
 use mathlib.Core.Path.{_≡_, refl, sym, ap, ap₂, _∙_, subst}
 use mathlib.Core.Logic.{_⊎_, inl, inr}
 use Prim.Native.Nat.{ℕ, zero, suc, _+_, _-_, _*_, _/_, _%_, _^_, _≤_, _<_, zero-le, compare, Ordering, Ordering·lt, Ordering·eq, Ordering·gt}
-use native.Mathlib.Nat.{div-add-mod', mod-lt, mul-assoc, mul-comm, mul-left-comm, mul-mul-mul-comm, mul-pos, pow-suc, mul-le-mul, mul-lt-mul-of-pos-right, div-div-eq-div-mul, div-lt-iff-lt-mul, div-eq-of-lt-le, lt-of-lt-of-le, lt-of-le-of-lt, lt-of-not-le, not-le-of-lt, le-of-lt, le-trans, le-of-eq, le-refl, mul-le-mul-right, add-mul, mul-add, one-mul, mul-one, zero-lt-suc, eq-or-lt-of-le, pow-le-pow-left}
+use native.Mathlib.Nat.{mod-lt, mul-assoc, mul-mul-mul-comm, mul-pos, pow-suc, mul-le-mul, mul-lt-mul-of-pos-right, div-div-eq-div-mul, div-lt-iff-lt-mul, div-eq-of-lt-le, lt-of-lt-of-le, lt-of-le-of-lt, lt-of-not-le, not-le-of-lt, le-trans, le-of-eq, mul-le-mul-right, zero-lt-suc, eq-or-lt-of-le, pow-le-pow-left}
 use native.Mathlib.Omega.{arith}
 use mathlib.Core.Bool.{Bool, true, false, not, cond}
 use lib.Dec.{T, leb, leb→le, nleb→lt}
-use lib.Pow.{pow-add, pow-pos, pow-mono}
-use lib.Ieee.{Float, Format, prec, low, size, nearest, units}
+use lib.Pow.{pow-pos}
+use lib.Ieee.{Format, prec, low, size, nearest, units}
 use lib.Ieee.Digits.{size-lt}
 use lib.Ieee.Fits.{two, two-le-pos}
 use Rattle.rounding.specs.Halves.{halve}

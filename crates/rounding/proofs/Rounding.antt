@@ -1,18 +1,17 @@
 -- The rounding fact: `round` from a number of halves of the last digit that stays, and whether anything lies above them. Assumes nothing.
-use mathlib.Core.Path.{_≡_, refl, sym, ap, ap₂, _∙_, subst}
+use mathlib.Core.Path.{_≡_, sym, ap, ap₂, _∙_, subst}
 use mathlib.Core.Logic.{_⊎_, inl, inr}
-use Prim.Native.Nat.{ℕ, zero, suc, _+_, _-_, _*_, _/_, _%_, _^_, _≤_, _<_, zero-le, _∣_}
-use native.Mathlib.Nat.{div-add-mod', mod-lt, mul-assoc, mul-comm, mul-left-comm, mul-right-comm, mul-pos, pow-suc, mul-div-mul-right, div-div-eq-div-mul, div-lt-iff-lt-mul, le-div-iff-mul-le, lt-of-lt-of-le, lt-of-not-le, not-le-of-lt, le-antisymm, mul-le-mul-right, zero-lt-suc, zero-mul, eq-zero-or-pos, lt-irrefl, mul-lt-mul-of-pos-right, add-mul, add-sub-of-le, le-trans, lt-of-le-of-lt, le-add-right, mod-mod-of-dvd, dvd-mul-right, zero-mod}
+use Prim.Native.Nat.{ℕ, suc, _+_, _-_, _*_, _/_, _%_, _^_, _≤_, _<_, zero-le, _∣_}
+use native.Mathlib.Nat.{div-add-mod', mod-lt, mul-assoc, mul-comm, mul-right-comm, mul-pos, pow-suc, mul-div-mul-right, div-div-eq-div-mul, div-lt-iff-lt-mul, le-div-iff-mul-le, lt-of-lt-of-le, lt-of-not-le, not-le-of-lt, le-antisymm, zero-lt-suc, zero-mul, eq-zero-or-pos, lt-irrefl, mul-lt-mul-of-pos-right, add-mul, add-sub-of-le, le-trans, lt-of-le-of-lt, le-add-right, mod-mod-of-dvd, dvd-mul-right, zero-mod}
 use native.Mathlib.Omega.{arith}
-use mathlib.Core.Bool.{Bool, true, false, not}
-use lib.Dec.{T}
-use lib.Arith.{digits-div, digits-mod}
+use mathlib.Core.Bool.{Bool}
+use lib.Arith.{digits-mod}
 use lib.Pow.{pow-add, pow-pos, pow-mono, shr-shr}
-use lib.Ieee.{Float, Format, prec, emax, low, size, units, round}
+use lib.Ieee.{Format, prec, low, size, units, round}
 use lib.Ieee.Digits.{size-lt, size-le, size-reaches}
 use lib.Ieee.Fits.{round-is, two, two-le-pos, kept-lt}
 use lib.Ieee.Nearest.{closest}
-use lib.Ieee.Order.{drop, kept}
+use lib.Ieee.Order.{drop}
 use Rattle.rounding.specs.Halves.{halve}
 use Rattle.rounding.proofs.Halves.{closest-halves, halve-sticky}
 

@@ -1,11 +1,11 @@
 -- `leaves::parts::cut` meets its contract. Assumes nothing.
-use mathlib.Core.Path.{_≡_, refl, sym, ap, ap₂, _∙_, subst}
+use mathlib.Core.Path.{_≡_, sym, ap, _∙_}
 use mathlib.Core.Logic.{_⊎_, inl, inr, ⊎-elim}
-use Prim.Native.Nat.{ℕ, suc, _+_, _-_, _*_, _/_, _%_, _^_, _≤_, _<_, zero-le}
+use Prim.Native.Nat.{ℕ, suc, _-_, _*_, _/_, _%_, _^_, _≤_, _<_}
 use native.Mathlib.Nat.{div-mul-le-self, mod-eq-of-lt, mod-eq-sub-div-mul, lt-of-le-of-lt, le-trans, le-of-eq}
 use native.Mathlib.Omega.{arith}
 use borrow.Author.Needs.{needs}
-use lib.Ieee.{Float, binary32, units}
+use lib.Ieee.{binary32, units}
 use Rattle.rounding.specs.Halves.{halve}
 use Rattle.rounding.proofs.Halves.{halve-le, halve-ge}
 use Rattle.leaves.proofs.parts.cut.Statement.{statement}

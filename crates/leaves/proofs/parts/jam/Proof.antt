@@ -1,8 +1,8 @@
 -- `leaves::parts::jam` meets its contract: where something is lost, the result is odd, so it and x lie between the same two multiples of 2 ^ (d + 1). Assumes nothing.
-use mathlib.Core.Path.{_≡_, refl, sym, ap, ap₂, _∙_, subst}
-use mathlib.Core.Logic.{_⊎_, inl, inr}
+use mathlib.Core.Path.{_≡_, refl, sym, ap, ap₂, _∙_}
+use mathlib.Core.Logic.{inl, inr}
 use Prim.Native.Nat.{ℕ, suc, _+_, _-_, _*_, _/_, _%_, _^_, _≤_, _<_, zero-le}
-use native.Mathlib.Nat.{zero-mul, one-mul, mul-assoc, mul-comm, mul-left-comm, add-mul, pow-suc, div-mul-le-self, div-le-self, div-add-mod', mod-lt, mod-eq-of-lt, lt-of-lt-of-le, lt-of-le-of-lt, le-trans, le-refl, le-add-left}
+use native.Mathlib.Nat.{zero-mul, one-mul, mul-assoc, mul-comm, mul-left-comm, add-mul, pow-suc, div-mul-le-self, div-le-self, div-add-mod', mod-lt, mod-eq-of-lt, lt-of-lt-of-le, lt-of-le-of-lt, le-refl, le-add-left}
 use native.Mathlib.Omega.{arith}
 use borrow.Author.Needs.{needs}
 use lib.Pow.{pow-pos, pow-mono}

@@ -1,11 +1,10 @@
 -- `leaves::root::settle` meets its contract. The first loop ends with n ≤ r * r + r, which the second keeps; the second's test is the rest. The measures: how far r is from its bound, and r. Assumes nothing.
-use mathlib.Core.Path.{_≡_, refl, sym, subst}
+use mathlib.Core.Path.{_≡_, subst}
 use Prim.Native.Nat.{ℕ, zero, suc, _+_, _-_, _*_, _<_, _≤_}
-use native.Mathlib.Nat.{mul-le-mul, le-of-lt, lt-of-le-of-lt}
+use native.Mathlib.Nat.{mul-le-mul, le-of-lt}
 use native.Mathlib.Omega.{arith}
 use Rattle.rounding.proofs.Roots.{square-lt}
-use Rattle.rounding.specs.Roots.{IsNear}
-use Rattle.rounding.proofs.Near.{square-suc}
+use Rattle.rounding.proofs.RootTest.{square-suc}
 use Rattle.leaves.proofs.root.settle.Statement.{statement}
 use Rattle.leaves.proofs.root.settle.Tie as tie
 

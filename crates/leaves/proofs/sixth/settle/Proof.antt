@@ -1,12 +1,11 @@
 -- `leaves::sixth::settle` meets its contract. The invariant: the root lies from lo up to hi. The measure is hi - lo. Assumes nothing.
-use mathlib.Core.Path.{_≡_, sym, ap, _∙_, subst}
+use mathlib.Core.Path.{_≡_, sym, _∙_, subst}
 use Prim.Native.Nat.{ℕ, _+_, _-_, _*_, _/_, _^_, _≤_, _<_, zero-le}
-use native.Mathlib.Nat.{mul-lt-mul-of-pos-right, lt-of-lt-of-le}
+use native.Mathlib.Nat.{mul-lt-mul-of-pos-right}
 use native.Mathlib.Omega.{arith}
 use borrow.Author.Tests.{leb-true, leb-false}
 use lib.Dec.{lit<, lit≤}
 use lib.Pow.{pow-pos}
-use Rattle.leaves.specs.Power.{IsSixthRoot}
 use Rattle.leaves.proofs.sixth.settle.Statement.{statement}
 use Rattle.leaves.proofs.sixth.settle.Tie as tie
 

@@ -1,15 +1,13 @@
 -- `leaves::whole::whole_up` meets its contract. Assumes nothing.
-use mathlib.Core.Path.{_≡_, refl, sym, ap, ap₂, _∙_, subst}
-use mathlib.Core.Bool.{Bool, true, false}
-use Prim.Native.Nat.{ℕ, suc, _+_, _-_, _*_, _/_, _%_, _^_, _<_, _≤_}
+use mathlib.Core.Path.{_≡_, refl, sym, _∙_}
+use mathlib.Core.Bool.{true, false}
+use Prim.Native.Nat.{ℕ, _+_, _-_, _/_, _^_, _≤_}
 use native.Mathlib.Omega.{arith}
 use borrow.Author.Needs.{needs}
-use mathlib.Core.Logic.{_⊎_, inl, inr}
 use native.Mathlib.Nat.{lt-of-le-of-lt, lt-of-lt-of-le, le-of-eq}
 use lib.Dec.{T, leb, lit≤}
 use lib.Pow.{pow-pos}
-use lib.Ieee.{Float, binary32, fits, isNan, le, toBits}
-use lib.Ieee.Exact.{HasValue}
+use lib.Ieee.{Float, binary32, fits, le, toBits}
 use Rattle.rounding.specs.Parts.{sig, place}
 use Rattle.rounding.proofs.Parts.{sig-lt, leads, decode}
 use Rattle.leaves.specs.Single.{zero32}
