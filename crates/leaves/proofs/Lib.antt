@@ -1,3 +1,4 @@
+pub mod Shifts
 pub mod Against
 pub mod Signs
 pub mod WholeUp

@@ -18,7 +18,7 @@ use Rattle.rounding.proofs.Parts.{sig-lt}
 use Rattle.rounding.proofs.Packing.{units-fits}
 use Rattle.rounding.proofs.Roots.{root-is, square-lt}
 use Rattle.rounding.proofs.RootNearest.{keptRoot, keptRoot-le, keptRoot-digits, rooted-is, root-sides}
-use Rattle.rounding.proofs.Values.{cross, value-finite, worth, worth-value, worth-lt}
+use Rattle.rounding.proofs.Values.{cross, value-finite, worth, worth-value, worth-cross, worth-lt}
 use Rattle.leaves.specs.Single.{zero32}
 use Rattle.leaves.specs.Small.{negativeOf}
 use Rattle.leaves.specs.Sqrt.{sqrt32, middle, NearestRoot}
@@ -118,11 +118,11 @@ module _ (x : Float) (F : T (fits binary32 x)) (g : T (finite x)) (P : T (lt zer
   r-cross = cross (sqrt32 x) false R (2 ^ 149) r-value
 
   x-cross : num x * 2 ^ 149 ≡ worth binary32 x * den x
-  x-cross = cross x (leb 2147483648 (toBits binary32 x)) (worth binary32 x) (2 ^ 149) (worth-value binary32 x F g)
+  x-cross = worth-cross binary32 x F g
 
   module _ (y : Float) (G : T (fits binary32 y)) (h : T (finite y)) where
     y-cross : num y * 2 ^ 149 ≡ worth binary32 y * den y
-    y-cross = cross y (leb 2147483648 (toBits binary32 y)) (worth binary32 y) (2 ^ 149) (worth-value binary32 y G h)
+    y-cross = worth-cross binary32 y G h
 
     below : num y * den (sqrt32 x) < num (sqrt32 x) * den y → middle (sqrt32 x) y * middle (sqrt32 x) y * den x ≤ num x * (2 * (den (sqrt32 x) * den y) * (2 * (den (sqrt32 x) * den y)))
     unfolding M W R N worth

@@ -17,13 +17,14 @@ use lib.Ieee.Scale.{finite}
 use lib.Ieee.Positive.{num, den, den-pos}
 use Rattle.rounding.specs.Parts.{sig, place}
 use Rattle.rounding.proofs.Parts.{sig-lt}
-use Rattle.rounding.proofs.Values.{cross, value-finite, worth, worth-value, worth-lt}
+use Rattle.rounding.proofs.Values.{cross, value-finite, worth, worth-value, worth-cross, worth-lt}
 use Rattle.rounding.proofs.Packing.{units-fits, units-bits, units-finite}
+use Rattle.rounding.proofs.Basics.{le-of-lt-one, mul-pow}
 use Rattle.rounding.proofs.Grid.{leading, cut-most}
 use Rattle.leaves.proofs.Against.{plain, zero-is, above-zero, none}
 use Rattle.leaves.specs.Single.{zero32}
 use Rattle.leaves.specs.Sixth.{sixthIn, wholeSixth, cutTo, sixthRootOf, Largest, nextUp}
-use Rattle.leaves.proofs.SixthParts.{mul-pow, sixth-lt, whole-sixth-is, root-value}
+use Rattle.leaves.proofs.SixthParts.{sixth-lt, whole-sixth-is, root-value}
 
 -- ---- sixth powers of fractions: n / d = X / L and p / c = A / L, with L ^ 6 = L * K
 module _ (n d p c X A L K : ℕ) (x : n * L ≡ X * d) (y : p * L ≡ A * c) (k : L ^ 6 ≡ L * K) where
@@ -122,7 +123,7 @@ module _ (q : Float) (F : T (fits binary32 q)) (f : T (finite q)) (Q : T (le zer
   r-value = cut-value w w-lt
 
   q-cross : num q * 2 ^ 149 ≡ worth binary32 q * den q
-  q-cross = cross q (leb 2147483648 (toBits binary32 q)) (worth binary32 q) (2 ^ 149) (worth-value binary32 q F f)
+  q-cross = worth-cross binary32 q F f
 
   r-low : num r ^ 6 * den q ≤ num q * den r ^ 6
   unfolding R w N
@@ -133,15 +134,12 @@ module _ (q : Float) (F : T (fits binary32 q)) (f : T (finite q)) (Q : T (le zer
   r-most x G g h =
       let X = worth binary32 x in
       let b = toBits binary32 x in
-      let xc : num x * 2 ^ 149 ≡ X * den x = cross x (leb 2147483648 b) X (2 ^ 149) (worth-value binary32 x G g) in
+      let xc : num x * 2 ^ 149 ≡ X * den x = worth-cross binary32 x G g in
       let rc : num r * 2 ^ 149 ≡ R * den r = cross r false R (2 ^ 149) r-value in
       let X6 : X ^ 6 ≤ worth binary32 q * 2 ^ 745 = raise (num x) (den x) (num q) (den q) X (worth binary32 q) (2 ^ 149) (2 ^ 745) xc q-cross refl (mul-pos (one-le-pow 6 (den x) (den-pos x)) (den-pos q)) h in
       let Xw : X ≤ w = le-of-lt-one X w (sixth-lt X (w + 1) N X6 (whole-sixth-is N .1)) in
       let XR : X ≤ R = cut-most 24 w (lit< tt) (sig binary32 b) (place binary32 b) (sig-lt binary32 b) Xw in
       transfer (num x) (num r) (den x) (den r) X R (2 ^ 149) (2 ^ 149) (pow-pos 149) (pow-pos 149) xc rc (mul-le-mul-right (2 ^ 149) XR)
-    where
-      le-of-lt-one : (a b : ℕ) → a < b + 1 → a ≤ b
-      le-of-lt-one a b l = omega arith
 
   is : r ≡ sixthRootOf q
   unfolding r w N

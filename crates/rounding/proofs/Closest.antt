@@ -7,7 +7,7 @@ use native.Mathlib.Omega.{arith}
 use lib.Ieee.{nearest}
 use lib.Ieee.Nearest.{closest}
 use Rattle.rounding.proofs.Halves.{Cmp, cmp}
-use Rattle.rounding.proofs.Grid.{le-or-lt}
+use Rattle.rounding.proofs.Basics.{le-or-lt}
 use Rattle.rounding.proofs.Signed.{gap}
 
 -- n is q * u and r more. P is q * u, and A is another multiple Y * u: the same, or at least u below or above

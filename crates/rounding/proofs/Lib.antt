@@ -1,3 +1,4 @@
+pub mod Basics
 pub mod Halves
 pub mod Rounding
 pub mod Packing

@@ -11,7 +11,8 @@ use lib.Ieee.{Format, prec, size, nearest, units}
 use lib.Ieee.Fits.{two, two-le-pos, nearest-le, kept-lt}
 use Rattle.rounding.specs.Roots.{root, rooted}
 use Rattle.rounding.proofs.Halves.{Cmp, cmp}
-use Rattle.rounding.proofs.Grid.{le-or-lt, on-grid}
+use Rattle.rounding.proofs.Grid.{on-grid}
+use Rattle.rounding.proofs.Basics.{le-or-lt}
 use Rattle.rounding.proofs.Roots.{root-is}
 
 -- the root lies on R's side of the middle between R and Y

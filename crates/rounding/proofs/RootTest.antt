@@ -38,7 +38,7 @@ one-less n t h = last (t * t) ((t + 1) * (t + 1)) (square-suc t) h
     last : (a b : ℕ) → b ≡ a + t + t + 1 → b < n + (t + 1) → a + t < n
     last a b e h = omega arith
 
-under : (n t : ℕ) → n < 281474976710656 → t * t + t < n → t < 16777216
+pub under : (n t : ℕ) → n < 281474976710656 → t * t + t < n → t < 16777216
 under n t hi h = square-lt t 16777216 n (first (t * t) h) hi
   where
     first : (a : ℕ) → a + t < n → a ≤ n
