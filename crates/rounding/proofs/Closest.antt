@@ -27,7 +27,7 @@ off u q Y = elim (le-or-lt Y q) [
     same h k = omega arith
 
 module _ (n u P r A : ℕ) (e : P + r ≡ n) (l : r < u) where
-  near-down : r * 2 < u → Off u P A → gap P n ≤ gap A n
+  near-down : r * 2 ≤ u → Off u P A → gap P n ≤ gap A n
   near-down h o = elim o [ inl z ↦ a z | inr z ↦ elim z [ inl y ↦ b y | inr y ↦ c y ] ]
     where
       a : A ≡ P → gap P n ≤ gap A n
@@ -49,18 +49,6 @@ module _ (n u P r A : ℕ) (e : P + r ≡ n) (l : r < u) where
       b z = omega (arith, e, l, h)
 
       c : P + u ≤ A → gap (P + u) n ≤ gap A n
-      c z = omega (arith, e, l, h)
-
-  near-level : r * 2 ≡ u → Off u P A → gap P n ≤ gap A n
-  near-level h o = elim o [ inl z ↦ a z | inr z ↦ elim z [ inl y ↦ b y | inr y ↦ c y ] ]
-    where
-      a : A ≡ P → gap P n ≤ gap A n
-      a z = omega (arith, e, l, h)
-
-      b : A + u ≤ P → gap P n ≤ gap A n
-      b z = omega (arith, e, l, h)
-
-      c : P + u ≤ A → gap P n ≤ gap A n
       c z = omega (arith, e, l, h)
 
   no-tie-down : r * 2 < u → Off u P A → gap P n ≡ gap A n → A ≡ P
@@ -112,6 +100,12 @@ module _ (n u : ℕ) (U : 0 < u) where
       o : Off u (n / u * u) (Y * u)
       o = off u (n / u) Y
 
+      less : n % u * 2 < u → n % u * 2 ≤ u
+      less h = omega arith
+
+      even : n % u * 2 ≡ u → n % u * 2 ≤ u
+      even h = omega arith
+
       half : u < n % u * 2 → u ≤ n % u * 2
       half h = omega arith
 
@@ -119,10 +113,10 @@ module _ (n u : ℕ) (U : 0 < u) where
       level h = omega arith
 
       go : (c : Ordering) → Cmp c (n % u * 2) u → gap (nearest (n / u) c * u) n ≤ gap (Y * u) n
-      go Ordering·lt h = near-down n u (n / u * u) (n % u) (Y * u) split (mod-lt n U) h o
+      go Ordering·lt h = near-down n u (n / u * u) (n % u) (Y * u) split (mod-lt n U) (less h) o
       go Ordering·gt h = subst (λ (B : ℕ). gap B n ≤ gap (Y * u) n) (sym (suc-mul (n / u) u)) (near-up n u (n / u * u) (n % u) (Y * u) split (mod-lt n U) (half h) o)
       go Ordering·eq h = elim (plus-last (n / u) u (n / u % 2) (last-lt (n / u))) [
-        | inl z ↦ subst (λ (B : ℕ). gap B n ≤ gap (Y * u) n) (sym z) (near-level n u (n / u * u) (n % u) (Y * u) split (mod-lt n U) h o)
+        | inl z ↦ subst (λ (B : ℕ). gap B n ≤ gap (Y * u) n) (sym z) (near-down n u (n / u * u) (n % u) (Y * u) split (mod-lt n U) (even h) o)
         | inr z ↦ subst (λ (B : ℕ). gap B n ≤ gap (Y * u) n) (sym z) (near-up n u (n / u * u) (n % u) (Y * u) split (mod-lt n U) (level h) o)
       ]
 
