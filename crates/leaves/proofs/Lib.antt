@@ -7,6 +7,7 @@ pub mod FmaNearest
 pub mod RootParts
 pub mod RootNearest
 pub mod LimbLaws
+pub mod Halving
 pub mod SixthParts
 pub mod SixthLargest
 pub mod Held
