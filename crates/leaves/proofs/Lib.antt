@@ -1,5 +1,5 @@
 pub mod Shifts
-pub mod Against
+pub mod Comparisons
 pub mod Signs
 pub mod WholeUp
 pub mod FmaParts
@@ -10,4 +10,4 @@ pub mod LimbLaws
 pub mod Halving
 pub mod SixthParts
 pub mod SixthLargest
-pub mod Held
+pub mod Fits

@@ -22,7 +22,7 @@ use Rattle.rounding.proofs.Values.{cross, value-finite, worth, worth-value, wor
 use Rattle.leaves.specs.Single.{zero32}
 use Rattle.leaves.specs.Small.{negativeOf}
 use Rattle.leaves.specs.Sqrt.{sqrt32, middle, NearestRoot}
-use Rattle.leaves.proofs.Against.{above}
+use Rattle.leaves.proofs.Comparisons.{above}
 use Rattle.leaves.proofs.RootParts.{root-value}
 
 -- ---- fractions: r = R / L, y = Y / L, x = A / L

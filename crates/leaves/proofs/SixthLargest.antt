@@ -21,7 +21,7 @@ use Rattle.rounding.proofs.Values.{cross, value-finite, worth, worth-value, wor
 use Rattle.rounding.proofs.Packing.{units-fits, units-bits, units-finite}
 use Rattle.rounding.proofs.Basics.{le-of-lt-one, mul-pow}
 use Rattle.rounding.proofs.Grid.{leading, cut-most}
-use Rattle.leaves.proofs.Against.{plain, zero-is, above-zero, none}
+use Rattle.leaves.proofs.Comparisons.{plain, zero-is, above-zero, none}
 use Rattle.leaves.specs.Single.{zero32}
 use Rattle.leaves.specs.Sixth.{sixthIn, wholeSixth, cutTo, sixthRootOf, Largest, nextUp}
 use Rattle.leaves.proofs.SixthParts.{sixth-lt, whole-sixth-is, root-value}

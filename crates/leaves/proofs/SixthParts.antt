@@ -12,8 +12,8 @@ use lib.Ieee.{Float, inf, fin, Format, binary32, prec, size, units, up, down, lt
 use lib.Ieee.Digits.{size-lt}
 use lib.Ieee.Fits.{two, two-le-pos, down-pos}
 use lib.Ieee.Exact.{HasValue}
-use Rattle.leaves.proofs.Against as Against
-use Rattle.leaves.proofs.Against.{plain, positive-is, only-infinity, only-zero}
+use Rattle.leaves.proofs.Comparisons as Comparisons
+use Rattle.leaves.proofs.Comparisons.{plain, positive-is, only-infinity, only-zero}
 use Rattle.rounding.proofs.Basics.{le-of-lt-one, mul-pow, pow-pow}
 use Rattle.rounding.proofs.Rounding.{size-at}
 use Rattle.leaves.specs.Sixth.{sixthIn, wholeSixth, cutTo, sixthRootOf}
@@ -134,4 +134,4 @@ at-zero x h = let z = only-zero x h in sym (ap sixthRootOf (z .2))
 
 pub elsewhere : (x : Float) → lt plain x ≡ false → eq x plain ≡ false → div binary32 plain plain ≡ sixthRootOf x
 unfolding div sixthRootOf
-elsewhere x h k = sym (Against.elsewhere sixthRootOf refl refl (λ m e. refl) x h k)
+elsewhere x h k = sym (Comparisons.elsewhere sixthRootOf refl refl (λ m e. refl) x h k)

@@ -20,7 +20,7 @@ use Rattle.rounding.proofs.Values.{cross}
 use Rattle.leaves.specs.Single.{zero32}
 use Rattle.leaves.specs.Small.{ceilOf}
 use Rattle.leaves.specs.Whole.{limit32, wholeUpOf}
-use Rattle.leaves.proofs.Against.{plain, zero-is, no}
+use Rattle.leaves.proofs.Comparisons.{plain, zero-is, no}
 
 -- ---- t / w up to a whole number
 up-bounds : (t w : ℕ) → 0 < w → (t ≤ (t + w - 1) / w * w) × ((t + w - 1) / w * w < t + w)

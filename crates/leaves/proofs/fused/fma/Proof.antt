@@ -5,7 +5,7 @@ use borrow.Author.Needs.{needs}
 use borrow.Author.Tests.{not-true, not-false}
 use lib.Ieee.Scale.{finite}
 use Rattle.leaves.proofs.FmaParts.{fma-bits, first-not, second-not, third-not}
-use Rattle.leaves.proofs.Against.{held, finite-no-nan}
+use Rattle.leaves.proofs.Comparisons.{held, finite-no-nan}
 use Rattle.leaves.proofs.fused.fma.Statement.{statement}
 use Rattle.leaves.proofs.fused.fma.Tie as tie
 

@@ -8,7 +8,7 @@ use borrow.Author.Tests.{lt-ltb, le-ltb}
 use lib.Ieee.{Float, nan, binary32, div, ofBits}
 use lib.Ieee.Bits.{nanBits-is, nanBits-above}
 use Rattle.leaves.specs.Bits.{floatOf}
-use Rattle.leaves.proofs.Against.{plain, zero-is}
+use Rattle.leaves.proofs.Comparisons.{plain, zero-is}
 use Rattle.leaves.proofs.Signs.{is-nan}
 use Rattle.leaves.proofs.pattern.from_bits.Statement.{statement}
 use Rattle.leaves.proofs.pattern.from_bits.Tie as tie

@@ -10,7 +10,7 @@ use lib.Ieee.{Float, binary32, lt, div, nanBits, toBits}
 use Rattle.rounding.specs.Parts.{sig, place}
 use Rattle.rounding.proofs.Parts.{sig-lt, place-le}
 use Rattle.rounding.specs.Roots.{rooted}
-use Rattle.leaves.proofs.Against.{plain, zero-is, above, under, level, held, above-no-nan, sig-pos, bits-value}
+use Rattle.leaves.proofs.Comparisons.{plain, zero-is, above, under, level, held, above-no-nan, sig-pos, bits-value}
 use Rattle.leaves.proofs.RootParts.{root-value, at-infinity, at-zero, elsewhere}
 use Rattle.leaves.proofs.root.sqrt.Statement.{statement}
 use Rattle.leaves.proofs.root.sqrt.Tie as tie

@@ -12,7 +12,7 @@ use lib.Ieee.Scale.{finite}
 use lib.Pow.{pow-pos}
 use Rattle.rounding.specs.Parts.{sig, place}
 use Rattle.rounding.proofs.Parts.{sig-lt, place-le}
-use Rattle.leaves.proofs.Against.{held, yes, finite-no-nan}
+use Rattle.leaves.proofs.Comparisons.{held, yes, finite-no-nan}
 use Rattle.leaves.proofs.WholeUp.{pattern-value, not-finite, ceil-below, ceil-above, ceil-whole, up-le}
 use Rattle.leaves.proofs.whole.ceil.Statement.{statement}
 use Rattle.leaves.proofs.whole.ceil.Tie as tie

@@ -12,7 +12,7 @@ use Rattle.rounding.specs.Parts.{sig, place}
 use Rattle.rounding.proofs.Parts.{sig-lt, leads, decode}
 use Rattle.leaves.specs.Single.{zero32}
 use Rattle.leaves.specs.Whole.{limit32, wholeUpOf}
-use Rattle.leaves.proofs.Against.{held}
+use Rattle.leaves.proofs.Comparisons.{held}
 use Rattle.leaves.proofs.WholeUp.{no-nan-of, in-range, place-small, pattern-value, digits-up, whole-up-is, up-le}
 use Rattle.leaves.proofs.whole.whole_up.Statement.{statement}
 use Rattle.leaves.proofs.whole.whole_up.Tie as tie
