@@ -469,6 +469,18 @@ fn stray() -> Vec<Vec<Call>> {
                     let mid = p(0.5 * (b.x + turn.x), 0.5 * (b.y + turn.y));
                     out.push(vec![Call::Quad(p(5.0, 0.0), p(10.0, 0.0)), Call::Quad(a, b), Call::Quad(mid, turn), Call::Line(p(0.0, 99.0))]);
                     out.push(vec![Call::Quad(p(5.0, 0.0), p(10.0, 0.0)), Call::Quad(a, b), Call::Line(turn), Call::Quad(p(turn.x, 77.0), p(-5.0, 3.0))]);
+                    // behind the turn straight quads in a row (sums 2, 4, 6), or curved ones: the cursor, which lags, goes on once for each step
+                    for n in 2..5 {
+                        let mut calls = vec![Call::Quad(p(5.0, 0.0), p(10.0, 0.0)), Call::Quad(a, b)];
+                        let (dx, dy) = (turn.x - b.x, turn.y - b.y);
+                        for i in 0..n {
+                            let at = |t: f32| p(b.x + dx * (i as f32 + t), b.y + dy * (i as f32 + t));
+                            calls.push(Call::Quad(at(0.5), at(1.0)));
+                        }
+                        let end = p(b.x + dx * n as f32, b.y + dy * n as f32);
+                        calls.push(Call::Quad(p(end.x + dx, end.y + dy), p(end.x + 31.0, end.y - 7.0)));
+                        out.push(calls);
+                    }
                 }
                 break;
             }
