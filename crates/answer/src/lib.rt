@@ -1,5 +1,8 @@
 // The numbered answers.
 
+ghost use mathlib.Core.Path.{_≡_};
+ghost use Rattle.answer.specs.Number.{numberOf, isDone};
+
 pub enum Answer {
     // 0
     Done,
@@ -25,4 +28,30 @@ pub enum Answer {
     BadText,
     // 11: input over 16,384 bytes
     InputTooLong,
+}
+
+// The only match on an answer: all else asks for its number.
+pub fn number(a: Answer) -> u32
+    ensures { λ r. ⌜ r ≡ numberOf a ⌝ }
+{
+    match a {
+        Answer::Done => 0,
+        Answer::BadCoordinate => 1,
+        Answer::BadWeight => 2,
+        Answer::Unusable => 3,
+        Answer::StoreFull => 4,
+        Answer::TooManyPieces => 5,
+        Answer::QuadsFull => 6,
+        Answer::SplinesFull => 7,
+        Answer::SumTooLarge => 8,
+        Answer::OutputShort => 9,
+        Answer::BadText => 10,
+        Answer::InputTooLong => 11,
+    }
+}
+
+pub fn is_done(a: Answer) -> bool
+    ensures { λ r. ⌜ r ≡ isDone a ⌝ }
+{
+    number(a) == 0
 }

@@ -1,8 +1,10 @@
 pub mod Single
 pub mod Fma
+pub mod Aligned
 pub mod Sqrt
 pub mod Small
 pub mod Whole
 pub mod Bits
+pub mod Power
 pub mod Sixth
 pub mod Pieces

@@ -1,8 +1,4 @@
 pub mod Halves
-pub mod Rounding
-pub mod Packing
 pub mod Parts
-pub mod Sums
+pub mod Alike
 pub mod Roots
-pub mod Lifts
-pub mod Near

@@ -1,1 +1,1 @@
-// One rounding fact for every width: laws alone, in specs/. There is no code here.
+// One rounding fact for every width: definitions in specs/, laws in proofs/. There is no code here.

@@ -1,0 +1,66 @@
+// The largest f32 whose exact sixth power is at most q, by halving over full-width powers.
+use crate::parts;
+use crate::power;
+ghost use mathlib.Core.Path.{_≡_};
+ghost use Prim.Native.Nat.{_+_, _-_, _*_, _%_, _^_, _<_, _≤_};
+ghost use lib.Ieee.{binary32};
+ghost use Rattle.leaves.specs.Sixth.{wholeSixth, cutTo, sixthRootOf};
+ghost use Rattle.leaves.specs.Power.{IsSixthRoot};
+
+// The largest r with r ^ 6 at most t * 2 ^ 108, by halving.
+fn settle(t: u64) -> u64
+    requires { ⌜ t < 2 ^ 36 ⌝ }
+    ensures { λ r. ⌜ IsSixthRoot (t * 2 ^ 108) r ⌝ }
+{
+    let mut lo = 0u64;
+    let mut hi = 0x100_0000u64;
+    while hi - lo > 1 {
+        let mid = (lo + hi) / 2;
+        if power::under(mid, t) {
+            lo = mid;
+        } else {
+            hi = mid;
+        }
+    }
+    lo
+}
+
+// By how much m is shifted left to have 31 to 36 digits, so that what is left of e + 637 goes by six.
+fn shift(m: u64, e: u64) -> u64
+    requires { ⌜ 0 < m ⌝ }
+    requires { ⌜ m < 2 ^ 24 ⌝ }
+    requires { ⌜ e < 1024 ⌝ }
+    ensures { λ l. ⌜ (l < 36) × (2 ^ 30 ≤ m * 2 ^ l) × (m * 2 ^ l < 2 ^ 36) × ((e + 637 - l) % 6 ≡ 0) ⌝ }
+{
+    let l = (u64::leading_zeros(m) as u64) - 33;
+    l + (e + 1 + 5 * l) % 6
+}
+
+// The root of m * 2 ^ e smallest values.
+fn sixth_parts(m: u64, e: u64) -> f32
+    requires { ⌜ 0 < m ⌝ }
+    requires { ⌜ m < 2 ^ 24 ⌝ }
+    requires { ⌜ e < 1024 ⌝ }
+    ensures { λ r. ⌜ r ≡ cutTo binary32 (wholeSixth (m * 2 ^ e * 2 ^ 745)) ⌝ }
+{
+    let l = shift(m, e);
+    parts::join(false, settle(m << l), (e + 637 - l) / 6)
+}
+
+// The largest f32 whose sixth power is at most q.
+pub fn sixth_root(q: f32) -> f32
+    ensures { λ r. ⌜ r ≡ sixthRootOf q ⌝ }
+{
+    if q > 0.0 {
+        let i: f32 = f32::from_bits(0x7f80_0000);
+        if q < i {
+            let b = f32::to_bits(q);
+            return sixth_parts(parts::digits(b), parts::place(b));
+        }
+        return q;
+    }
+    if q == 0.0 {
+        return 0.0;
+    }
+    0.0 / 0.0
+}

@@ -1,0 +1,72 @@
+// Curvature and its inverse, and the evaluation of quads and cubics.
+use crate::Point;
+use crate::WeightedPoint;
+ghost use mathlib.Core.Path.{_≡_};
+ghost use Rattle.point.specs.Curve.{lerpOf, curvatureOf, invCurvatureOf, quadAtOf, cubicAtOf, evalCubicOf, evalQuadOf};
+
+// C of `curvature` and of `inv_curvature` in the Rust; d and b in Levien's article.
+const D: f32 = 0.67;
+
+const B: f32 = 0.39;
+
+pub fn lerp(t: f32, a: f32, b: f32) -> f32
+    ensures { λ r. ⌜ r ≡ lerpOf t a b ⌝ }
+{
+    leaves::fma(t, b, leaves::fma(-t, a, a))
+}
+
+pub fn curvature(x: f32) -> f32
+    ensures { λ r. ⌜ r ≡ curvatureOf x ⌝ }
+{
+    let root = leaves::sqrt(leaves::sqrt(leaves::fma(x * x, 0.25, D * D * D * D)));
+    x / (1.0 - D + root)
+}
+
+pub fn inv_curvature(k: f32) -> f32
+    ensures { λ r. ⌜ r ≡ invCurvatureOf k ⌝ }
+{
+    let root = leaves::sqrt(leaves::fma(k * k, 0.25, B * B));
+    k * (1.0 - B + root)
+}
+
+// One coordinate of a quad at t.
+pub fn quad_at(t: f32, a: f32, b: f32, c: f32) -> f32
+    ensures { λ r. ⌜ r ≡ quadAtOf t a b c ⌝ }
+{
+    lerp(t, lerp(t, a, b), lerp(t, b, c))
+}
+
+// One coordinate of a cubic at t.
+pub fn cubic_at(t: f32, a: f32, b: f32, c: f32, d: f32) -> f32
+    ensures { λ r. ⌜ r ≡ cubicAtOf t a b c d ⌝ }
+{
+    lerp(t, quad_at(t, a, b, c), quad_at(t, b, c, d))
+}
+
+pub fn eval_cubic(
+    t: f32,
+    p0: WeightedPoint,
+    p1: WeightedPoint,
+    p2: WeightedPoint,
+    p3: WeightedPoint,
+) -> WeightedPoint
+    ensures { λ r. ⌜ r ≡ evalCubicOf t p0 p1 p2 p3 ⌝ }
+{
+    let x = cubic_at(t, p0.point.x, p1.point.x, p2.point.x, p3.point.x);
+    let y = cubic_at(t, p0.point.y, p1.point.y, p2.point.y, p3.point.y);
+    let weight = cubic_at(t, p0.weight, p1.weight, p2.weight, p3.weight);
+    WeightedPoint {
+        point: Point { x, y },
+        weight,
+    }
+}
+
+pub fn eval_quad(t: f32, p0: WeightedPoint, p1: WeightedPoint, p2: WeightedPoint) -> Point
+    ensures { λ r. ⌜ r ≡ evalQuadOf t p0 p1 p2 ⌝ }
+{
+    let weight = quad_at(t, p0.weight, p1.weight, p2.weight);
+    let w_recip = 1.0 / weight;
+    let x = quad_at(t, p0.point.x, p1.point.x, p2.point.x) * w_recip;
+    let y = quad_at(t, p0.point.y, p1.point.y, p2.point.y) * w_recip;
+    Point { x, y }
+}

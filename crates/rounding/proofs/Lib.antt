@@ -1,0 +1,9 @@
+pub mod Halves
+pub mod Rounding
+pub mod Packing
+pub mod Parts
+pub mod Values
+pub mod Sums
+pub mod Lifts
+pub mod Roots
+pub mod Near
