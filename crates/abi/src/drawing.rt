@@ -244,4 +244,3 @@ pub extern "C" fn kermezhul_build(
     let answer = drawn.answer;
     answer::number(answer)
 }
-
