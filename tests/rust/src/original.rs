@@ -12,6 +12,7 @@ macro_rules! original {
         pub mod $name {
             use super::*;
             use crate::$path::{probe, PathBuilder};
+            pub use crate::$path::probe::Repeated;
 
             fn at(p: P) -> Point {
                 Point::new(p.x, p.y)
