@@ -23,11 +23,11 @@ pub const KINDS: [&str; 14] = [
     "steps about a tenth of 0.0625",
 ];
 
-/// A kind: those with very many points come a third as often as the others.
+/// A kind: those with very many points come an eighth as often as the others.
 pub fn kind(rng: &mut Rng) -> usize {
     loop {
         let k = rng.below(KINDS.len() as u64) as usize;
-        if !(k == 2 || k == 8) || rng.one_in(3) {
+        if !(k == 2 || k == 8 || k == 11) || rng.one_in(8) {
             return k;
         }
     }
@@ -116,7 +116,7 @@ fn point(rng: &mut Rng, k: usize, before: &[P]) -> P {
 
 fn mixed(rng: &mut Rng, k: usize) -> Vec<Call> {
     let n = match k {
-        11 => 60 + rng.below(240),
+        11 => 60 + rng.below(140),
         2 => 1 + rng.below(6),
         _ => 1 + rng.below(14),
     };

@@ -487,6 +487,7 @@ fn walk_length(splines: &[Spline]) -> u64 {
 fn walk(splines: &[Spline], quads: &[Quad]) -> Vec<Item> {
     let mut items = Vec::new();
     let mut cursor = 0;
+    let (mut strays, mut stepless) = (0, 0);
     for (k, s) in splines.iter().enumerate() {
         let low = k as u32 % 4_194_304;
         if starts(splines, k) {
@@ -508,7 +509,9 @@ fn walk(splines: &[Spline], quads: &[Quad]) -> Vec<Item> {
             }
             let size = s.sum / m as f32;
             assert!(cursor < quads.len(), "a step after the last quad");
+            assert!(quads[cursor].spline <= k, "a step on a quad after its spline's last");
             if quads[cursor].spline != k {
+                strays += 1;
                 count(cover::STRAY);
             }
             items.push(Item { word: canon(size).to_bits(), spline: k, step: Some((size, p, cursor)), start: false, flag: false });
@@ -518,6 +521,7 @@ fn walk(splines: &[Spline], quads: &[Quad]) -> Vec<Item> {
             let mut used: Vec<usize> = items[first..].iter().map(|i| i.step.unwrap().2).collect();
             used.dedup();
             if used.len() < s.quads {
+                stepless += 1;
                 count(cover::STEPLESS);
             }
         }
@@ -526,7 +530,19 @@ fn walk(splines: &[Spline], quads: &[Quad]) -> Vec<Item> {
         }
         items.push(Item { word: 0xff80_0000 + low + if s.flag { 0x40_0000 } else { 0 }, spline: k, step: None, start: false, flag: s.flag });
     }
+    if parted(splines, quads) {
+        assert_eq!((strays, stepless), (0, 0), "each quad gets a step and no step strays");
+    }
     items
+}
+
+/// In every spline of two or more quads a whole number lies strictly between the last two running sums.
+fn parted(splines: &[Spline], quads: &[Quad]) -> bool {
+    let mut end = 0;
+    splines.iter().all(|s| {
+        end += s.quads;
+        s.quads < 2 || quads[end - 2].sum.floor() + 1.0 < quads[end - 1].sum
+    })
 }
 
 fn step_point(quads: &[Quad], size: f32, p: usize, i: usize) -> P {
