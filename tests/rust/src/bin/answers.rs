@@ -1,6 +1,7 @@
 //! Writes fixed lists of the original's answers, for a program that needs no Rust to replay. answers/README.md says how they are laid out.
 //!
 //! answers DIR
+//! answers FILE DRAWINGS SEED: any number of random drawings within the same limits, both settings by turns, for one large run.
 
 use against_rust::{
     against::{compare_drawing, drawn, Counts, Room},
@@ -104,8 +105,43 @@ struct Limits {
     words: usize,
 }
 
+fn fits(calls: &[Call], l: &Limits) -> bool {
+    let Ok((st, c)) = drawn(calls) else { return false };
+    if st.points > l.points {
+        return false;
+    }
+    // the list has only drawings whose cubics both cut alike
+    let pieces = screen::pieces(calls);
+    if pieces_of(st, &c, exact_pieces).iter().zip(&pieces).any(|(a, b)| *a != *b as u64) || pieces.iter().sum::<usize>() > l.quads {
+        return false;
+    }
+    let [a, b] = [screen::flatten(calls), knife::flatten(calls)];
+    [a, b].iter().all(|s| s.words.len() <= l.words && s.tables.x0.len() <= l.quads && s.tables.curvature.len() <= 60)
+}
+
+fn many(file: &str, drawings: u32, seed: u64) {
+    let mut rng = Rng(seed);
+    let limits = Limits { points: 200, quads: 126, words: 1000 };
+    let mut text = format!("{drawings:08x}\n");
+    let mut n = 0;
+    while n < drawings {
+        let k = kind(&mut rng);
+        let calls = random(&mut rng, k);
+        if fits(&calls, &limits) {
+            let seen = if n % 2 == 0 { screen::flatten(&calls) } else { knife::flatten(&calls) };
+            drawing(&mut text, n % 2, &calls, &screen::store(&calls), &seen, true);
+            n += 1;
+        }
+    }
+    std::fs::write(file, text).unwrap();
+}
+
 fn main() {
     let dir = std::env::args().nth(1).expect("answers DIR");
+    if let Some(drawings) = std::env::args().nth(2) {
+        let seed = std::env::args().nth(3).map_or(1, |t| t.parse().unwrap());
+        return many(&dir, drawings.parse().unwrap(), seed);
+    }
     let small = Limits { points: 40, quads: 10, words: 40 };
     let large = Limits { points: 200, quads: 126, words: 1000 };
     let mut room = Room::new(4096, 4096, 1 << 16);
@@ -115,19 +151,6 @@ fn main() {
     let mut chosen: Vec<Vec<Call>> = Vec::new();
     let mut seen_often = [0u64; cover::NAMES.len()];
     let mut rng = Rng(2026);
-    let fits = |calls: &[Call], l: &Limits| {
-        let Ok((st, c)) = drawn(calls) else { return false };
-        if st.points > l.points {
-            return false;
-        }
-        // the list has only drawings whose cubics both cut alike
-        let pieces = screen::pieces(calls);
-        if pieces_of(st, &c, exact_pieces).iter().zip(&pieces).any(|(a, b)| *a != *b as u64) || pieces.iter().sum::<usize>() > l.quads {
-            return false;
-        }
-        let [a, b] = [screen::flatten(calls), knife::flatten(calls)];
-        [a, b].iter().all(|s| s.words.len() <= l.words && s.tables.x0.len() <= l.quads && s.tables.curvature.len() <= 60)
-    };
     let mut consider = |calls: Vec<Call>, always: bool, l: &Limits, often: u64| {
         if !fits(&calls, l) {
             return;
