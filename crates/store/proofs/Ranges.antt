@@ -33,9 +33,9 @@ stored-inside v = refl
 test-le : (a b : ℕ) (x : Bool) → (ltb a b || (eqb a b && x)) ≡ true → a ≤ b
 test-le a b x e = go (ltb a b) refl e
   where
-  go : (t : Bool) → ltb a b ≡ t → (t || (eqb a b && x)) ≡ true → a ≤ b
-  go true p q = let l = ltb-true a b p in omega arith
-  go false p q = let l = eqb-true a b (and-left (eqb a b) x q) in omega arith
+    go : (t : Bool) → ltb a b ≡ t → (t || (eqb a b && x)) ≡ true → a ≤ b
+    go true p q = let l = ltb-true a b p in omega arith
+    go false p q = let l = eqb-true a b (and-left (eqb a b) x q) in omega arith
 
 le-test : (a b : ℕ) → a ≤ b → (ltb a b || (eqb a b && true)) ≡ true
 le-test a b h = elim (eq-or-lt-of-le h) [ inl p ↦ or-right (ltb a b) (and-both (eqb a b) true (eq-eqb a b p) refl) | inr q ↦ rw (lt-ltb a b q) ]
@@ -44,9 +44,9 @@ le-test a b h = elim (eq-or-lt-of-le h) [ inl p ↦ or-right (ltb a b) (and-both
 test-ge : (a b : ℕ) (x : Bool) → (ltb b a || (eqb a b && x)) ≡ true → b ≤ a
 test-ge a b x e = go (ltb b a) refl e
   where
-  go : (t : Bool) → ltb b a ≡ t → (t || (eqb a b && x)) ≡ true → b ≤ a
-  go true p q = let l = ltb-true b a p in omega arith
-  go false p q = let l = eqb-true a b (and-left (eqb a b) x q) in omega arith
+    go : (t : Bool) → ltb b a ≡ t → (t || (eqb a b && x)) ≡ true → b ≤ a
+    go true p q = let l = ltb-true b a p in omega arith
+    go false p q = let l = eqb-true a b (and-left (eqb a b) x q) in omega arith
 
 ge-test : (a b : ℕ) → b ≤ a → (ltb b a || (eqb a b && true)) ≡ true
 ge-test a b h = elim (eq-or-lt-of-le h) [ inl p ↦ or-right (ltb b a) (and-both (eqb a b) true (eq-eqb a b (sym p)) refl) | inr q ↦ rw (lt-ltb b a q) ]
@@ -104,9 +104,9 @@ units-signed : (f : Format) (s : Bool) (q k : ℕ) → units f s q k ≡ withSig
 unfolding units withSign
 units-signed f s q k = go (ltb (q * 2 ^ k) (2 ^ (low f + suc (emax f))))
   where
-  go : (b : Bool) → cond b (odd (suc (prec f)) s q k (low f)) (inf s) ≡ withSign s (cond b (odd (suc (prec f)) false q k (low f)) (inf false))
-  go true = odd-signed (suc (prec f)) s q k (low f)
-  go false = refl
+    go : (b : Bool) → cond b (odd (suc (prec f)) s q k (low f)) (inf s) ≡ withSign s (cond b (odd (suc (prec f)) false q k (low f)) (inf false))
+    go true = odd-signed (suc (prec f)) s q k (low f)
+    go false = refl
 
 round-signed : (f : Format) (s : Bool) (a b : ℕ) → round f s a b ≡ withSign s (round f false a b)
 round-signed f s a b = round-is f s a b ∙ units-signed f s _ _ ∙ ap (withSign s) (sym (round-is f false a b))
@@ -121,9 +121,9 @@ below-bound s nan t = absurd t
 below-bound s (inf u) t = absurd t
 below-bound s (fin u m e) t = of-magnitude 22 s m e (test-le (m * up e * 1) (1 * 2 ^ 22 * down e) true (told _ t))
   where
-  told : (b : Bool) → T b → b ≡ true
-  told true t = refl
-  told false t = absurd t
+    told : (b : Bool) → T b → b ≡ true
+    told true t = refl
+    told false t = absurd t
 
 round-inside : (s : Bool) (n d : ℕ) → 0 < d → n ≤ 4194304 * d → inside 22 (round binary32 s n d) ≡ true
 round-inside s n d h l =
@@ -139,8 +139,8 @@ product-le a b c d h k =
     let q : c ≤ 64 * d = omega arith in
     le-trans (mul-le-mul p q) (le-of-eq (regroup 65536 64 4194304 b d refl))
   where
-  regroup : (x y z b d : ℕ) → x * y ≡ z → x * b * (y * d) ≡ z * (b * d)
-  regroup x y z b d e = rw (← e) (simp (mul-assoc, mul-comm, mul-left-comm))
+    regroup : (x y z b d : ℕ) → x * y ≡ z → x * b * (y * d) ≡ z * (b * d)
+    regroup x y z b d e = rw (← e) (simp (mul-assoc, mul-comm, mul-left-comm))
 
 module _ (s : Bool) (m : ℕ) (e : ℤ) (h : inside 16 (fin s m e) ≡ true) where
   product-inside : (w : Float) → weightOkOf w ≡ true → inside 22 (fin s m e ⊗ w) ≡ true
