@@ -4,3 +4,4 @@ pub mod Planning
 pub mod Deciding
 pub mod Writing
 pub mod Loops
+pub mod Ranges

@@ -1,0 +1,4 @@
+pub mod Past
+pub mod Written
+pub mod RunningSums
+pub mod Pushes
