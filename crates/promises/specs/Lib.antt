@@ -2,3 +2,4 @@ pub mod Room
 pub mod Examples
 pub mod Listings
 pub mod Drawings
+pub mod QuarterRound
