@@ -7,10 +7,11 @@ use lib.Ieee.{Float}
 use lib.ListN.{length}
 use Rattle.leaves.specs.Bits.{floatOf}
 use Rattle.answer.specs.declared.Answer.{Answer}
-use Rattle.answer.specs.declared.Answer.the-variants.{BadText}
+use Rattle.answer.specs.declared.Answer.the-variants.{Done, BadText}
 use Rattle.answer.specs.Number.{isDone}
 use Rattle.store.specs.declared.Call.{Call}
-use Rattle.store.specs.Drawing.{Outcome, drawOf}
+use Rattle.store.specs.Columns.{Columns}
+use Rattle.store.specs.Drawing.{Outcome, outcome, drawOf}
 use Rattle.text.specs.Bytes.{bytes, standsAt}
 use Rattle.text.specs.Hex.{hexStandsAt, hexNumberAt}
 use Rattle.listing.specs.declared.Op.{Op}
@@ -27,6 +28,8 @@ use Rattle.listing.specs.declared.ThreePoints.{ThreePoints}
 use Rattle.listing.specs.declared.ThreePoints.the-variants as Three
 use Rattle.listing.specs.declared.Command.{Command}
 use Rattle.listing.specs.declared.Command.the-variants.{Drawing, Fault, Finish}
+use Rattle.listing.specs.declared.Progress as Progresses
+use Rattle.listing.specs.declared.Progress.the-variants as Progressing
 use Rattle.listing.specs.Grammar.{opLineOf, keysOf, callOf}
 
 -- a place in the text, and its line: every line before it has a byte, so neither number can grow too large
@@ -99,6 +102,12 @@ pub data Progress : Type 0 where
   going : ℕ → ℕ → Outcome → Progress
   finished : Outcome → Progress
   stopped : Answer → ℕ → Progress
+
+-- what the code's progress is, with what its columns hold
+abbrev pub progressOf : Progresses.Progress → Columns → Progress
+progressOf (Progressing.Going state at line) c = going at line (outcome Done state c)
+progressOf (Progressing.Finished state) c = finished (outcome Done state c)
+progressOf (Progressing.Stopped answer line) c = stopped answer line
 
 -- "`line` is for 1 to 4 the refused command's op line"
 unfoldable pub afterCall : ℕ → ℕ → ℕ → Outcome → Progress

@@ -1,10 +1,14 @@
 // The program's listing: key=value lines in, points out, on slices.
 
+use answer::Answer;
 use point::Point;
 use store::Call;
+use store::StoreState;
 
 mod commands;
 mod fields;
+mod reading;
+mod writing;
 
 pub use fields::field_at;
 
@@ -50,4 +54,17 @@ pub enum Command {
     Drawing(Call, usize, usize),
     Fault(usize),
     Finish,
+}
+
+// How far a listing is read: the store, and the place and line of the next command; the store at the end; or the answer and its line.
+pub enum Progress {
+    Going(StoreState, usize, usize),
+    Finished(StoreState),
+    Stopped(Answer, usize),
+}
+
+// How many bytes are written; or that the output is too short for them, and none is.
+pub enum Listed {
+    Bytes(usize),
+    Short,
 }
