@@ -1,3 +1,4 @@
 pub mod RunningSums
 pub mod Pushes
 pub mod Spans
+pub mod Sound
