@@ -2,3 +2,4 @@ pub mod RunningSums
 pub mod Pushes
 pub mod Spans
 pub mod Sound
+pub mod Flags
