@@ -1,3 +1,4 @@
 pub mod Examples
 pub mod Listings
 pub mod Drawings
+pub mod Flattened

@@ -2,3 +2,6 @@ pub mod Room
 pub mod Examples
 pub mod Listings
 pub mod Drawings
+pub mod Words
+pub mod Accepted
+pub mod Demand3
