@@ -2,3 +2,5 @@ pub mod Examples
 pub mod Listings
 pub mod Drawings
 pub mod Flattened
+pub mod Cutting
+pub mod Walking
