@@ -4,3 +4,4 @@ pub mod Drawings
 pub mod Flattened
 pub mod Cutting
 pub mod Walking
+pub mod Decoding
