@@ -3,3 +3,4 @@ pub mod Pushes
 pub mod Spans
 pub mod Sound
 pub mod Flags
+pub mod Runs
