@@ -87,7 +87,7 @@ cut-decoded words items e = cut-map unpackOf isEnd words ∙ ap (cutAfter isEnd)
 decoded-at : (pieces : List (List ℕ)) (k : ℕ) → decoded (getD pieces k []) ≡ getD (map decoded pieces) k []
 decoded-at pieces k = sym (List·getD-map decoded pieces k [])
 
-job-pieces : (job : Job) → PiecesAreSplines (finishedOf job)
+pub job-pieces : (job : Job) → PiecesAreSplines (finishedOf job)
 unfolding walked walkOf
 job-pieces job =
     let w = worldOf job in

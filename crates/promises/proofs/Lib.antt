@@ -5,3 +5,4 @@ pub mod Flattened
 pub mod Cutting
 pub mod Walking
 pub mod Decoding
+pub mod Contours
