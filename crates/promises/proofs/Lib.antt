@@ -6,3 +6,4 @@ pub mod Cutting
 pub mod Walking
 pub mod Decoding
 pub mod Contours
+pub mod Sharing
