@@ -7,3 +7,4 @@ pub mod Walking
 pub mod Decoding
 pub mod Contours
 pub mod Sharing
+pub mod Cursor
