@@ -8,3 +8,4 @@ pub mod Decoding
 pub mod Contours
 pub mod Sharing
 pub mod Cursor
+pub mod Steps
