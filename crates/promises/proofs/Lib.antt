@@ -9,3 +9,5 @@ pub mod Contours
 pub mod Sharing
 pub mod Cursor
 pub mod Steps
+pub mod Telling
+pub mod DrawingAnswers

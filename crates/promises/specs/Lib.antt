@@ -5,3 +5,4 @@ pub mod Drawings
 pub mod Words
 pub mod Accepted
 pub mod Demand3
+pub mod DrawingAnswers
