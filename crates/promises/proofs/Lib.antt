@@ -11,3 +11,4 @@ pub mod Cursor
 pub mod Steps
 pub mod Telling
 pub mod DrawingAnswers
+pub mod Refusing

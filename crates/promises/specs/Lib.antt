@@ -6,3 +6,4 @@ pub mod Words
 pub mod Accepted
 pub mod Demand3
 pub mod DrawingAnswers
+pub mod FlattenAnswers

@@ -13,6 +13,7 @@ use native.Mathlib.Omega.{arith}
 use lib.Dec.{T, leb, eqb, leb→le, le→leb, eqb·suc-zero}
 use lib.Ieee.{Float, nan, le}
 use lib.Ieee.Bits.{is-true, is-false}
+use lib.Ieee.Positive.{num, den}
 use lib.Arith.{lt→nleb}
 use lib.ListN.{length, getD, set, length-set}
 use lib.Seq.{getD-set-same, getD-set-other}
@@ -34,9 +35,9 @@ use Rattle.primitives.specs.Splines.{sumBefore, splineEditOf}
 use Rattle.primitives.specs.Plan.{refusedOf, markedOf}
 use Rattle.tables.specs.Tables.{QuadTable, SplineTable, quadCapacityOf, splineCapacityOf, capacitiesOf, putQuad, clearFlag, putSpline, splineAt, noSpline, lastSplineOf}
 use Rattle.tables.specs.Run.{World, world, applyOf, pushOf, runOf, startState}
-use Rattle.tables.proofs.RunningSums.{Bent}
+use Rattle.tables.proofs.RunningSums.{Bent, Sum, natural, zero-natural, zero-num, positive-natural}
 use Rattle.tables.proofs.Pushes.{lastOf, isMark, Allowed, splineEdit, Pushed, kept, marked, lined, bent, pushed}
-use Rattle.tables.proofs.Spans.{sumAt, ownerAt, Span, Agree, span-none, span-agree, span-more}
+use Rattle.tables.proofs.Spans.{sumAt, ownerAt, Span, Agree, LastOf, span-none, span-agree, span-more, span-total}
 
 -- the counts are within the capacities, and these within the columns that the laws read
 pub record Room (caps : Capacities) (w : World) : Type 0 where
@@ -213,6 +214,15 @@ module _ (caps : Capacities) (w : World) (S : Sound caps w) where
       let p = pred-suc n h in
       subst₂ (λ (x : Float) (y : ℕ). Span (w .quads) x (S .cut (n - 1)) y (n - 1)) (sym (ap (λ (r : SplineRow). r .curvature) (last-is w h))) (ap (S .cut) p ∙ S .all)
       (S .span (n - 1) (le-of-eq p))
+
+  -- the sum that a spline has before one more quad: zero, or a running sum
+  pub sum-before : (opens : Bool) → (opens ≡ false → w .state .mark ≡ false) → T (natural (sumBefore opens (lastOf w))) × (num (sumBefore opens (lastOf w)) ≤ 65536 * den (sumBefore opens (lastOf w)))
+  unfolding sumBefore
+  sum-before true h = (zero-natural, le-trans (le-of-eq zero-num) zero-le)
+  sum-before false h = elim (span-total (w .quads) (lastOf w .curvature) _ _ _ (before-join (S .waits (h refl)))) [
+    | inl z ↦ subst (λ (x : Float). T (natural x) × (num x ≤ 65536 * den x)) (sym (z .1)) (zero-natural, le-trans (le-of-eq zero-num) zero-le)
+    | inr z ↦ (positive-natural (lastOf w .curvature) (z .sum .real), z .sum .most)
+  ]
 
   sound-lined : (opens : Bool) (start end : Point) (angle : Angle) → Allowed caps w opens
       → Sound caps (applyOf (Extend (splineEdit w opens start end (sumBefore opens (lastOf w)) (w .state .quads) angle)) (w .quads) (w .splines))
