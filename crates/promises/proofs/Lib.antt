@@ -12,3 +12,4 @@ pub mod Steps
 pub mod Telling
 pub mod DrawingAnswers
 pub mod Refusing
+pub mod Refusals
