@@ -13,3 +13,4 @@ pub mod Telling
 pub mod DrawingAnswers
 pub mod Refusing
 pub mod Refusals
+pub mod FlattenAnswers
