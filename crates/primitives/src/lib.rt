@@ -1,5 +1,14 @@
 // The plan: what one primitive does to the tables, worked out on values alone. Primitives of path.rs.
+mod cubics;
+mod planning;
+mod quads;
+mod splines;
+
 use answer::Answer;
+pub use cubics::cubic_pieces;
+pub use cubics::cubic_point;
+pub use cubics::piece;
+pub use planning::plan;
 use point::Angle;
 use point::Point;
 use point::WeightedPoint;

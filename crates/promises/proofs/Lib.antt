@@ -14,3 +14,4 @@ pub mod DrawingAnswers
 pub mod Refusing
 pub mod Refusals
 pub mod FlattenAnswers
+pub mod QuarterRound

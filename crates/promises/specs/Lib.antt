@@ -7,3 +7,4 @@ pub mod Accepted
 pub mod Demand3
 pub mod DrawingAnswers
 pub mod FlattenAnswers
+pub mod QuarterRound

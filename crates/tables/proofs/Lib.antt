@@ -1,3 +1,5 @@
+pub mod Past
+pub mod Written
 pub mod RunningSums
 pub mod Pushes
 pub mod Spans

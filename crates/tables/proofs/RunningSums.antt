@@ -137,12 +137,14 @@ module _ (s c : Float) (S : T (natural s)) (most : num s ≤ 65536 * den s) (B :
 pub sum-after : (s c : Float) → Sum s → Bent c → T (le (s ⊕ c) limit32) → Sum (s ⊕ c) × Reaches s (s ⊕ c)
 sum-after s c S B fit =
     let n = positive-natural s (S .real) in
-    let r = sum-reaches s c n (S .most) B fit in
-    (record {
-      real = sum-real s c n (S .most) B fit;
-      over = twice (den (s ⊕ c)) (num (s ⊕ c)) (den-pos (s ⊕ c)) (r 1 (le-trans (le-of-eq (one-mul (den s))) (le-of-lt (S .over))));
-      most = sum-most s c n (S .most) B fit;
-    }, r)
+    let r = sum-reaches s c n (S .most) B fit in (
+      record {
+        real = sum-real s c n (S .most) B fit;
+        over = twice (den (s ⊕ c)) (num (s ⊕ c)) (den-pos (s ⊕ c)) (r 1 (le-trans (le-of-eq (one-mul (den s))) (le-of-lt (S .over))));
+        most = sum-most s c n (S .most) B fit;
+      },
+      r,
+    )
   where
     twice : (d n : ℕ) → 0 < d → 2 * d ≤ n → d < n
     twice d n D h = omega arith

@@ -1,0 +1,112 @@
+// When a primitive opens a spline, and the spline's row and the state after it: last_spline_or_insert_with as a plain decision.
+use crate::Setting;
+use crate::SplineEdit;
+use crate::SplineRow;
+use crate::State;
+use answer::Answer;
+use point::Angle;
+use point::Point;
+use point::changed;
+ghost use mathlib.Core.Bool.{true};
+ghost use mathlib.Core.Path.{_≡_};
+ghost use Prim.Native.Nat.{_-_, _<_};
+ghost use Rattle.primitives.specs.Splines.{farOf, opensOf, lineAngleOf, sumBefore, splineEditOf};
+
+const MAX_ERROR: f32 = 0.0625;
+
+fn far(start: Point, last: SplineRow) -> bool
+    ensures { λ r. ⌜ r ≡ farOf start last ⌝ }
+{
+    start.minus(last.p2).len() >= MAX_ERROR
+}
+
+pub fn opens(st: State, last: SplineRow, angle: Angle, start: Point) -> bool
+    ensures { λ r. ⌜ r ≡ opensOf st last angle start ⌝ }
+{
+    let before = st.last;
+    st.mark | changed(before, angle) | far(start, last)
+}
+
+// The last angle after a line: the one place where the settings differ.
+pub fn line_angle(setting: Setting, last: Angle, angle: Angle) -> Angle
+    ensures { λ r. ⌜ r ≡ lineAngleOf setting last angle ⌝ }
+{
+    match setting {
+        Setting::Screen => angle,
+        Setting::Knife => match angle {
+            Angle::Missing => last,
+            Angle::Known(a) => Angle::Known(a),
+        },
+    }
+}
+
+pub fn sum_before(opens: bool, last: SplineRow) -> f32
+    ensures { λ r. ⌜ r ≡ sumBefore opens last ⌝ }
+{
+    if opens { 0.0 } else { last.curvature }
+}
+
+// The whole number before, and 0 before 0.
+fn below(n: u32) -> u32
+    ensures { λ r. ⌜ r ≡ n - 1 ⌝ }
+{
+    if n == 0 { 0 } else { n - 1 }
+}
+
+// Callers refuse a spline past the capacity first, so that one more can be counted.
+pub fn spline_edit(
+    opens: bool,
+    st: State,
+    last: SplineRow,
+    start: Point,
+    end: Point,
+    sum: f32,
+    quads: usize,
+    angle: Angle,
+) -> SplineEdit
+    requires { ⌜ (opens ≡ true → st .splines < 4294967295) ⌝ }
+    ensures { λ r. ⌜ r ≡ splineEditOf opens st last start end sum quads angle ⌝ }
+{
+    if opens {
+        let row = SplineRow {
+            curvature: sum,
+            p0: start,
+            p2: end,
+            contour: true,
+        };
+        let splines = st.splines + 1;
+        let next = State {
+            answer: Answer::Done,
+            splines,
+            quads,
+            mark: false,
+            last: angle,
+        };
+        return SplineEdit {
+            clears: !st.mark,
+            at: st.splines,
+            row,
+            next,
+        };
+    }
+    let p0 = last.p0;
+    let row = SplineRow {
+        curvature: sum,
+        p0,
+        p2: end,
+        contour: last.contour,
+    };
+    let next = State {
+        answer: Answer::Done,
+        splines: st.splines,
+        quads,
+        mark: false,
+        last: angle,
+    };
+    SplineEdit {
+        clears: false,
+        at: below(st.splines),
+        row,
+        next,
+    }
+}
