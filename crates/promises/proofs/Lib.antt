@@ -14,4 +14,6 @@ pub mod DrawingAnswers
 pub mod Refusing
 pub mod Refusals
 pub mod FlattenAnswers
+pub mod Settled
+pub mod ListingAnswers
 pub mod QuarterRound

@@ -7,4 +7,6 @@ pub mod Accepted
 pub mod Demand3
 pub mod DrawingAnswers
 pub mod FlattenAnswers
+pub mod Settled
+pub mod ListingAnswers
 pub mod QuarterRound
