@@ -92,12 +92,15 @@ module _ (job : Job) (P : Passed job) where
 
   -- ---- each spline stands in a contour
   found : (k d b a : ℕ) → b + d ≡ (countOf job) → a < b → commandAt job a ≡ moveCommand → splinesBefore job a ≤ k → ((i : ℕ) → a < i → i < b → commandAt job i ≢ moveCommand) → k < splinesBefore job (countOf job) → (a' : ℕ) × (b' : ℕ) × Within job a' b' k
-  found k zero b a e l m h n t =
-      (a, b, record {
-        contour = record { order = l; inside = le-of-eq (at b (countOf job) e); opens = m; between = n; closes = inl (at b (countOf job) e) };
-        from = h;
-        below = lt-of-lt-of-le t (le-of-eq (ap (splinesBefore job) (sym (at b (countOf job) e))));
-      })
+  found k zero b a e l m h n t = (
+    a,
+    b,
+    record {
+      contour = record { order = l; inside = le-of-eq (at b (countOf job) e); opens = m; between = n; closes = inl (at b (countOf job) e) };
+      from = h;
+      below = lt-of-lt-of-le t (le-of-eq (ap (splinesBefore job) (sym (at b (countOf job) e))));
+    },
+  )
     where
       at : (b n : ℕ) → b + 0 ≡ n → b ≡ n
       at b n e = omega arith

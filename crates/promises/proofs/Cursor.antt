@@ -264,8 +264,8 @@ module _ (q : QuadTable) (total : Float) (lo l j m : ℕ) (R : Span q total lo (
           high = le-refl l;
           upto = le-of-lt (up-below (sumAt q l) m (m - 1) U (pred m (up-two (sumAt q l) m S U)));
           above = λ b e h.
-            let z = spread b e h in
-            lt-of-lt-of-le (z .1) (mul-le-mul-right (den (sumAt q b)) (under (z .0) m (below-up (sumAt q l) m (z .0) U (z .2))));
+              let z = spread b e h in
+              lt-of-lt-of-le (z .1) (mul-le-mul-right (den (sumAt q b)) (under (z .0) m (below-up (sumAt q l) m (z .0) U (z .2))));
         }
       where
         pred : (m : ℕ) → 2 ≤ m → m - 1 < m
@@ -308,12 +308,12 @@ module _ (q : QuadTable) (total : Float) (lo l j m : ℕ) (R : Span q total lo (
           least = zero-lt-suc (num x / den x);
           most = below-up (sumAt q l) m p U (strict (sumAt q l) p t);
           falls =
-            record {
-              low = le-trans h (next b);
-              high = le-of-lt k;
-              upto = u;
-              above = λ c e g. subst (λ (y : ℕ). Below (sumAt q y) p) (sym (same c b e)) (div-lt-iff-lt-mul (den-pos x) .0 (le-refl p));
-            };
+              record {
+                low = le-trans h (next b);
+                high = le-of-lt k;
+                upto = u;
+                above = λ c e g. subst (λ (y : ℕ). Below (sumAt q y) p) (sym (same c b e)) (div-lt-iff-lt-mul (den-pos x) .0 (le-refl p));
+              };
         }
       where
         two : (b : ℕ) → b ≤ suc (suc b)
@@ -342,8 +342,8 @@ module _ (q : QuadTable) (total : Float) (lo l j m : ℕ) (R : Span q total lo (
           least = some (z .0) (den (sumAt q b)) (num (sumAt q b)) (z .1);
           most = below-up (sumAt q l) m (z .0) U (z .2);
           falls =
-            subst (Falls (z .0)) (sym e)
-            (record { low = inside; high = le-refl l; upto = le-of-lt (z .2); above = λ c f g. subst (λ (y : ℕ). Below (sumAt q y) (z .0)) (same b c l e f) (z .1) });
+              subst (Falls (z .0)) (sym e)
+              (record { low = inside; high = le-refl l; upto = le-of-lt (z .2); above = λ c f g. subst (λ (y : ℕ). Below (sumAt q y) (z .0)) (same b c l e f) (z .1) });
         }
       where
         same : (b c l : ℕ) → suc b ≡ l → suc c ≡ l → b ≡ c
@@ -375,12 +375,12 @@ module _ (q : QuadTable) (total : Float) (lo l j m : ℕ) (R : Span q total lo (
               least = le-refl 1;
               most = up-two (sumAt q l) m S U;
               falls =
-                record {
-                  low = le-refl lo;
-                  high = inside;
-                  upto = le-trans (le-of-eq (one-mul (den (sumAt q lo)))) (le-of-lt (sum-of lo (le-refl lo) inside .over));
-                  above = λ b e g. absurd (no b lo e g);
-                };
+                  record {
+                    low = le-refl lo;
+                    high = inside;
+                    upto = le-trans (le-of-eq (one-mul (den (sumAt q lo)))) (le-of-lt (sum-of lo (le-refl lo) inside .over));
+                    above = λ b e g. absurd (no b lo e g);
+                  };
             }
           where
             no : (b lo : ℕ) → suc b ≡ lo → lo ≤ b → ⊥

@@ -96,13 +96,13 @@ job-pieces job =
     record {
       as-many = sym (length-map (piecesIn (wordsIn f)) decoded) ∙ ap length e ∙ length-map (cutAfter endsItem (walkIn f)) (map commandOf) ∙ pieces-count (w .quads) (w .splines) (w .state .splines) 0 0;
       each = λ k h.
-        let z = piece-at (w .quads) (w .splines) (λ (j c : ℕ). Unit {0}) (w .state .splines) 0 0 tt (λ j c l u. tt) k h in
-        decoded-at (piecesIn (wordsIn f)) k
-        ∙ ap (λ (x : List (List PointCommand)). getD x k []) e
-        ∙ List·getD-map (map commandOf) (cutAfter endsItem (walkIn f)) k []
-        ∙ ap (map commandOf) (z .is)
-        ∙ piece-commands (w .quads) (w .splines) (0 + k) (z .cursor)
-        ∙ ap (pieceOf (w .splines)) (zero-add k);
+          let z = piece-at (w .quads) (w .splines) (λ (j c : ℕ). Unit {0}) (w .state .splines) 0 0 tt (λ j c l u. tt) k h in
+          decoded-at (piecesIn (wordsIn f)) k
+          ∙ ap (λ (x : List (List PointCommand)). getD x k []) e
+          ∙ List·getD-map (map commandOf) (cutAfter endsItem (walkIn f)) k []
+          ∙ ap (map commandOf) (z .is)
+          ∙ piece-commands (w .quads) (w .splines) (0 + k) (z .cursor)
+          ∙ ap (pieceOf (w .splines)) (zero-add k);
     }
   where
     zero-add : (k : ℕ) → 0 + k ≡ k

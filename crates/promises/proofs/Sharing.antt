@@ -80,19 +80,19 @@ demand3d job job' h h' e =
     record {
       as-many = ap (λ (f : Flattening). f .result .splines) (P .result) ∙ n ∙ sym (ap (λ (f : Flattening). f .result .splines) (P' .result));
       each = λ k l.
-        let L : k < worldOf job .state .splines = subst (λ (f : Flattening). k < f .result .splines) (P .result) l in
-        let L' : k < worldOf job' .state .splines = lt-of-lt-of-le L (le-of-eq n) in
-        let z : pieceOf s k ≡ pieceOf s' k = sym (job-pieces job .each k L) ∙ ap (λ (ws : List ℕ). decoded (getD (piecesIn ws) k [])) words ∙ job-pieces job' .each k L' in
-        let f : flagAt s k ≡ flagAt s' k = sym (piece-flag s k) ∙ ap isFlagged z ∙ piece-flag s' k in
-        record {
-          start = ap (λ (f : Flattening). startsOf (f .splines) k) (P .result) ∙ sym (start-told s k) ∙ ap startIn z ∙ start-told s' k ∙ sym (ap (λ (f : Flattening). startsOf (f .splines) k) (P' .result));
-          steps = ap (λ (f : Flattening). stepsOf (f .splines) k) (P .result) ∙ steps k z ∙ sym (ap (λ (f : Flattening). stepsOf (f .splines) k) (P' .result));
-          size = λ o.
-            let O : 0 < stepsOf s k = subst (λ (f : Flattening). 0 < stepsOf (f .splines) k) (P .result) o in
-            ap (λ (f : Flattening). stepSizeOf (f .splines) k) (P .result) ∙ sym (size-told s k O) ∙ ap sizeIn z ∙ size-told s' k (lt-of-lt-of-le O (le-of-eq (steps k z)))
-            ∙ sym (ap (λ (f : Flattening). stepSizeOf (f .splines) k) (P' .result));
-          last = (λ c. flag-last job' P' k L' .0 (sym f ∙ flag-last job P k L .1 c), λ c. flag-last job P k L .0 (f ∙ flag-last job' P' k L' .1 c));
-        };
+          let L : k < worldOf job .state .splines = subst (λ (f : Flattening). k < f .result .splines) (P .result) l in
+          let L' : k < worldOf job' .state .splines = lt-of-lt-of-le L (le-of-eq n) in
+          let z : pieceOf s k ≡ pieceOf s' k = sym (job-pieces job .each k L) ∙ ap (λ (ws : List ℕ). decoded (getD (piecesIn ws) k [])) words ∙ job-pieces job' .each k L' in
+          let f : flagAt s k ≡ flagAt s' k = sym (piece-flag s k) ∙ ap isFlagged z ∙ piece-flag s' k in
+          record {
+            start = ap (λ (f : Flattening). startsOf (f .splines) k) (P .result) ∙ sym (start-told s k) ∙ ap startIn z ∙ start-told s' k ∙ sym (ap (λ (f : Flattening). startsOf (f .splines) k) (P' .result));
+            steps = ap (λ (f : Flattening). stepsOf (f .splines) k) (P .result) ∙ steps k z ∙ sym (ap (λ (f : Flattening). stepsOf (f .splines) k) (P' .result));
+            size = λ o.
+                let O : 0 < stepsOf s k = subst (λ (f : Flattening). 0 < stepsOf (f .splines) k) (P .result) o in
+                ap (λ (f : Flattening). stepSizeOf (f .splines) k) (P .result) ∙ sym (size-told s k O) ∙ ap sizeIn z ∙ size-told s' k (lt-of-lt-of-le O (le-of-eq (steps k z)))
+                ∙ sym (ap (λ (f : Flattening). stepSizeOf (f .splines) k) (P' .result));
+            last = (λ c. flag-last job' P' k L' .0 (sym f ∙ flag-last job P k L .1 c), λ c. flag-last job P k L .0 (f ∙ flag-last job' P' k L' .1 c));
+          };
     }
   where
     P : Passed job

@@ -96,9 +96,9 @@ module _ (caps : Capacities) (w : World) (S : Sound caps w) (points : ℕ) (o : 
         stored = le-trans (le-of-eq (L .next)) (cut-le caps w S (suc k) h);
         own = S .span k h .owned (L .at) (L .inside) (le-of-eq (L .next));
         last = λ j l u e.
-          let H = home j u in
-          lt-irrefl j
-          (lt-of-lt-of-le (subst (λ (x : ℕ). j < S .cut (suc x)) (sym (home-owner j H) ∙ e) (H .high)) (le-trans (le-of-eq (sym (L .next))) l));
+            let H = home j u in
+            lt-irrefl j
+            (lt-of-lt-of-le (subst (λ (x : ℕ). j < S .cut (suc x)) (sym (home-owner j H) ∙ e) (H .high)) (le-trans (le-of-eq (sym (L .next))) l));
       }
 
   -- ---- the number of its steps
@@ -182,10 +182,10 @@ module _ (caps : Capacities) (w : World) (S : Sound caps w) (points : ℕ) (o : 
           last = L .at;
           is-last = last-quad k h L;
           not-after =
-            all-member (Steps (λ (x : Item). x .quad ≤ L .at)) (splineItemsOf (w .quads) (w .splines) k (z .cursor)) i
-            (spline-steps (λ (x : Item). x .quad ≤ L .at) (w .quads) (w .splines) k (z .cursor)
-            (steps-under (w .quads) (L .at) (subdivisionsOf (w .splines) k) (last-sum k h L) (last-up k h L) (stepSizeOf (w .splines) k) (subdivisionsOf (w .splines) k - 1) 1 (z .cursor) (le-trans (z .holds) (L .inside)) (all-steps (subdivisionsOf (w .splines) k) (many k h L))))
-            member (T .step);
+              all-member (Steps (λ (x : Item). x .quad ≤ L .at)) (splineItemsOf (w .quads) (w .splines) k (z .cursor)) i
+              (spline-steps (λ (x : Item). x .quad ≤ L .at) (w .quads) (w .splines) k (z .cursor)
+              (steps-under (w .quads) (L .at) (subdivisionsOf (w .splines) k) (last-sum k h L) (last-up k h L) (stepSizeOf (w .splines) k) (subdivisionsOf (w .splines) k - 1) 1 (z .cursor) (le-trans (z .holds) (L .inside)) (all-steps (subdivisionsOf (w .splines) k) (many k h L))))
+              member (T .step);
         }
   ]
     where
@@ -309,11 +309,11 @@ module _ (caps : Capacities) (w : World) (S : Sound caps w) (points : ℕ) (o : 
               spline = k;
               item = item (Incr (stepSizeOf (w .splines) k)) (R .step) (A .quad);
               is-step =
-                record {
-                  spline = h;
-                  member = subst (List·Memᴰ (item (Incr (stepSizeOf (w .splines) k)) (R .step) (A .quad))) (sym (z .is)) (subst (λ (c : ℕ). List·Memᴰ (item (Incr (stepSizeOf (w .splines) k)) (R .step) (A .quad)) (splineItemsOf (w .quads) (w .splines) k c)) (sym (z .holds)) (in-items k (S .cut k) (item (Incr (stepSizeOf (w .splines) k)) (R .step) (A .quad)) (A .member)));
-                  step = tt;
-                };
+                  record {
+                    spline = h;
+                    member = subst (List·Memᴰ (item (Incr (stepSizeOf (w .splines) k)) (R .step) (A .quad))) (sym (z .is)) (subst (λ (c : ℕ). List·Memᴰ (item (Incr (stepSizeOf (w .splines) k)) (R .step) (A .quad)) (splineItemsOf (w .quads) (w .splines) k c)) (sym (z .holds)) (in-items k (S .cut k) (item (Incr (stepSizeOf (w .splines) k)) (R .step) (A .quad)) (A .member)));
+                    step = tt;
+                  };
               uses = falls-once (w .quads) (total k) (S .cut k) (L .at) k m r (L .inside) s u (R .step) (A .quad) quad (A .falls) (R .falls);
             }
 

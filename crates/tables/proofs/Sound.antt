@@ -182,14 +182,14 @@ module _ (caps : Capacities) (w : World) (S : Sound caps w) where
               (S .span j (lt-of-lt-of-le l T≤)))
         ];
         room =
-          record {
-            quads = le-trans (le-of-eq quads) K;
-            splines = le-trans (le-of-eq next) T<;
-            sums = le-trans (S .room .sums) (le-of-eq (sym l₁));
-            owners = le-trans (S .room .owners) (le-of-eq (sym l₂));
-            totals = le-trans (S .room .totals) (le-of-eq (sym (totals-length s edit)));
-            flags = le-trans (S .room .flags) (le-of-eq (sym (flags-length s edit)));
-          };
+            record {
+              quads = le-trans (le-of-eq quads) K;
+              splines = le-trans (le-of-eq next) T<;
+              sums = le-trans (S .room .sums) (le-of-eq (sym l₁));
+              owners = le-trans (S .room .owners) (le-of-eq (sym l₂));
+              totals = le-trans (S .room .totals) (le-of-eq (sym (totals-length s edit)));
+              flags = le-trans (S .room .flags) (le-of-eq (sym (flags-length s edit)));
+            };
         waits = λ e. lt-of-lt-of-le (pos t) (le-of-eq (sym next));
       }
     where
@@ -266,14 +266,14 @@ module _ (caps : Capacities) (w : World) (S : Sound caps w) where
         all = ap (S .cut) e ∙ S .all ∙ sym f;
         span = λ j h. S .span j (lt-of-lt-of-le h (le-of-eq e));
         room =
-          record {
-            quads = le-trans (le-of-eq f) (S .room .quads);
-            splines = le-trans (le-of-eq e) (S .room .splines);
-            sums = S .room .sums;
-            owners = S .room .owners;
-            totals = S .room .totals;
-            flags = S .room .flags;
-          };
+            record {
+              quads = le-trans (le-of-eq f) (S .room .quads);
+              splines = le-trans (le-of-eq e) (S .room .splines);
+              sums = S .room .sums;
+              owners = S .room .owners;
+              totals = S .room .totals;
+              flags = S .room .flags;
+            };
         waits = λ h. lt-of-lt-of-le (S .waits (m h)) (le-of-eq (sym e));
       }
 
@@ -319,14 +319,14 @@ module _ (q : QuadTable) (s : SplineTable) where
         all = refl;
         span = λ j h. absurd (not-below j h);
         room =
-          record {
-            quads = zero-le;
-            splines = zero-le;
-            sums = quads-room .0;
-            owners = quads-room .1;
-            totals = splines-room .0;
-            flags = splines-room .1;
-          };
+            record {
+              quads = zero-le;
+              splines = zero-le;
+              sums = quads-room .0;
+              owners = quads-room .1;
+              totals = splines-room .0;
+              flags = splines-room .1;
+            };
         waits = λ h. absurd (true≢false h);
       }
     where
