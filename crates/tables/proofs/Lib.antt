@@ -4,3 +4,5 @@ pub mod Runs
 pub mod Lengths
 pub mod Cuts
 pub mod Taken
+pub mod Laws
+pub mod Drawings
