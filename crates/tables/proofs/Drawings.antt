@@ -2,9 +2,9 @@
 use mathlib.Core.Path.{_≡_, refl, sym, ap, _∙_}
 use mathlib.Core.Bool.{Bool, true, false, true≢false, cond}
 use mathlib.Core.List.{List, [], _∷_}
-use Prim.Native.Nat.{ℕ, _+_, _-_, _≤_, _<_, min}
+use Prim.Native.Nat.{ℕ, zero, suc, _+_, _-_, _≤_, _<_, min}
 use native.Mathlib.Omega.{arith}
-use native.Mathlib.Nat.{le-trans, min-le-left, min-le-right}
+use native.Mathlib.Nat.{le-trans, le-refl, min-le-left, min-le-right}
 use lib.Dec.{eqb}
 use lib.Ieee.{Float, le, lt, eq, ofBits}
 use lib.ListN.{length, length-set}
@@ -31,7 +31,7 @@ use Rattle.store.specs.Columns.{Columns}
 use Rattle.tables.specs.Tables.{QuadTable, SplineTable, quadCapacityOf, splineCapacityOf, capacitiesOf, putQuad, putSpline, lastSplineOf, splineAt}
 use Rattle.tables.specs.Run.{World, world, applyOf, pushOf, runOf, startState}
 use Rattle.tables.specs.Commands.{primitivesOf, tablesOf}
-use Rattle.tables.proofs.Laws.{totalAt, Fitting, SplineLaws, QuadLaws, Stepped, last-is, clear-length, unmarked, stepped, extended, bent}
+use Rattle.tables.proofs.Laws.{numberAt, totalAt, Fitting, SplineLaws, QuadLaws, Stepped, last-is, clear-length, unmarked, stepped, extended, bent}
 
 pub record Laws (caps : Capacities) (w : World) : Type 0 where
   pub splines : SplineLaws caps (w .state) (w .splines)
@@ -187,3 +187,69 @@ module _ (setting : Setting) (caps : Capacities) where
       go : (b : Bool) → Laws caps (cond b (pushOf setting caps p w) w)
       go true = push-laws p w g
       go false = g
+
+-- ---- drawings
+capacity-fits : (q : QuadTable) (s : SplineTable) → Fitting (capacitiesOf q s) q s
+unfolding capacitiesOf quadCapacityOf splineCapacityOf
+capacity-fits q s =
+    record {
+      sums = le-trans (eight q) (min-le-left (length (q .partial-curvatures)) (length (q .partial-splines)));
+      numbers = le-trans (eight q) (min-le-right (length (q .partial-curvatures)) (length (q .partial-splines)));
+      totals = le-trans (min-le-right _ _) (min-le-left _ _);
+      flags =
+        le-trans (min-le-right _ _)
+        (le-trans (min-le-right _ _)
+        (le-trans (min-le-right _ _)
+        (le-trans (min-le-right _ _)
+        (le-trans (min-le-right _ _) (min-le-right (length (s .p2y)) (length (s .contour)))))));
+    }
+  where
+  eight : (q : QuadTable) → quadCapacityOf q ≤ min (length (q .partial-curvatures)) (length (q .partial-splines))
+  eight q =
+      le-trans (min-le-right _ _)
+      (le-trans (min-le-right _ _)
+      (le-trans (min-le-right _ _)
+      (le-trans (min-le-right _ _)
+      (le-trans (min-le-right _ _)
+      (le-trans (min-le-right _ _)
+      (le-trans (min-le-right _ _)
+      (min-le-right (length (q .curvatures-recip)) (min (length (q .partial-curvatures)) (length (q .partial-splines))))))))))
+
+none-below : {A : Type 0} (k : ℕ) → k < 0 → A
+none-below k b = absurd (never k b)
+  where
+  never : (k : ℕ) → k < 0 → ⊥
+  never k b = omega arith
+
+start-laws : (q : QuadTable) (s : SplineTable) → Laws (capacitiesOf q s) (world startState q s)
+start-laws q s =
+    record {
+      splines = record { within = omega arith; started = λ e. absurd (true≢false e); limited = λ k b. none-below k b; flagged = λ z. none-below 0 z };
+      quads = record {
+        within = omega arith;
+        numbered = λ i b. none-below i b;
+        ordered = λ i b. none-below (i + 1) b;
+        limited = λ i b. none-below i b;
+        totalled = λ i b l. none-below i b;
+      };
+      fits = capacity-fits q s;
+    }
+
+-- whatever the store holds, and on every answer
+pub tables-laws : (setting : Setting) (store : StoreState) (c : Columns) (q : QuadTable) (s : SplineTable) → Laws (capacitiesOf q s) (tablesOf setting store c q s)
+unfolding tablesOf
+tables-laws setting store c q s = run-laws setting (capacitiesOf q s) (primitivesOf store c) (world startState q s) (start-laws q s)
+
+-- "the quads of a spline stand together and in order": their numbers never fall
+module _ (caps : Capacities) (w : World) (g : Laws caps w) where
+  pub in-order : (i n : ℕ) → i + n < w .state .quads → numberAt (w .quads) i ≤ numberAt (w .quads) (i + n)
+  in-order i zero b = rw (same i) (le-refl (numberAt (w .quads) i))
+    where
+    same : (i : ℕ) → i + 0 ≡ i
+    same i = omega arith
+  in-order i (suc n) b =
+      rw (next i n)
+      (le-trans (in-order i n (omega arith)) (g .quads .ordered (i + n) (omega arith)))
+    where
+    next : (i n : ℕ) → i + suc n ≡ i + n + 1
+    next i n = omega arith
