@@ -3,8 +3,9 @@ use mathlib.Core.Path.{_≡_, refl, sym, _∙_}
 use mathlib.Core.Bool.{Bool, true, false, true≢false, not, _&&_, _||_, cond}
 use Prim.Native.Nat.{ℕ, _+_, _≤_, _<_}
 use native.Mathlib.Omega.{arith}
-use lib.Dec.{leb, ltb, eqb}
-use lib.Ieee.{Float, nan, inf, fin, below, level, lt, eq, le, ofBits}
+use lib.Dec.{T, leb, ltb, eqb}
+use lib.Ieee.{Float, nan, inf, fin, below, level, lt, eq, le, ofBits, binary32, fits}
+use lib.Ieee.Fits.{mul-fits}
 use lib.Ieee.Scale.{finite}
 use borrow.Author.Tests.{leb-false, ltb-false, lt-ltb, eqb-false, not-false}
 use Rattle.leaves.specs.Single.{_⊕_, one32, two32, recip}
@@ -28,7 +29,7 @@ use Rattle.primitives.specs.declared.SplineRow.{SplineRow}
 use Rattle.primitives.specs.declared.SplineEdit.{SplineEdit}
 use Rattle.primitives.specs.declared.Edit.{Edit}
 use Rattle.primitives.specs.declared.Edit.the-variants.{Keep, Extend, Bend}
-use Rattle.primitives.specs.Quads.{straightOf, straightCurve, curveOf}
+use Rattle.primitives.specs.Quads.{ownCurvatureOf, straightOf, straightCurve, curveOf}
 use Rattle.primitives.specs.Splines.{farOf, opensOf, lineAngleOf, sumBefore, splineEditOf}
 use Rattle.primitives.specs.Plan.{refusedOf, markedOf, planLineOf, quadRowOf, planCurveOf, planLegsOf, planQuadOf, planOf}
 
@@ -58,24 +59,25 @@ above true a b e =
 pub record Above (own : Float) : Type 0 where
   pub over : lt one32 own ≡ true
   pub whole : finite own ≡ true
+  pub exact : T (fits binary32 own)
 
-not-straight : (x : Float) → straightOf x ≡ false → Above x
+not-straight : (x : Float) → T (fits binary32 x) → straightOf x ≡ false → Above x
 unfolding straightOf lt eq le ofBits
-not-straight nan e = absurd (true≢false e)
-not-straight (inf s) e = absurd (true≢false e)
-not-straight (fin s m d) e = record { over = above s _ _ e; whole = refl }
+not-straight nan f e = absurd (true≢false e)
+not-straight (inf s) f e = absurd (true≢false e)
+not-straight (fin s m d) f e = record { over = above s _ _ e; whole = refl; exact = f }
 
 two-above : Above two32
-unfolding lt ofBits
-two-above = record { over = refl; whole = refl }
+unfolding lt ofBits fits
+two-above = record { over = refl; whole = refl; exact = tt }
 
 pub own-above : (p0 p1 p2 : Point) → Above (curveOf p0 p1 p2 .curvature)
-unfolding curveOf
-own-above p0 p1 p2 = go _ _ refl
+unfolding curveOf ownCurvatureOf
+own-above p0 p1 p2 = go _ _ (mul-fits binary32 _ _) refl
   where
-    go : (x : Curve) (b : Bool) → straightOf (x .curvature) ≡ b → Above ((cond b straightCurve x) .curvature)
-    go x true e = two-above
-    go x false e = not-straight (x .curvature) e
+    go : (x : Curve) (b : Bool) → T (fits binary32 (x .curvature)) → straightOf (x .curvature) ≡ b → Above ((cond b straightCurve x) .curvature)
+    go x true f e = two-above
+    go x false f e = not-straight (x .curvature) f e
 
 -- ---- the edits
 -- a spline's edit, with the sum for a new spline and for the last one

@@ -197,29 +197,29 @@ capacity-fits q s =
       numbers = le-trans (eight q) (min-le-right (length (q .partial-curvatures)) (length (q .partial-splines)));
       totals = le-trans (min-le-right _ _) (min-le-left _ _);
       flags =
+          le-trans (min-le-right _ _)
+          (le-trans (min-le-right _ _)
+          (le-trans (min-le-right _ _)
+          (le-trans (min-le-right _ _)
+          (le-trans (min-le-right _ _) (min-le-right (length (s .p2y)) (length (s .contour)))))));
+    }
+  where
+    eight : (q : QuadTable) → quadCapacityOf q ≤ min (length (q .partial-curvatures)) (length (q .partial-splines))
+    eight q =
         le-trans (min-le-right _ _)
         (le-trans (min-le-right _ _)
         (le-trans (min-le-right _ _)
         (le-trans (min-le-right _ _)
-        (le-trans (min-le-right _ _) (min-le-right (length (s .p2y)) (length (s .contour)))))));
-    }
-  where
-  eight : (q : QuadTable) → quadCapacityOf q ≤ min (length (q .partial-curvatures)) (length (q .partial-splines))
-  eight q =
-      le-trans (min-le-right _ _)
-      (le-trans (min-le-right _ _)
-      (le-trans (min-le-right _ _)
-      (le-trans (min-le-right _ _)
-      (le-trans (min-le-right _ _)
-      (le-trans (min-le-right _ _)
-      (le-trans (min-le-right _ _)
-      (min-le-right (length (q .curvatures-recip)) (min (length (q .partial-curvatures)) (length (q .partial-splines))))))))))
+        (le-trans (min-le-right _ _)
+        (le-trans (min-le-right _ _)
+        (le-trans (min-le-right _ _)
+        (min-le-right (length (q .curvatures-recip)) (min (length (q .partial-curvatures)) (length (q .partial-splines))))))))))
 
 none-below : {A : Type 0} (k : ℕ) → k < 0 → A
 none-below k b = absurd (never k b)
   where
-  never : (k : ℕ) → k < 0 → ⊥
-  never k b = omega arith
+    never : (k : ℕ) → k < 0 → ⊥
+    never k b = omega arith
 
 start-laws : (q : QuadTable) (s : SplineTable) → Laws (capacitiesOf q s) (world startState q s)
 start-laws q s =
@@ -245,11 +245,11 @@ module _ (caps : Capacities) (w : World) (g : Laws caps w) where
   pub in-order : (i n : ℕ) → i + n < w .state .quads → numberAt (w .quads) i ≤ numberAt (w .quads) (i + n)
   in-order i zero b = rw (same i) (le-refl (numberAt (w .quads) i))
     where
-    same : (i : ℕ) → i + 0 ≡ i
-    same i = omega arith
+      same : (i : ℕ) → i + 0 ≡ i
+      same i = omega arith
   in-order i (suc n) b =
       rw (next i n)
       (le-trans (in-order i n (omega arith)) (g .quads .ordered (i + n) (omega arith)))
     where
-    next : (i n : ℕ) → i + suc n ≡ i + n + 1
-    next i n = omega arith
+      next : (i n : ℕ) → i + suc n ≡ i + n + 1
+      next i n = omega arith
