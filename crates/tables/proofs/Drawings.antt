@@ -2,6 +2,7 @@
 use mathlib.Core.Path.{_≡_, refl, sym, ap, _∙_}
 use mathlib.Core.Bool.{Bool, true, false, true≢false, cond}
 use mathlib.Core.List.{List, [], _∷_}
+use mathlib.Core.Logic.{_⊎_, inl, inr, ⊎-elim}
 use Prim.Native.Nat.{ℕ, zero, suc, _+_, _-_, _≤_, _<_, min}
 use native.Mathlib.Omega.{arith}
 use native.Mathlib.Nat.{le-trans, le-refl, min-le-left, min-le-right}
@@ -25,13 +26,14 @@ use Rattle.primitives.specs.declared.Edit.{Edit}
 use Rattle.primitives.specs.declared.Edit.the-variants.{Keep, Extend, Bend}
 use Rattle.primitives.specs.Splines.{sumBefore, splineEditOf}
 use Rattle.primitives.specs.Plan.{planOf}
-use Rattle.primitives.proofs.Edits.{Planned, Kept, Bent, EditFacts, plan-facts}
+use Rattle.primitives.proofs.Growth.{aboveOne, reaches, over-zero, over-positive, sum-positive}
+use Rattle.primitives.proofs.Edits.{Above, Planned, Kept, Bent, EditFacts, plan-facts}
 use Rattle.store.specs.declared.StoreState.{StoreState}
 use Rattle.store.specs.Columns.{Columns}
 use Rattle.tables.specs.Tables.{QuadTable, SplineTable, quadCapacityOf, splineCapacityOf, capacitiesOf, putQuad, putSpline, lastSplineOf, splineAt}
 use Rattle.tables.specs.Run.{World, world, applyOf, pushOf, runOf, startState}
 use Rattle.tables.specs.Commands.{primitivesOf, tablesOf}
-use Rattle.tables.proofs.Laws.{numberAt, totalAt, Fitting, SplineLaws, QuadLaws, Stepped, last-is, clear-length, unmarked, stepped, extended, bent}
+use Rattle.tables.proofs.Laws.{numberAt, sumAt, totalAt, nextWhole, Fitting, SplineLaws, QuadLaws, Stepped, last-is, clear-length, unmarked, stepped, extended, bent}
 
 pub record Laws (caps : Capacities) (w : World) : Type 0 where
   pub splines : SplineLaws caps (w .state) (w .splines)
@@ -64,6 +66,9 @@ unfolding splineEditOf
 row-sum true st last start end sum quads angle = refl
 row-sum false st last start end sum quads angle = refl
 
+lower : (n : ℕ) → 0 < n → n - 1 < n
+lower n z = omega arith
+
 module _ (caps : Capacities) (st : State) (s : SplineTable) (g : SplineLaws caps st s) where
   last-total : 0 < st .splines → lastSplineOf s (st .splines) .curvature ≡ totalAt s (st .splines - 1)
   unfolding splineAt
@@ -73,9 +78,31 @@ module _ (caps : Capacities) (st : State) (s : SplineTable) (g : SplineLaws caps
   unfolding sumBefore
   before-limited true z = zero-limited
   before-limited false z = rw (last-total (z refl)) (g .limited (st .splines - 1) (lower (st .splines) (z refl)))
-    where
-      lower : (n : ℕ) → 0 < n → n - 1 < n
-      lower n z = omega arith
+
+  before-summed :
+      (opens : Bool) → (opens ≡ false → 0 < st .splines)
+      → (sumBefore opens (lastSplineOf s (st .splines)) ≡ zero32) ⊎ (le aboveOne (sumBefore opens (lastSplineOf s (st .splines))) ≡ true)
+  unfolding sumBefore
+  before-summed true z = inl refl
+  before-summed false z = rw (last-total (z refl)) (g .summed (st .splines - 1) (lower (st .splines) (z refl)))
+
+  joined-sum : 0 < st .splines → sumBefore false (lastSplineOf s (st .splines)) ≡ totalAt s (st .splines - 1)
+  unfolding sumBefore
+  joined-sum z = last-total z
+
+  -- with a quad's own curvature the sum is above 1
+  sum-over : (opens : Bool) → (opens ≡ false → 0 < st .splines) → (own : Float) → Above own → le aboveOne (sumBefore opens (lastSplineOf s (st .splines)) ⊕ own) ≡ true
+  sum-over opens z own a =
+      ⊎-elim
+      (λ (e : sumBefore opens (lastSplineOf s (st .splines)) ≡ zero32). rw (ap (λ (x : Float). x ⊕ own) e) (over-zero own a))
+      (λ h. over-positive (sumBefore opens (lastSplineOf s (st .splines))) own (sum-positive (sumBefore opens (lastSplineOf s (st .splines))) h (before-limited opens z)) a)
+      (before-summed opens z)
+
+unequal : (k n : ℕ) → k ≡ n → k < n → ⊥
+unequal k n e b = omega arith
+
+nothing : (j k n : ℕ) → j + 1 ≡ n → j < k → k < n → ⊥
+nothing j k n e x y = omega arith
 
 edit-at : (opens : Bool) (st : State) (last : SplineRow) (start end : Point) (sum : Float) (quads : ℕ) (angle : Angle) → splineEditOf opens st last start end sum quads angle .at ≡ cond opens (st .splines) (st .splines - 1)
 unfolding splineEditOf
@@ -94,6 +121,7 @@ module _ (caps : Capacities) (st : State) (q : QuadTable) (s : SplineTable) (g :
           within = rw (k .splines) (g .splines .within);
           started = λ e. rw (k .splines) (g .splines .started (k .mark e));
           limited = λ i b. g .splines .limited i (rw (k .splines) at b);
+          summed = λ i b. g .splines .summed i (rw (k .splines) at b);
           flagged = λ z. rw (k .splines) (g .splines .flagged (rw (k .splines) at z));
         };
         quads = record {
@@ -101,6 +129,8 @@ module _ (caps : Capacities) (st : State) (q : QuadTable) (s : SplineTable) (g :
           numbered = λ i b. rw (k .splines) (g .quads .numbered i (rw (k .quads) at b));
           ordered = λ i b. g .quads .ordered i (rw (k .quads) at b);
           limited = λ i b. g .quads .limited i (rw (k .quads) at b);
+          over = λ i b. g .quads .over i (rw (k .quads) at b);
+          reaching = λ i b. g .quads .reaching i (rw (k .quads) at b);
           totalled = λ i b l. g .quads .totalled i (rw (k .quads) at b) (λ j x y. l j x (rw (sym (k .quads)) at y));
         };
         fits = g .fits;
@@ -128,7 +158,7 @@ module _ (caps : Capacities) (st : State) (q : QuadTable) (s : SplineTable) (g :
         first e = g .splines .started (unmarked (st .mark) (p .opens) (p .marked) e)
 
         t : Stepped caps st s (sumBefore (p .opens) last) (st .quads) edit
-        t = stepped caps st s (λ (o : Bool). sumBefore o last) (st .quads) edit (g .splines) (g .fits .totals) (g .fits .flags) p (before-limited caps st s (g .splines) (p .opens) first)
+        t = stepped caps st s (λ (o : Bool). sumBefore o last) (st .quads) edit (g .splines) (g .fits .totals) (g .fits .flags) p (before-limited caps st s (g .splines) (p .opens) first) (before-summed caps st s (g .splines) (p .opens) first)
 
         at-is : edit .at ≡ cond (p .opens) (st .splines) (st .splines - 1)
         at-is = ap (λ (e : SplineEdit). e .at) (p .is) ∙ edit-at (p .opens) st last (p .start) (p .end) (sumBefore (p .opens) last) (st .quads) (p .angle)
@@ -149,7 +179,7 @@ module _ (caps : Capacities) (st : State) (q : QuadTable) (s : SplineTable) (g :
     bend-laws i row b =
         record {
           splines = t .laws;
-          quads = rw (b .at) (bent caps st q s total edit (g .quads) row t (b .room) (g .fits .sums) (g .fits .numbers) (b .number) (b .sum ∙ sum-is) limit);
+          quads = rw (b .at) (bent caps st q s total edit (g .quads) row t (b .room) (g .fits .sums) (g .fits .numbers) (b .number) (b .sum ∙ sum-is) limit over reach);
           fits = fits-quad caps q (putSpline s edit) (fits-spline caps q s (g .fits) edit) i row;
         }
       where
@@ -164,8 +194,40 @@ module _ (caps : Capacities) (st : State) (q : QuadTable) (s : SplineTable) (g :
         limit : le total limit32 ≡ true
         limit = rw (← sum-is) (b .within)
 
+        first : b .spline .opens ≡ false → 0 < st .splines
+        first e = g .splines .started (unmarked (st .mark) (b .spline .opens) (b .spline .marked) e)
+
+        over : le aboveOne total ≡ true
+        over = sum-over caps st s (g .splines) (b .spline .opens) first (b .own) (b .above)
+
+        at-is : edit .at ≡ cond (b .spline .opens) (st .splines) (st .splines - 1)
+        at-is =
+            ap (λ (e : SplineEdit). e .at) (b .spline .is)
+            ∙ edit-at (b .spline .opens) st last (b .spline .start) (b .spline .end) total (st .quads + 1) (b .spline .angle)
+
+        reach : (j : ℕ) → j + 1 ≡ st .quads → numberAt q j ≡ edit .at → le (nextWhole (sumAt q j)) total ≡ true
+        reach j l n = go (b .spline .opens) refl
+          where
+            quad : j < st .quads
+            quad = omega arith
+
+            alone : (k : ℕ) → j < k → k < st .quads → numberAt q j < numberAt q k
+            alone k x y = absurd (nothing j k (st .quads) l x y)
+
+            go : (o : Bool) → b .spline .opens ≡ o → le (nextWhole (sumAt q j)) total ≡ true
+            go true e = absurd (unequal (numberAt q j) (st .splines) (n ∙ at-is ∙ ap (λ (c : Bool). cond c (st .splines) (st .splines - 1)) e) (g .quads .numbered j quad))
+            go false e =
+                let same : sumBefore (b .spline .opens) last ≡ sumAt q j =
+                ap (λ (c : Bool). sumBefore c last) e
+                ∙ joined-sum caps st s (g .splines) (first e)
+                ∙ ap (λ (k : ℕ). totalAt s k) (sym (n ∙ at-is ∙ ap (λ (c : Bool). cond c (st .splines) (st .splines - 1)) e))
+                ∙ g .quads .totalled j quad alone
+                in
+                rw (ap (λ (x : Float). x ⊕ b .own) same)
+                (reaches (sumAt q j) (b .own) (sum-positive (sumAt q j) (g .quads .over j quad) (g .quads .limited j quad)) (b .above))
+
         t : Stepped caps st s total (st .quads + 1) edit
-        t = stepped caps st s (λ (o : Bool). sumBefore o last ⊕ b .own) (st .quads + 1) edit (g .splines) (g .fits .totals) (g .fits .flags) (b .spline) limit
+        t = stepped caps st s (λ (o : Bool). sumBefore o last ⊕ b .own) (st .quads + 1) edit (g .splines) (g .fits .totals) (g .fits .flags) (b .spline) limit (inr over)
 
   apply-laws : (edit : Edit) → EditFacts caps st last edit → Laws caps (applyOf edit q s)
   unfolding applyOf EditFacts
@@ -224,12 +286,14 @@ none-below k b = absurd (never k b)
 start-laws : (q : QuadTable) (s : SplineTable) → Laws (capacitiesOf q s) (world startState q s)
 start-laws q s =
     record {
-      splines = record { within = omega arith; started = λ e. absurd (true≢false e); limited = λ k b. none-below k b; flagged = λ z. none-below 0 z };
+      splines = record { within = omega arith; started = λ e. absurd (true≢false e); limited = λ k b. none-below k b; summed = λ k b. none-below k b; flagged = λ z. none-below 0 z };
       quads = record {
         within = omega arith;
         numbered = λ i b. none-below i b;
         ordered = λ i b. none-below (i + 1) b;
         limited = λ i b. none-below i b;
+        over = λ i b. none-below i b;
+        reaching = λ i b. none-below (i + 1) b;
         totalled = λ i b l. none-below i b;
       };
       fits = capacity-fits q s;

@@ -1,19 +1,20 @@
--- Laws of every run: the quads of a spline stand together and in order, a spline's sum is its last quad's, sums never pass 65,536, and the last spline is flagged.
--- Each push keeps them. Assumes nothing.
+-- Laws of the tables: the quads of a spline stand together and in order, a spline's sum is its last quad's, sums are above 1, each reaches the next whole number, none
+-- passes 65,536, and the last spline is flagged. A row of a spline and of a quad keeps them. Assumes nothing.
 use mathlib.Core.Path.{_≡_, refl, sym, ap, _∙_}
 use mathlib.Core.Bool.{Bool, true, false, true≢false, not, cond}
 use mathlib.Core.List.{List, [], _∷_}
 use mathlib.Core.Logic.{_⊎_, inl, inr, ⊎-elim}
-use Prim.Native.Nat.{ℕ, _+_, _-_, _≤_, _<_, min}
+use Prim.Native.Nat.{ℕ, _+_, _-_, _/_, _≤_, _<_}
 use native.Mathlib.Omega.{arith}
-use native.Mathlib.Nat.{le-trans, le-refl, min-le-left, min-le-right}
+use native.Mathlib.Nat.{le-trans, le-refl}
 use lib.Dec.{eqb}
-use lib.Ieee.{Float, nan, le, lt, eq, ofBits}
+use lib.Ieee.{Float, nan, le}
+use lib.Ieee.Positive.{num, den}
 use lib.ListN.{length, getD, set, length-set}
 use lib.Seq.{getD-set-same, getD-set-other, set-getD}
 use borrow.Author.Tests.{ne-eqb, eqb-true, eqb-false}
 use Rattle.columns.specs.Flags.{flagByteOf, isFlagOf}
-use Rattle.leaves.specs.Single.{_⊕_, zero32}
+use Rattle.leaves.specs.Single.{zero32, whole32}
 use Rattle.leaves.specs.Whole.{limit32}
 use Rattle.point.specs.declared.Point.{Point}
 use Rattle.point.specs.declared.Angle.{Angle}
@@ -23,6 +24,7 @@ use Rattle.primitives.specs.declared.QuadRow.{QuadRow}
 use Rattle.primitives.specs.declared.SplineRow.{SplineRow}
 use Rattle.primitives.specs.declared.SplineEdit.{SplineEdit}
 use Rattle.primitives.specs.Splines.{sumBefore, splineEditOf}
+use Rattle.primitives.proofs.Growth.{aboveOne}
 use Rattle.primitives.proofs.Edits.{Planned, Kept, Bent, EditFacts, plan-facts}
 use Rattle.tables.specs.Tables.{QuadTable, SplineTable, putQuad, clearFlag, putSpline, splineAt, lastSplineOf}
 
@@ -39,6 +41,10 @@ totalAt s k = getD (s .curvature) k nan
 abbrev pub flagAt : SplineTable → ℕ → Bool
 flagAt s k = isFlagOf (getD (s .contour) k 0)
 
+-- the next whole number above a sum
+abbrev pub nextWhole : Float → Float
+nextWhole x = whole32 (num x / den x + 1)
+
 -- the columns take what the capacities say
 pub record Fitting (caps : Capacities) (q : QuadTable) (s : SplineTable) : Type 0 where
   pub sums : caps .quads ≤ length (q .partial-curvatures)
@@ -52,6 +58,8 @@ pub record SplineLaws (caps : Capacities) (st : State) (s : SplineTable) : Type 
   -- where no mark waits there is a spline
   pub started : st .mark ≡ false → 0 < st .splines
   pub limited : (k : ℕ) → k < st .splines → le (totalAt s k) limit32 ≡ true
+  -- "A spline's sum starts at 0."
+  pub summed : (k : ℕ) → k < st .splines → (totalAt s k ≡ zero32) ⊎ (le aboveOne (totalAt s k) ≡ true)
   pub flagged : 0 < st .splines → flagAt s (st .splines - 1) ≡ true
 
 -- ---- the laws of the quad table
@@ -60,6 +68,9 @@ pub record QuadLaws (caps : Capacities) (st : State) (q : QuadTable) (s : Spline
   pub numbered : (i : ℕ) → i < st .quads → numberAt q i < st .splines
   pub ordered : (i : ℕ) → i + 1 < st .quads → numberAt q i ≤ numberAt q (i + 1)
   pub limited : (i : ℕ) → i < st .quads → le (sumAt q i) limit32 ≡ true
+  pub over : (i : ℕ) → i < st .quads → le aboveOne (sumAt q i) ≡ true
+  -- in one spline a sum reaches the next whole number above the sum before it
+  pub reaching : (i : ℕ) → i + 1 < st .quads → numberAt q i ≡ numberAt q (i + 1) → le (nextWhole (sumAt q i)) (sumAt q (i + 1)) ≡ true
   -- "a spline's sum is its last quad's"
   pub totalled : (i : ℕ) → i < st .quads → ((j : ℕ) → i < j → j < st .quads → numberAt q i < numberAt q j) → totalAt s (numberAt q i) ≡ sumAt q i
 
@@ -101,6 +112,7 @@ flag-kept l n flag h e = rw (getD-set-same l n (flagByteOf flag) 0 h, e)
 
 module _ (caps : Capacities) (st : State) (s : SplineTable) (start end : Point) (sum : Float) (quads : ℕ) (angle : Angle)
     (g : SplineLaws caps st s) (totals : caps .splines ≤ length (s .curvature)) (flags : caps .splines ≤ length (s .contour)) (limit : le sum limit32 ≡ true)
+    (kind : (sum ≡ zero32) ⊎ (le aboveOne sum ≡ true))
   where
     opened : st .splines < caps .splines → Stepped caps st s sum quads (splineEditOf true st (lastSplineOf s (st .splines)) start end sum quads angle)
     unfolding splineEditOf putSpline
@@ -118,6 +130,7 @@ module _ (caps : Capacities) (st : State) (s : SplineTable) (start end : Point) 
             within = omega arith;
             started = λ e. omega arith;
             limited = λ k b. ⊎-elim (λ w. rw (w .1) limit) (λ w. rw (w .1) (g .limited k (w .0))) (at-or-below (s .curvature) n sum nan fits k b);
+            summed = λ k b. ⊎-elim (λ w. rw (w .1) kind) (λ w. rw (w .1) (g .summed k (w .0))) (at-or-below (s .curvature) n sum nan fits k b);
             flagged = λ z. rw (one-less n) (flag-kept (clearFlag (not (st .mark)) (s .contour) n) n true (rw (clear-length (not (st .mark)) (s .contour) n) (le-trans h flags)) refl);
           };
         }
@@ -145,6 +158,7 @@ module _ (caps : Capacities) (st : State) (s : SplineTable) (start end : Point) 
             within = g .within;
             started = λ e. z;
             limited = λ k b. ⊎-elim (λ w. rw (w .1) limit) (λ w. rw (w .1) (g .limited k b)) (at-or-below (s .curvature) (n - 1) sum nan fits k (up-to k n b));
+            summed = λ k b. ⊎-elim (λ w. rw (w .1) kind) (λ w. rw (w .1) (g .summed k b)) (at-or-below (s .curvature) (n - 1) sum nan fits k (up-to k n b));
             flagged =
                 λ y. flag-kept (s .contour) (n - 1) (lastSplineOf s n .contour) (le-trans low flags) (ap (λ (r : SplineRow). r .contour) (last-is s n z) ∙ g .flagged z);
           };
@@ -167,12 +181,14 @@ unmarked false opens h e = refl
 module _ (caps : Capacities) (st : State) (s : SplineTable) (sum : Bool → Float) (quads : ℕ) (edit : SplineEdit)
     (g : SplineLaws caps st s) (totals : caps .splines ≤ length (s .curvature)) (flags : caps .splines ≤ length (s .contour))
   where
-    pub stepped : (p : Planned caps st (lastSplineOf s (st .splines)) sum quads edit) → le (sum (p .opens)) limit32 ≡ true → Stepped caps st s (sum (p .opens)) quads edit
-    stepped p limit = rw (p .is) (go (p .opens) refl limit)
+    pub stepped : (p : Planned caps st (lastSplineOf s (st .splines)) sum quads edit) → le (sum (p .opens)) limit32 ≡ true → (sum (p .opens) ≡ zero32) ⊎ (le aboveOne (sum (p .opens)) ≡ true)
+        → Stepped caps st s (sum (p .opens)) quads edit
+    stepped p limit kind = rw (p .is) (go (p .opens) refl limit kind)
       where
-        go : (o : Bool) → p .opens ≡ o → le (sum o) limit32 ≡ true → Stepped caps st s (sum o) quads (splineEditOf o st (lastSplineOf s (st .splines)) (p .start) (p .end) (sum o) quads (p .angle))
-        go true e l = opened caps st s (p .start) (p .end) (sum true) quads (p .angle) g totals flags l (p .room e)
-        go false e l = joined caps st s (p .start) (p .end) (sum false) quads (p .angle) g totals flags l (g .started (unmarked (st .mark) (p .opens) (p .marked) e))
+        go : (o : Bool) → p .opens ≡ o → le (sum o) limit32 ≡ true → (sum o ≡ zero32) ⊎ (le aboveOne (sum o) ≡ true)
+            → Stepped caps st s (sum o) quads (splineEditOf o st (lastSplineOf s (st .splines)) (p .start) (p .end) (sum o) quads (p .angle))
+        go true e l k = opened caps st s (p .start) (p .end) (sum true) quads (p .angle) g totals flags l k (p .room e)
+        go false e l k = joined caps st s (p .start) (p .end) (sum false) quads (p .angle) g totals flags l k (g .started (unmarked (st .mark) (p .opens) (p .marked) e))
 
 -- ---- the quad table
 module _ (caps : Capacities) (st : State) (q : QuadTable) (s : SplineTable) (sum : Float) (edit : SplineEdit) (g : QuadLaws caps st q s) where
@@ -188,12 +204,15 @@ module _ (caps : Capacities) (st : State) (q : QuadTable) (s : SplineTable) (sum
         numbered = λ i b. le-trans (g .numbered i (rw c at b)) (t .more);
         ordered = λ i b. g .ordered i (rw c at b);
         limited = λ i b. g .limited i (rw c at b);
+        over = λ i b. g .over i (rw c at b);
+        reaching = λ i b. g .reaching i (rw c at b);
         totalled = λ i b l. same (numberAt q i) (g .numbered i (rw c at b)) ∙ g .totalled i (rw c at b) (λ j x y. l j x (rw (sym c) at y));
       }
 
   module _ (row : QuadRow) (t : Stepped caps st s sum (st .quads + 1) edit) (room : st .quads < caps .quads)
       (sums : caps .quads ≤ length (q .partial-curvatures)) (numbers : caps .quads ≤ length (q .partial-splines))
       (number : row .spline ≡ edit .at) (summed : row .«partial_curvature» ≡ sum) (limit : le sum limit32 ≡ true)
+      (first : le aboveOne sum ≡ true) (reach : (i : ℕ) → i + 1 ≡ st .quads → numberAt q i ≡ edit .at → le (nextWhole (sumAt q i)) sum ≡ true)
     where
       abbrev pub m : ℕ
       m = st .quads
@@ -251,6 +270,14 @@ module _ (caps : Capacities) (st : State) (q : QuadTable) (s : SplineTable) (sum
           (λ k. rw (number-below i h, number-below (i + 1) k) (g .ordered i k))
           (either (i + 1) b)
 
+      reach-is : (i : ℕ) → i + 1 < m + 1 → numberAt q' i ≡ numberAt q' (i + 1) → le (nextWhole (sumAt q' i)) (sumAt q' (i + 1)) ≡ true
+      reach-is i b e =
+          let h : i < m = omega arith in
+          ⊎-elim
+          (λ (f : i + 1 ≡ m). rw (sum-below i h, ap (λ (k : ℕ). sumAt q' k) f ∙ sum-here) (reach i f (sym (number-below i h) ∙ e ∙ ap (λ (k : ℕ). numberAt q' k) f ∙ number-here)))
+          (λ k. rw (sum-below i h, sum-below (i + 1) k) (g .reaching i k (sym (number-below i h) ∙ e ∙ number-below (i + 1) k)))
+          (either (i + 1) b)
+
       pub bent : QuadLaws caps (edit .next) q' (putSpline s edit)
       bent =
           let c = t .counted in
@@ -260,5 +287,7 @@ module _ (caps : Capacities) (st : State) (q : QuadTable) (s : SplineTable) (sum
                 λ i b. ⊎-elim (λ (e : i ≡ m). rw (ap (λ (k : ℕ). numberAt q' k) e ∙ number-here) (t .fresh)) (λ h. rw (number-below i h) (le-trans (g .numbered i h) (t .more))) (either i (rw c at b));
             ordered = λ i b. order-is i (rw c at b);
             limited = λ i b. ⊎-elim (λ (e : i ≡ m). rw (ap (λ (k : ℕ). sumAt q' k) e ∙ sum-here) limit) (λ h. rw (sum-below i h) (g .limited i h)) (either i (rw c at b));
+            over = λ i b. ⊎-elim (λ (e : i ≡ m). rw (ap (λ (k : ℕ). sumAt q' k) e ∙ sum-here) first) (λ h. rw (sum-below i h) (g .over i h)) (either i (rw c at b));
+            reaching = λ i b. reach-is i (rw c at b);
             totalled = λ i b l. total-is i (rw c at b) (λ j x y. l j x (rw (sym c) at y));
           }
