@@ -155,7 +155,7 @@ nan-bits nan f h = refl
 nan-bits (inf s) f h = sym (ofBits-toBits binary32 (inf s) f) ∙ ap (ofBits binary32) h
 nan-bits (fin s m e) f h = sym (ofBits-toBits binary32 (fin s m e) f) ∙ ap (ofBits binary32) h
 
--- what an f32 holds fits, so `Holds` is so of every command that the code has
+-- an f32 holds only what fits, so every command of the code has this
 abbrev pub Holds : PointCommand → Type 0
 Holds (Start i) = Unit {0}
 Holds (Incr step) = T (fits binary32 step)

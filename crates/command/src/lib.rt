@@ -45,6 +45,7 @@ impl PointCommand {
         }
     }
 
+    // Every word is a command: 7FC00000, which is never written, reads as Start 0.
     pub fn unpack(word: u32) -> Self
         ensures { λ r. ⌜ r ≡ unpackOf word ⌝ }
     {

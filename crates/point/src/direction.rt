@@ -9,6 +9,8 @@ const FRAC_PI_2: f32 = 1.5707964;
 
 const MAX_ANGLE_ERROR: f32 = 0.001;
 
+// A polynomial in the lesser over the greater side gives the angle up to 45 degrees; three tests turn it
+// to where the direction lies.
 pub fn approx_atan2(y: f32, x: f32) -> f32
     ensures { λ r. ⌜ r ≡ approxAtan2Of y x ⌝ }
 {

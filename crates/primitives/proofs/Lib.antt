@@ -1,4 +1,2 @@
 pub mod Refusals
 pub mod Examples
-pub mod Edits
-pub mod Growth

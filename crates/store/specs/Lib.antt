@@ -1,5 +1,6 @@
 pub mod Columns
 pub mod Closing
 pub mod Drawing
+pub mod Plan
 pub mod Replay
 pub mod Drawable

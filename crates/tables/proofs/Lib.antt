@@ -1,8 +1,12 @@
 pub mod Past
 pub mod Written
+pub mod RunningSums
+pub mod Pushes
 pub mod Runs
 pub mod Lengths
 pub mod Cuts
 pub mod Taken
-pub mod Laws
-pub mod Drawings
+pub mod Spans
+pub mod Sound
+pub mod Flags
+pub mod Moves

@@ -4,6 +4,8 @@ use mathlib.Core.Bool.{Bool, true, _&&_, cond}
 use mathlib.Core.List.{List, [], _∷_, _++_}
 use lib.Dec.{leb, ltb, eqb}
 use lib.ListN.{length}
+use Rattle.text.specs.declared.HexAt.{HexAt}
+use Rattle.text.specs.declared.HexAt.the-variants.{Number, Wrong}
 use Rattle.text.specs.Bytes.{partAt}
 
 -- 0 to 9, then a to f
@@ -29,6 +31,9 @@ hexStandsAt text at = eqb (length (partAt text at 8)) 8 && allHex (partAt text a
 
 unfoldable pub hexNumberAt : List ℕ → ℕ → ℕ
 hexNumberAt text at = hexNumber 0 (partAt text at 8)
+
+unfoldable pub hexAtOf : List ℕ → ℕ → HexAt
+hexAtOf text at = cond (hexStandsAt text at) (Number (hexNumberAt text at)) Wrong
 
 -- the k lowest digits of n, the highest first
 unfoldable pub hexDigits : ℕ → ℕ → List ℕ

@@ -11,6 +11,7 @@ use Rattle.point.specs.Point.{minusOf, lenOf}
 use Rattle.command.specs.declared.PointCommand.{PointCommand}
 use Rattle.command.specs.declared.PointCommand.the-variants.{Start, Incr, End}
 use Rattle.command.specs.Packing.{packOf}
+use Rattle.primitives.specs.declared.SplineRow.{SplineRow}
 use Rattle.primitives.specs.Splines.{maxError}
 use Rattle.tables.specs.Tables.{QuadTable, SplineTable, splineAt}
 
@@ -32,15 +33,18 @@ unfoldable pub stepSizeOf : SplineTable → ℕ → Float
 stepSizeOf s k = splineAt s k .curvature ⊘ whole32 (subdivisionsOf s k)
 
 -- "Start k is written for the first spline, after a flagged one, or where the start is more than 0.0625 from the previous end."
+abbrev pub startsAfterOf : ℕ → SplineRow → SplineRow → Bool
+startsAfterOf k last row = eqb k 0 || last .contour || lt maxError (lenOf (minusOf (last .p2) (row .p0)))
+
 unfoldable pub startsOf : SplineTable → ℕ → Bool
-startsOf s k =
-    eqb k 0
-    || splineAt s (k - 1) .contour
-    || lt maxError (lenOf (minusOf (splineAt s (k - 1) .p2) (splineAt s k .p0)))
+startsOf s k = startsAfterOf k (splineAt s (k - 1)) (splineAt s k)
 
 -- "The quad cursor goes on by one at step p when p exceeds the cursor's sum"
+abbrev pub cursorAtOf : List Float → ℕ → ℕ → ℕ
+cursorAtOf sums p cursor = cond (lt (getD sums cursor nan) (whole32 p)) (cursor + 1) cursor
+
 unfoldable pub cursorAt : QuadTable → ℕ → ℕ → ℕ
-cursorAt q p cursor = cond (lt (getD (q .partial-curvatures) cursor nan) (whole32 p)) (cursor + 1) cursor
+cursorAt q p cursor = cursorAtOf (q .partial-curvatures) p cursor
 
 -- n steps from step p on
 unfoldable pub stepsFrom : QuadTable → Float → ℕ → ℕ → ℕ → List Item

@@ -1,1 +1,89 @@
-// The walk over the tables, in words: populate_buffers of path.rs.
+// The walk over the splines: where a Start is written, how many steps there are, where the quad cursor goes, and how long the whole is. populate_buffers of
+// path.rs.
+ghost use mathlib.Core.Path.{_≡_};
+ghost use Prim.Native.Nat.{_≤_};
+ghost use Rattle.tables.specs.Tables.{splineTable};
+ghost use Rattle.walk.specs.Walk.{startsAfterOf, cursorAtOf};
+ghost use Rattle.walk.specs.Length.{stepsOf, sizeOf, splineLengthOf, walkLengthOf};
+use primitives::SplineRow;
+use tables::spline_at;
+
+// A gap over this starts a new line.
+const MAX_ERROR: f32 = 0.0625;
+
+// Whether a Start is written for spline k, which comes after `last`.
+pub fn starts_after(k: u32, last: SplineRow, row: SplineRow) -> bool
+    ensures { λ r. ⌜ r ≡ startsAfterOf k last row ⌝ }
+{
+    let end = last.p2;
+    let start = row.p0;
+    let gap = end.minus(start).len();
+    (k == 0) | last.contour | (gap > MAX_ERROR)
+}
+
+// How many steps a spline of this sum has.
+pub fn steps(sum: f32) -> u32
+    ensures { λ r. ⌜ r ≡ stepsOf sum ⌝ }
+{
+    let m = leaves::whole_up(sum);
+    if m == 0 { 0 } else { m - 1 }
+}
+
+// The size of those steps; a NaN where there are none.
+pub fn size(sum: f32) -> f32
+    ensures { λ r. ⌜ r ≡ sizeOf sum ⌝ }
+{
+    let m = leaves::whole_up(sum);
+    sum / m as f32
+}
+
+// The cursor for step p: on by one, and no further, where p exceeds the sum of its quad.
+pub fn cursor_at(partial_curvatures: &[f32], p: u32, cursor: usize) -> usize
+    requires { ⌜ p ≤ 65537 ⌝ }
+    ensures { λ r. ⌜ r ≡ cursorAtOf (now («partial_curvatures» .entry)) p cursor ⌝ }
+{
+    if cursor < partial_curvatures.len() {
+        let sum = partial_curvatures[cursor];
+        if p as f32 > sum {
+            return cursor + 1;
+        }
+    }
+    cursor
+}
+
+// How many items spline k has.
+pub fn spline_length(k: u32, last: SplineRow, row: SplineRow) -> u64
+    ensures { λ r. ⌜ r ≡ splineLengthOf k last row ⌝ }
+{
+    let n = steps(row.curvature) as u64;
+    if starts_after(k, last, row) {
+        return n + 2;
+    }
+    n + 1
+}
+
+// How many items the walk over n splines has: at most 65,538 for each, so that the sum fits.
+pub fn walk_length(
+    curvature: &[f32],
+    p0x: &[f32],
+    p0y: &[f32],
+    p2x: &[f32],
+    p2y: &[f32],
+    contour: &[u8],
+    n: u32,
+) -> u64
+    ensures { λ r. ⌜ r ≡ walkLengthOf (splineTable (now (curvature .entry)) (now (p0x .entry)) (now (p0y .entry)) (now (p2x .entry)) (now (p2y .entry)) (now (contour .entry))) n ⌝ }
+{
+    let mut total: u64 = 0;
+    let mut last = spline_at(curvature, p0x, p0y, p2x, p2y, contour, 0);
+    let mut k: u32 = 0;
+    let mut left = n;
+    while left > 0 {
+        let row = spline_at(curvature, p0x, p0y, p2x, p2y, contour, k as usize);
+        total += spline_length(k, last, row);
+        last = row;
+        k += 1;
+        left -= 1;
+    }
+    total
+}

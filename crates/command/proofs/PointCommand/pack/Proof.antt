@@ -35,10 +35,16 @@ unfolding packOf
 returns-2 c = c .bits .ensures ∙ ap packOf (sym (c .before .before .self2 .given .1))
 
 returns-3 : tie.Need-returns-3
-returns-3 c = let i = c .before .before .self3 .given .0 .0 in end-flagged i ∙ ap (λ (f : Bool). packOf (End i f)) (sym (c .if1 .taken)) ∙ ap packOf (sym (c .before .before .self3 .given .1))
+returns-3 c =
+    let g = c .before .before .self3 .given in
+    let i = g .0 .0 in
+    end-flagged i ∙ ap (λ (f : Bool). packOf (End i f)) (sym (c .if1 .taken)) ∙ ap packOf (sym (g .1))
 
 returns-4 : tie.Need-returns-4
-returns-4 c = let i = c .before .before .self3 .given .0 .0 in end-plain i ∙ ap (λ (f : Bool). packOf (End i f)) (sym (c .if1 .left)) ∙ ap packOf (sym (c .before .before .self3 .given .1))
+returns-4 c =
+    let g = c .before .before .self3 .given in
+    let i = g .0 .0 in
+    end-plain i ∙ ap (λ (f : Bool). packOf (End i f)) (sym (c .if1 .left)) ∙ ap packOf (sym (g .1))
 
 pub pack-spec : {M : Type 1} → statement M
 pack-spec =

@@ -1,11 +1,9 @@
 -- `leaves::root::settle` meets its contract. The first loop ends with n ≤ r * r + r, which the second keeps; the second's test is the rest. The measures: how far r is from its bound, and r. Assumes nothing.
-use mathlib.Core.Path.{_≡_, refl, sym, subst}
+use mathlib.Core.Path.{_≡_, subst}
 use Prim.Native.Nat.{ℕ, zero, suc, _+_, _-_, _*_, _<_, _≤_}
-use native.Mathlib.Nat.{mul-le-mul, le-of-lt, lt-of-le-of-lt}
+use native.Mathlib.Nat.{mul-le-mul, le-of-lt}
 use native.Mathlib.Omega.{arith}
-use Rattle.rounding.proofs.Roots.{square-lt}
-use Rattle.rounding.specs.Roots.{IsNear}
-use Rattle.rounding.proofs.Near.{square-suc}
+use Rattle.rounding.proofs.RootTest.{square-suc, under}
 use Rattle.leaves.proofs.root.settle.Statement.{statement}
 use Rattle.leaves.proofs.root.settle.Tie as tie
 
@@ -24,20 +22,13 @@ abbrev μ-loop2 : tie.MeasureT-loop2
 square : (r : ℕ) → r < 268435456 → r * r ≤ 72057594037927936
 square r h = mul-le-mul (le-of-lt h) (le-of-lt h)
 
--- up: r * r + r < n
-up : (n r : ℕ) → n < 281474976710656 → r * r + r < n → r < 16777216
-up n r hi h = square-lt r 16777216 n (first (r * r) h) hi
-  where
-    first : (a : ℕ) → a + r < n → a ≤ n
-    first a h = omega arith
-
 -- down: n + r ≤ r * r
-some : (n r : ℕ) → 0 < n → n + r ≤ r * r → 1 ≤ r
-some n zero p h = absurd (no h)
+some : (r : ℕ) {a : ℕ} → a ≤ r * r → 0 < a → 1 ≤ r
+some zero h p = absurd (no h p)
   where
-    no : n + 0 ≤ 0 → ⊥
-    no h = omega (arith, p)
-some n (suc r) p h = omega arith
+    no : {a : ℕ} → a ≤ 0 → 0 < a → ⊥
+    no h p = omega arith
+some (suc r) h p = omega arith
 
 down : (n r : ℕ) → 1 ≤ r → n + r ≤ r * r → n ≤ (r - 1) * (r - 1) + (r - 1)
 down n r p h = last (r - 1) (r * r) ((r - 1) * (r - 1)) (subst (λ (x : ℕ). x * x ≡ (r - 1) * (r - 1) + (r - 1) + (r - 1) + 1) (one r p) (square-suc (r - 1))) (one r p) h
@@ -64,7 +55,7 @@ loop-less : tie.Need-loop-less Inv-loop μ-loop Inv-loop2 μ-loop2
 loop-less c = omega arith
 
 loop-again : tie.Need-loop-again Inv-loop μ-loop Inv-loop2 μ-loop2
-loop-again c = omega (arith, up (c .before .before .args .n) (c .before .loop .r) (c .before .before .pre .1 .0) (c .loop-test .taken))
+loop-again c = omega (arith, under (c .before .before .args .n) (c .before .loop .r) (c .before .before .pre .1 .0) (c .loop-test .taken))
 
 loop2-holds : tie.Need-loop2-holds Inv-loop μ-loop Inv-loop2 μ-loop2
 loop2-holds c = (c .before .loop .inv, c .loop-test .left)
@@ -76,16 +67,16 @@ mul-loop2 : tie.Need-mul-loop2 Inv-loop μ-loop Inv-loop2 μ-loop2
 mul-loop2 c = omega (arith, square (c .loop2 .r) (c .loop2 .inv .0))
 
 sub-r : tie.Need-sub-r Inv-loop μ-loop Inv-loop2 μ-loop2
-sub-r c = some (c .before .before .before .before .args .n) (c .before .loop2 .r) (c .before .before .before .before .pre .0) (c .loop2-test .taken)
+sub-r c = some (c .before .loop2 .r) (c .loop2-test .taken) (omega (arith, c .before .before .before .before .pre .0))
 
 loop2-less : tie.Need-loop2-less Inv-loop μ-loop Inv-loop2 μ-loop2
-loop2-less c = omega (arith, some (c .before .before .before .before .args .n) (c .before .loop2 .r) (c .before .before .before .before .pre .0) (c .loop2-test .taken))
+loop2-less c = let p : 1 ≤ c .before .loop2 .r = some (c .before .loop2 .r) (c .loop2-test .taken) (omega (arith, c .before .before .before .before .pre .0)) in omega arith
 
 loop2-again : tie.Need-loop2-again Inv-loop μ-loop Inv-loop2 μ-loop2
 loop2-again c =
     let n = c .before .before .before .before .args .n in
     let l = c .before .loop2 in
-    let p : 1 ≤ l .r = some n (l .r) (c .before .before .before .before .pre .0) (c .loop2-test .taken) in
+    let p : 1 ≤ l .r = some (l .r) (c .loop2-test .taken) (omega (arith, c .before .before .before .before .pre .0)) in
     (less (l .r) (l .inv .0), down n (l .r) p (c .loop2-test .taken))
   where
     less : (r : ℕ) → r < 268435456 → r - 1 < 268435456

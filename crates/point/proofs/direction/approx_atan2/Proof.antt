@@ -39,25 +39,47 @@ fma-requires-2 c κs = search needs
 fma-requires-3 : tie.Need-fma-requires-3
 fma-requires-3 c κs = search needs
 
-returns : tie.Need-returns
+-- where the arms of the first test meet, and of the second
+steep : (c : tie.Joined1) →
+    let abs2 = c .before .before .before .before .before .before in
+    let r = c .before .fma3 .result in
+    c .if1 .r ≡ cond (lt (abs2 .before .abs .result) (abs2 .abs2 .result)) (halfPi ⊖ r) r
+steep c = ⊎-elim (λ w. rw (w .0 .taken) (w .1)) (λ w. rw (w .0 .left) (w .1)) (c .if1 .came)
+
+behind : (c : tie.Joined2) →
+    let start = c .before .before .before .before .before .before .before .before .before in
+    let r = c .before .if1 .r in
+    c .if2 .r ≡ cond (lt (start .args .x) zero32) (pi ⊖ r) r
+behind c = ⊎-elim (λ w. rw (w .0 .taken) (w .1)) (λ w. rw (w .0 .left) (w .1)) (c .if2 .came)
+
+-- all but the last test
+turned : (c : tie.Joined2) →
+    let start = c .before .before .before .before .before .before .before .before .before in
+    approxAtan2Of (start .args .y) (start .args .x) ≡ cond (lt (start .args .y) zero32) (neg (c .if2 .r)) (c .if2 .r)
 unfolding approxAtan2Of
-returns c =
-    let r = c .before .before .before .fma3 .result in
-    let steep : c .before .before .if1 .r ≡ cond (lt (c .before .before .before .before .before .before .before .before .before .abs .result) (c .before .before .before .before .before .before .before .before .abs2 .result)) (halfPi ⊖ r) r =
-    ⊎-elim (λ w. rw (w .0 .taken) (w .1)) (λ w. rw (w .0 .left) (w .1)) (c .before .before .if1 .came) in
-    let behind : c .before .if2 .r ≡ cond (lt (c .before .before .before .before .before .before .before .before .before .before .args .x) zero32) (pi ⊖ c .before .before .if1 .r) (c .before .before .if1 .r) =
-    ⊎-elim (λ w. rw (w .0 .taken) (w .1)) (λ w. rw (w .0 .left) (w .1)) (c .before .if2 .came) in
-    rw (← first, ← third, ← c .before .before .before .before .before .before .before .before .before .abs .ensures, ← c .before .before .before .before .before .before .before .before .abs2 .ensures, ← c .before .before .before .before .before .before .before .min .ensures, ← c .before .before .before .before .before .before .max .ensures, ← c .before .before .before .before .before .fma .ensures, ← c .before .before .before .before .fma2 .ensures, ← c .before .before .before .fma3 .ensures, ← steep, ← behind, c .if3 .taken)
+turned c =
+    let fma3 = c .before .before in
+    let max = fma3 .before .before .before in
+    let abs2 = max .before .before in
+    rw (
+      ← first,
+      ← third,
+      ← abs2 .before .abs .ensures,
+      ← abs2 .abs2 .ensures,
+      ← max .before .min .ensures,
+      ← max .max .ensures,
+      ← fma3 .before .before .fma .ensures,
+      ← fma3 .before .fma2 .ensures,
+      ← fma3 .fma3 .ensures,
+      ← steep (c .before),
+      ← behind c,
+    )
+
+returns : tie.Need-returns
+returns c = rw (turned (c .before), c .if3 .taken)
 
 returns-2 : tie.Need-returns-2
-unfolding approxAtan2Of
-returns-2 c =
-    let r = c .before .before .before .fma3 .result in
-    let steep : c .before .before .if1 .r ≡ cond (lt (c .before .before .before .before .before .before .before .before .before .abs .result) (c .before .before .before .before .before .before .before .before .abs2 .result)) (halfPi ⊖ r) r =
-    ⊎-elim (λ w. rw (w .0 .taken) (w .1)) (λ w. rw (w .0 .left) (w .1)) (c .before .before .if1 .came) in
-    let behind : c .before .if2 .r ≡ cond (lt (c .before .before .before .before .before .before .before .before .before .before .args .x) zero32) (pi ⊖ c .before .before .if1 .r) (c .before .before .if1 .r) =
-    ⊎-elim (λ w. rw (w .0 .taken) (w .1)) (λ w. rw (w .0 .left) (w .1)) (c .before .if2 .came) in
-    rw (← first, ← third, ← c .before .before .before .before .before .before .before .before .before .abs .ensures, ← c .before .before .before .before .before .before .before .before .abs2 .ensures, ← c .before .before .before .before .before .before .before .min .ensures, ← c .before .before .before .before .before .before .max .ensures, ← c .before .before .before .before .before .fma .ensures, ← c .before .before .before .before .fma2 .ensures, ← c .before .before .before .fma3 .ensures, ← steep, ← behind, c .if3 .left)
+returns-2 c = rw (turned (c .before), c .if3 .left)
 
 pub approx-atan2-spec : {M : Type 1} → statement M
 approx-atan2-spec =

@@ -1,0 +1,40 @@
+-- The quarter rounds get the words and points of the original Rust, by computation. Assumes nothing.
+use mathlib.Core.Path.{_≡_, refl}
+use mathlib.Core.List.{List, map}
+use lib.Count.{trailingZeros}
+use lib.Ieee.{size, span, climb, odd, units, round, neg, sum, add, sub, mul, div, lt, eq, le, ofInt, isNan, ofFields, ofBits, toBits}
+use Rattle.rounding.specs.Roots.{rootIn, root, rooted}
+use Rattle.leaves.specs.Bits.{bitsOf, floatOf}
+use Rattle.leaves.specs.Fma.{fmaOf}
+use Rattle.leaves.specs.Pieces.{piecesOf}
+use Rattle.leaves.specs.Sixth.{sixthIn, wholeSixth, cutTo, sixthRootOf}
+use Rattle.leaves.specs.Small.{negativeOf, absOf, lessOf, minOf, maxOf, clampOf, ceilOf}
+use Rattle.leaves.specs.Sqrt.{sqrtOf}
+use Rattle.leaves.specs.Whole.{wholeUpOf}
+use Rattle.point.specs.Angle.{approxAtan2Of, angleOf, diffOf, changedOf}
+use Rattle.point.specs.Curve.{lerpOf, curvatureOf, invCurvatureOf, quadAtOf, cubicAtOf, evalCubicOf, evalQuadOf}
+use Rattle.point.specs.Point.{rationalOf, appliedOf, minusOf, sameOf, lenOf}
+use Rattle.command.specs.Packing.{packOf, unpackOf}
+use Rattle.store.specs.Closing.{unclosedOf}
+use Rattle.store.specs.Columns.{storedPointOf, lastCommandOf, putPoint, putCommand, evenOf, usableOf}
+use Rattle.store.specs.Drawable.{storedOkOf, knownOf, totalUsesOf, drawableOf}
+use Rattle.store.specs.Drawing.{coordinateOkOf, weightOkOf, every, coordinatesOf, weightsOf, appended, closed, moved, writesOf, putPoints, putCommands, written, stateAfter, roomOf, answerOf, drawOf, freshOf}
+use Rattle.store.specs.Replay.{replayOf}
+use Rattle.primitives.specs.Cubics.{bendOf, cubicErrorOf, cubicPiecesOf, cubicPointOf, controlOf, quadsFrom, cutOf, cubicQuadsOf}
+use Rattle.primitives.specs.Plan.{refusedOf, markedOf, planLineOf, quadRowOf, planCurveOf, planLegsOf, planQuadOf, planOf}
+use Rattle.primitives.specs.Quads.{crossOf, legOf, ownCurvatureOf, straightOf, curveOf}
+use Rattle.primitives.specs.Splines.{farOf, opensOf, lineAngleOf, sumBefore, splineEditOf}
+use Rattle.tables.specs.Commands.{cubicFrom, commandPrimitivesOf, primitivesFrom, primitivesOf, tablesOf}
+use Rattle.tables.specs.Run.{applyOf, pushOf, runOf}
+use Rattle.columns.specs.Flags.{flagByteOf, isFlagOf}
+use Rattle.tables.specs.Tables.{quadCapacityOf, splineCapacityOf, capacitiesOf, putQuad, clearFlag, putSpline, splineAt, lastSplineOf}
+use Rattle.walk.specs.Walk.{subdivisionsOf, stepSizeOf, startsOf, cursorAt, stepsFrom, cursorFrom, cursorAfter, splineItemsOf, walkFrom, walkOf, wordOf, wordsOf}
+use Rattle.evaluate.specs.Evaluate.{controlPointOf, previousSumOf, parameterOf, stepPointOf, commandPointOf, itemPointOf, pointsOf}
+use Rattle.flatten.specs.Flatten.{over, fitsOutput, writeOutput, walked, tabled, flattenDrawable, flattenOf}
+use Rattle.promises.specs.Examples.{Example, drawn, flat, wordsAfter, pointsAfter, storedAfter, joinedQuads, joinedSplines, joinedCursors}
+use Rattle.promises.specs.QuarterRound.{quarterRounds}
+use Rattle.promises.specs.Room.{emptyColumns, emptyQuads, emptySplines, emptyOutput}
+
+pub quarter-rounds-hold : map (λ (e : Example). e .given) quarterRounds ≡ map (λ (e : Example). e .claimed) quarterRounds
+unfolding rootIn root rooted bitsOf floatOf fmaOf piecesOf sixthIn wholeSixth cutTo sixthRootOf negativeOf absOf lessOf minOf maxOf clampOf ceilOf sqrtOf wholeUpOf approxAtan2Of angleOf diffOf changedOf lerpOf curvatureOf invCurvatureOf quadAtOf cubicAtOf evalCubicOf evalQuadOf rationalOf appliedOf minusOf sameOf lenOf packOf unpackOf unclosedOf storedPointOf lastCommandOf putPoint putCommand evenOf usableOf storedOkOf knownOf totalUsesOf drawableOf coordinateOkOf weightOkOf every coordinatesOf weightsOf appended closed moved writesOf putPoints putCommands written stateAfter roomOf answerOf drawOf freshOf replayOf bendOf cubicErrorOf cubicPiecesOf cubicPointOf controlOf quadsFrom cutOf cubicQuadsOf refusedOf markedOf planLineOf quadRowOf planCurveOf planLegsOf planQuadOf planOf crossOf legOf ownCurvatureOf straightOf curveOf farOf opensOf lineAngleOf sumBefore splineEditOf cubicFrom commandPrimitivesOf primitivesFrom primitivesOf tablesOf applyOf pushOf runOf flagByteOf isFlagOf quadCapacityOf splineCapacityOf capacitiesOf putQuad clearFlag putSpline splineAt lastSplineOf subdivisionsOf stepSizeOf startsOf cursorAt stepsFrom cursorFrom cursorAfter splineItemsOf walkFrom walkOf wordOf wordsOf controlPointOf previousSumOf parameterOf stepPointOf commandPointOf itemPointOf pointsOf over fitsOutput writeOutput walked tabled flattenDrawable flattenOf drawn flat wordsAfter pointsAfter storedAfter joinedQuads joinedSplines joinedCursors emptyColumns emptyQuads emptySplines emptyOutput trailingZeros size span climb odd units round neg sum add sub mul div lt eq le ofInt isNan ofFields ofBits toBits
+quarter-rounds-hold = refl

@@ -1,0 +1,44 @@
+-- Examples of our own beside P1 to P12: the splines of a second contour are numbered on, and a gap at 0.0625 and to either side of it. Assumes nothing.
+use Prim.Native.Nat.{ℕ}
+use mathlib.Core.List.{List, [], _∷_}
+use lib.Ieee.{Float}
+use Rattle.leaves.specs.Single.{f32, whole32, zero32}
+use Rattle.point.specs.Point.{pointAt, plain}
+use Rattle.store.specs.declared.Call.the-variants.{Move, Line, Build}
+use Rattle.primitives.specs.declared.Setting.the-variants.{Screen, Knife}
+use Rattle.primitives.specs.declared.Primitive.{Primitive}
+use Rattle.primitives.specs.declared.Primitive.the-variants.{Line as Straight}
+use Rattle.tables.specs.Tables.{capacitiesOf}
+use Rattle.tables.specs.Run.{World, world, runOf, startState}
+use Rattle.walk.specs.Walk.{walkOf, wordsOf}
+use Rattle.promises.specs.Room.{emptyQuads, emptySplines}
+use Rattle.promises.specs.Examples.{Example, example, P, wordsAfter}
+
+-- a line along the x axis
+abbrev pub along : Float → Float → Primitive
+along from to = Straight (plain (pointAt from zero32)) (plain (pointAt to zero32))
+
+-- the words of a run over primitives made by hand
+unfoldable pub wordsAlong : List Primitive → List ℕ
+wordsAlong ps =
+    let w = runOf Screen (capacitiesOf (emptyQuads 8) (emptySplines 8)) ps (world startState (emptyQuads 8) (emptySplines 8)) in
+    wordsOf (walkOf (w .quads) (w .splines) (w .state .splines))
+
+-- from 0 to 10, and on from start to 20
+abbrev pub gapTo : Float → List Primitive
+gapTo start = along zero32 (whole32 10) ∷ along start (whole32 20) ∷ []
+
+abbrev pub drawings : List Example
+drawings =
+    -- two triangles: a Move does not reset the running number of splines
+    example (wordsAfter Screen (Line (P 10 0) ∷ Line (P 10 10) ∷ Move (P 20 0) ∷ Line (P 30 0) ∷ Line (P 30 10) ∷ Build ∷ []))
+    (0 ∷ 0x7F800000 ∷ 0xFF800000 ∷ 0xFF800001 ∷ 0xFFC00002 ∷ 0x7F800003 ∷ 0xFF800003 ∷ 0xFF800004 ∷ 0xFFC00005 ∷ [])
+    -- a Move alone between two lines along one axis: two contours, each flagged
+    ∷ example (wordsAfter Knife (Line (P 10 0) ∷ Move (P 10 0) ∷ Line (P 20 0) ∷ []))
+    (0 ∷ 0x7F800000 ∷ 0xFFC00000 ∷ 0x7F800001 ∷ 0xFFC00001 ∷ [])
+    -- a line that starts exactly 0.0625 from the last end opens a spline, and no Start is written
+    ∷ example (wordsAlong (gapTo (f32 0x4121_0000))) (0x7F800000 ∷ 0xFF800000 ∷ 0xFFC00001 ∷ [])
+    -- one f32 nearer it joins the spline, one f32 further a Start is written
+    ∷ example (wordsAlong (gapTo (f32 0x4120_ffff))) (0x7F800000 ∷ 0xFFC00000 ∷ [])
+    ∷ example (wordsAlong (gapTo (f32 0x4121_0001))) (0x7F800000 ∷ 0xFF800000 ∷ 0x7F800001 ∷ 0xFFC00001 ∷ [])
+    ∷ []

@@ -1,0 +1,12 @@
+pub mod Tests
+pub mod Usable
+pub mod Planning
+pub mod Deciding
+pub mod Writing
+pub mod Loops
+pub mod Ranges
+pub mod Written
+pub mod Sound
+pub mod Keeping
+pub mod Laws
+pub mod Built

@@ -1,0 +1,4 @@
+pub mod Standing
+pub mod Hexes
+pub mod Decimals
+pub mod Stores

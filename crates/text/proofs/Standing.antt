@@ -1,0 +1,76 @@
+-- Laws of what stands at a place: a fixed string stands there if its first byte does and the rest stands behind it; what stands lies inside the text. Assumes nothing.
+use mathlib.Core.Path.{_≡_, refl, sym, ap, _∙_}
+use mathlib.Core.Bool.{Bool, true, false, _&&_, and-true, and-false, and-assoc}
+use mathlib.Core.List.{List, [], _∷_, _++_}
+use mathlib.Core.Logic.{⊎-elim}
+use Prim.Native.Nat.{ℕ, zero, suc, _+_, _-_, _≤_, _<_, min}
+use native.Mathlib.Nat.{add-zero, suc-add, add-suc}
+use native.Mathlib.Numerals.{add-one}
+use native.Mathlib.Omega.{arith}
+use borrow.Author.Tests.{eqb-true}
+use lib.Dec.{eqb}
+use lib.ListN.{length, take, drop, getD, length-append, length-take, length-drop}
+use lib.Seq.{drop-cons, drop-drop}
+use Rattle.text.specs.Bytes.{sameBytes, partAt, standsAt}
+
+both-true : (a b : Bool) → a && b ≡ true → (a ≡ true) × (b ≡ true)
+both-true true true h = (refl, refl)
+both-true true false h = absurd (let z : _≡_ {A = ℕ} 0 1 = cc in omega arith)
+both-true false b h = absurd (let z : _≡_ {A = ℕ} 0 1 = cc in omega arith)
+
+-- ---- of a part of the text, the bytes from the place on
+abbrev begins : List ℕ → List ℕ → Bool
+begins rest fixed = sameBytes (take (length fixed) rest) fixed
+
+begins-cons : (rest : List ℕ) (b : ℕ) (ys : List ℕ) → begins rest (b ∷ ys) ≡ begins rest (b ∷ []) && begins (drop 1 rest) ys
+unfolding sameBytes
+begins-cons [] b ys = refl
+begins-cons (a ∷ rest) b ys = rw (and-true (eqb a b))
+
+same-length : (xs ys : List ℕ) → sameBytes xs ys ≡ true → length xs ≡ length ys
+unfolding sameBytes
+same-length [] [] h = refl
+same-length [] (b ∷ ys) h = absurd (let z : _≡_ {A = ℕ} 0 1 = cc in omega arith)
+same-length (a ∷ xs) [] h = absurd (let z : _≡_ {A = ℕ} 0 1 = cc in omega arith)
+same-length (a ∷ xs) (b ∷ ys) h = ap suc (same-length xs ys (both-true (eqb a b) (sameBytes xs ys) h .1))
+
+-- ---- of a place in the text
+pub stands-nothing : (text : List ℕ) (at : ℕ) → standsAt text at [] ≡ true
+unfolding standsAt partAt sameBytes
+stands-nothing text at = refl
+
+pub stands-cons : (text : List ℕ) (at : ℕ) (b : ℕ) (ys : List ℕ) → standsAt text at (b ∷ ys) ≡ standsAt text at (b ∷ []) && standsAt text (at + 1) ys
+unfolding standsAt partAt
+stands-cons text at b ys =
+    begins-cons (drop at text) b ys ∙ ap (λ (r : List ℕ). begins (drop at text) (b ∷ []) && begins r ys) (drop-drop 1 at text)
+
+pub stands-append : (text : List ℕ) (at : ℕ) (xs ys : List ℕ) → standsAt text at (xs ++ ys) ≡ standsAt text at xs && standsAt text (at + length xs) ys
+stands-append text at [] ys = rw (stands-nothing, add-zero)
+stands-append text at (a ∷ xs) ys =
+    let e : at + 1 + length xs ≡ at + suc (length xs) = omega arith in
+    stands-cons text at a (xs ++ ys)
+    ∙ ap (λ (r : Bool). standsAt text at (a ∷ []) && r) (stands-append text (at + 1) xs ys)
+    ∙ sym (and-assoc (standsAt text at (a ∷ [])) (standsAt text (at + 1) xs) (standsAt text (at + 1 + length xs) ys))
+    ∙ ap (λ (r : Bool). r && standsAt text (at + 1 + length xs) ys) (sym (stands-cons text at a xs))
+    ∙ ap (λ (n : ℕ). standsAt text at (a ∷ xs) && standsAt text n ys) e
+
+pub byte-stands : (text : List ℕ) (at b : ℕ) → at < length text → standsAt text at (b ∷ []) ≡ eqb (getD text at 0) b
+unfolding standsAt partAt sameBytes
+byte-stands text at b h = rw (drop-cons text at 0 h, and-true)
+
+past : (text : List ℕ) (at : ℕ) → length text ≤ at → drop at text ≡ []
+past [] zero h = refl
+past [] (suc at) h = refl
+past (a ∷ text) zero h = absurd (omega arith)
+past (a ∷ text) (suc at) h = past text at (omega arith)
+
+pub byte-past : (text : List ℕ) (at b : ℕ) → length text ≤ at → standsAt text at (b ∷ []) ≡ false
+unfolding standsAt partAt sameBytes
+byte-past text at b h = rw (past text at h)
+
+-- a fixed string that has a byte and stands is inside the text
+pub stands-inside : (text : List ℕ) (at : ℕ) (fixed : List ℕ) → 0 < length fixed → standsAt text at fixed ≡ true → at + length fixed ≤ length text
+unfolding standsAt partAt
+stands-inside text at fixed some h =
+    let e : length (take (length fixed) (drop at text)) ≡ length fixed = same-length (take (length fixed) (drop at text)) fixed h in
+    omega (arith, simp (length-take, length-drop) at e)

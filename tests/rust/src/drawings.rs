@@ -1,0 +1,524 @@
+//! Drawings that all calls accept: random ones of several kinds, and directed ones.
+
+use crate::{
+    call::{p, Call, P},
+    rng::Rng,
+    seen::Store,
+};
+
+pub const KINDS: [&str; 14] = [
+    "whole numbers",
+    "numbers to 100",
+    "huge numbers",
+    "tiny numbers",
+    "patterns of every size",
+    "lines with turns about 0.001",
+    "doubled points and short legs",
+    "rational curves",
+    "rational cubics that fall short",
+    "several contours",
+    "smooth joints",
+    "long drawings",
+    "rounded shapes",
+    "steps about a tenth of 0.0625",
+];
+
+/// A kind: those with very many points come an eighth as often as the others.
+pub fn kind(rng: &mut Rng) -> usize {
+    loop {
+        let k = rng.below(KINDS.len() as u64) as usize;
+        if !(k == 2 || k == 8 || k == 11) || rng.one_in(8) {
+            return k;
+        }
+    }
+}
+
+/// Kind k of KINDS.
+pub fn random(rng: &mut Rng, k: usize) -> Vec<Call> {
+    match k {
+        5 => turns(rng),
+        8 => falls_short(rng),
+        10 => smooth(rng),
+        12 => rounded(rng),
+        _ => mixed(rng, k),
+    }
+}
+
+fn coordinate(rng: &mut Rng, k: usize) -> f32 {
+    match k {
+        0 | 9 => rng.below(21) as f32 - if rng.one_in(2) { 0.0 } else { 10.0 },
+        2 => match rng.below(8) {
+            0 => 65_536.0 * rng.sign(),
+            1 => f32::from_bits(65_536f32.to_bits() - 1) * rng.sign(),
+            _ => rng.between(-65_536.0, 65_536.0) as f32,
+        },
+        3 => rng.between(-1.0, 1.0) as f32 * 2f32.powi(-(rng.below(34) as i32)),
+        4 => match rng.below(24) {
+            0 => 0.0,
+            1 => -0.0,
+            2 => f32::from_bits(rng.below(0x80_0000) as u32) * rng.sign(),
+            _ => loop {
+                let v = f32::from_bits(rng.next() as u32);
+                if v.abs() <= 65_536.0 {
+                    break v;
+                }
+            },
+        },
+        11 => match rng.below(4) {
+            0 => rng.below(1000) as f32,
+            1 => rng.between(-1000.0, 1000.0) as f32,
+            2 => rng.below(4000) as f32 / 16.0,
+            _ => rng.between(-30.0, 30.0) as f32,
+        },
+        13 => rng.below(33) as f32 / 160.0,
+        _ => rng.between(-100.0, 100.0) as f32,
+    }
+}
+
+fn weight(rng: &mut Rng) -> f32 {
+    match rng.below(8) {
+        0 => 1.0,
+        1 => 1.0 / 64.0,
+        2 => 64.0,
+        3 => rng.pick(&[0.5, 2.0, std::f32::consts::FRAC_1_SQRT_2, 3.0, 0.25]),
+        4 => f32::from_bits(0x3f80_0000 + rng.below(7) as u32 - 3),
+        _ => (2f64.powf(rng.between(-6.0, 6.0)) as f32).clamp(1.0 / 64.0, 64.0),
+    }
+}
+
+/// A point of this kind, or one that has to do with the points before.
+fn point(rng: &mut Rng, k: usize, before: &[P]) -> P {
+    let last = before[before.len() - 1];
+    let near = if k == 6 { 2 } else { 9 };
+    if rng.one_in(near) {
+        let other = before[rng.below(before.len() as u64) as usize];
+        let e = f32::EPSILON;
+        let q = match rng.below(10) {
+            0..=2 => last,
+            3 => other,
+            4 => p(last.x + e * rng.between(-2.0, 2.0) as f32, last.y),
+            5 => p(last.x, last.y + e * rng.between(-2.0, 2.0) as f32),
+            6 => p(last.x + rng.between(-0.07, 0.07) as f32, last.y + rng.between(-0.07, 0.07) as f32),
+            7 => p(last.x + 0.0625, last.y),
+            8 => p(2.0 * last.x - other.x, 2.0 * last.y - other.y),
+            _ => p(0.5 * (last.x + other.x), 0.5 * (last.y + other.y)),
+        };
+        if q.x.abs() <= 65_536.0 && q.y.abs() <= 65_536.0 {
+            return q;
+        }
+    }
+    if k == 6 && rng.one_in(3) {
+        // about 2^-23 from the origin or from each other
+        return p(rng.between(-3.0, 3.0) as f32 * f32::EPSILON, rng.between(-3.0, 3.0) as f32 * f32::EPSILON);
+    }
+    p(coordinate(rng, k), coordinate(rng, k))
+}
+
+fn mixed(rng: &mut Rng, k: usize) -> Vec<Call> {
+    let n = match k {
+        11 => 60 + rng.below(140),
+        2 => 1 + rng.below(6),
+        _ => 1 + rng.below(14),
+    };
+    let mut before = vec![p(0.0, 0.0)];
+    let mut calls = Vec::new();
+    for _ in 0..n {
+        let pt = |rng: &mut Rng, before: &mut Vec<P>| {
+            let q = point(rng, k, before);
+            before.push(q);
+            q
+        };
+        let rational = k == 7 || rng.one_in(6);
+        let which = match k {
+            9 => rng.pick(&[0, 0, 0, 1, 1, 2, 3, 4, 4]),
+            7 => rng.pick(&[0, 1, 2, 2, 2, 3, 3, 3]),
+            _ => rng.pick(&[0, 1, 1, 1, 1, 2, 2, 2, 2, 3, 3, 3, 4]),
+        };
+        let call = match which {
+            0 => Call::Move(pt(rng, &mut before)),
+            1 => Call::Line(pt(rng, &mut before)),
+            2 if rational => Call::RatQuad(pt(rng, &mut before), pt(rng, &mut before), weight(rng)),
+            2 => Call::Quad(pt(rng, &mut before), pt(rng, &mut before)),
+            3 if rational => Call::RatCubic(pt(rng, &mut before), pt(rng, &mut before), pt(rng, &mut before), weight(rng), weight(rng)),
+            3 => Call::Cubic(pt(rng, &mut before), pt(rng, &mut before), pt(rng, &mut before)),
+            _ => Call::Build,
+        };
+        calls.push(call);
+    }
+    if !rng.one_in(5) {
+        calls.push(Call::Build);
+    }
+    calls
+}
+
+/// Lines that turn by about 0.001, or not at all, or back.
+fn turns(rng: &mut Rng) -> Vec<Call> {
+    let mut calls = Vec::new();
+    let mut at = p(coordinate(rng, 1), coordinate(rng, 1));
+    calls.push(Call::Move(at));
+    let mut angle = match rng.below(3) {
+        0 => std::f64::consts::FRAC_PI_4 * rng.below(8) as f64,
+        1 => (rng.below(360) as f64).to_radians(),
+        _ => rng.between(0.0, 7.0),
+    };
+    for _ in 0..3 + rng.below(20) {
+        let len = match rng.below(6) {
+            0 => 0.0,
+            1 => rng.between(0.0, 0.1),
+            _ => rng.between(0.1, 60.0),
+        };
+        at = p((at.x as f64 + len * angle.cos()) as f32, (at.y as f64 + len * angle.sin()) as f32);
+        if rng.one_in(4) {
+            let over = rng.between(1.0, 20.0);
+            let end = p((at.x as f64 + over * angle.cos()) as f32, (at.y as f64 + over * angle.sin()) as f32);
+            calls.push(Call::Quad(at, end));
+            at = end;
+        } else {
+            calls.push(Call::Line(at));
+        }
+        angle += match rng.below(6) {
+            0 => 0.0,
+            1 => std::f64::consts::PI,
+            2 => rng.between(0.0009, 0.0011),
+            3 => -rng.between(0.0009, 0.0011),
+            4 => rng.between(-0.002, 0.002),
+            _ => rng.between(-3.0, 3.0),
+        };
+    }
+    calls.push(Call::Build);
+    calls
+}
+
+/// Rational cubics with a number of pieces n whose n · (1/n) is below 1, and an end fast enough for a gap about 0.0625.
+fn falls_short(rng: &mut Rng) -> Vec<Call> {
+    let mut calls = Vec::new();
+    let far = |rng: &mut Rng| match rng.below(4) {
+        0 => p(65_536.0 * rng.sign(), 65_536.0 * rng.sign()),
+        1 => p(65_536.0 * rng.sign(), 0.0),
+        2 => p(rng.below(65_537) as f32 * rng.sign(), 0.0),
+        _ => p(rng.between(-65_536.0, 65_536.0) as f32, rng.between(-65_536.0, 65_536.0) as f32),
+    };
+    if rng.one_in(2) {
+        calls.push(Call::Move(far(rng)));
+    }
+    let mut from = p(0.0, 0.0);
+    for _ in 0..1 + rng.below(3) {
+        let (mut a, mut b, mut c) = (far(rng), far(rng), far(rng));
+        let mut w: [f32; 2] = [rng.pick(&[1.0, 2.0, 3.0, 4.0, 8.0, 16.0]), rng.pick(&[1.0, 2.0, 3.0, 4.0, 5.0, 6.0, 8.0, 12.0, 16.0, 64.0])];
+        // half of them are tried until their pieces fall short
+        for _ in 0..60 {
+            let (dx, dy) = (3.0 * b.x - from.x - 2.0 * a.x, 3.0 * b.y - from.y - 2.0 * a.y);
+            let n = ((((dx * dx + dy * dy) / 1.6875) as f64).powf(1.0 / 6.0) as f32 * w[0].max(w[1]).max(1.0)).ceil().max(1.0);
+            if n * (1.0 / n) < 1.0 && n <= 1024.0 {
+                break;
+            }
+            (a, b, c) = (far(rng), far(rng), far(rng));
+            w = [rng.pick(&[1.0, 2.0, 4.0]), rng.pick(&[1.0, 2.0, 3.0, 4.0, 5.0, 6.0, 8.0])];
+        }
+        calls.push(if w == [1.0, 1.0] { Call::Cubic(a, b, c) } else { Call::RatCubic(a, b, c, w[0], w[1]) });
+        if rng.one_in(2) {
+            let along = p(c.x + (c.x - b.x) * 0.01, c.y + (c.y - b.y) * 0.01);
+            if along.x.abs() <= 65_536.0 && along.y.abs() <= 65_536.0 {
+                calls.push(Call::Line(along));
+                c = along;
+            }
+        }
+        from = c;
+    }
+    calls.push(Call::Build);
+    calls
+}
+
+/// Curves each of which goes on in the direction of the one before, so that a spline holds many quads.
+fn smooth(rng: &mut Rng) -> Vec<Call> {
+    let mut calls = Vec::new();
+    let mut at = p(coordinate(rng, 1), coordinate(rng, 1));
+    calls.push(Call::Move(at));
+    let mut angle = rng.between(0.0, 7.0);
+    let scale = rng.pick(&[0.2, 1.0, 5.0, 30.0, 300.0]);
+    let go = |at: P, angle: f64, len: f64| p((at.x as f64 + len * angle.cos()) as f32, (at.y as f64 + len * angle.sin()) as f32);
+    for _ in 0..2 + rng.below(14) {
+        let l = scale * rng.between(0.2, 1.0);
+        let bend = if rng.one_in(3) { 0.0 } else { rng.between(-1.5, 1.5) };
+        match rng.below(6) {
+            0 => {
+                at = go(at, angle, l);
+                calls.push(Call::Line(at));
+            }
+            1..=3 => {
+                let a = go(at, angle, l);
+                angle += bend;
+                let b = go(a, angle, l);
+                calls.push(if rng.one_in(5) { Call::RatQuad(a, b, weight(rng)) } else { Call::Quad(a, b) });
+                at = b;
+            }
+            _ => {
+                let a = go(at, angle, l);
+                angle += bend;
+                let b = go(a, angle, l);
+                angle += rng.between(-1.0, 1.0);
+                let c = go(b, angle, l);
+                calls.push(if rng.one_in(5) { Call::RatCubic(a, b, c, weight(rng), weight(rng)) } else { Call::Cubic(a, b, c) });
+                at = c;
+            }
+        }
+    }
+    calls.push(Call::Build);
+    calls
+}
+
+/// Rounded rectangles and circles, by quads, rational quads and cubics.
+fn rounded(rng: &mut Rng) -> Vec<Call> {
+    let mut calls = Vec::new();
+    for _ in 0..1 + rng.below(3) {
+        let (x, y) = (rng.below(200) as f32, rng.below(200) as f32);
+        let r = rng.pick(&[0.25, 1.0, 2.5, 10.0, 33.3, 120.0]);
+        let side = if rng.one_in(3) { 0.0 } else { rng.below(100) as f32 };
+        let turn = if rng.one_in(2) { 0.0 } else { rng.between(0.0, 7.0) };
+        let kappa = 0.552_284_8;
+        let how = rng.below(3);
+        let at = |u: f32, v: f32| {
+            let (s, c) = turn.sin_cos();
+            p((x as f64 + u as f64 * c - v as f64 * s) as f32, (y as f64 + u as f64 * s + v as f64 * c) as f32)
+        };
+        calls.push(Call::Move(at(r, 0.0)));
+        let corners = [(side, 0.0, 1.0, 0.0), (side, side, 0.0, 1.0), (0.0, side, -1.0, 0.0), (0.0, 0.0, 0.0, -1.0)];
+        for (i, (cx, cy, ux, uy)) in corners.into_iter().enumerate() {
+            // to the corner's start along u, then a quarter to v
+            let (vx, vy): (f32, f32) = (-uy, ux);
+            let (sx, sy) = (r + cx, r + cy);
+            let start = (sx - vx * r, sy - vy * r);
+            let end = (sx + ux * r, sy + uy * r);
+            let corner = (sx + (ux - vx) * r, sy + (uy - vy) * r);
+            if side > 0.0 || i == 0 {
+                calls.push(Call::Line(at(start.0, start.1)));
+            }
+            match how {
+                0 => calls.push(Call::Quad(at(corner.0, corner.1), at(end.0, end.1))),
+                1 => calls.push(Call::RatQuad(at(corner.0, corner.1), at(end.0, end.1), std::f32::consts::FRAC_1_SQRT_2)),
+                _ => {
+                    let a = (start.0 + ux * r * kappa, start.1 + uy * r * kappa);
+                    let b = (end.0 - vx * r * kappa, end.1 - vy * r * kappa);
+                    calls.push(Call::Cubic(at(a.0, a.1), at(b.0, b.1), at(end.0, end.1)));
+                }
+            }
+        }
+        if rng.one_in(3) {
+            calls.push(Call::Build);
+        }
+    }
+    calls.push(Call::Build);
+    calls
+}
+
+/// Drawings made for one rule each.
+pub fn directed() -> Vec<Vec<Call>> {
+    use Call::*;
+    let mut out: Vec<Vec<Call>> = Vec::new();
+    let mut add = |calls: Vec<Call>| {
+        let mut built = calls.clone();
+        built.push(Build);
+        out.push(calls);
+        out.push(built);
+    };
+
+    // P1 to P8
+    add(vec![]);
+    add(vec![Line(p(10.0, 0.0)), Line(p(10.0, 10.0)), Line(p(0.0, 10.0))]);
+    add(vec![Move(p(0.0, 0.0)), Line(p(10.0, 0.0)), Line(p(10.0, 0.0)), Line(p(10.0, 10.0))]);
+    add(vec![Line(p(10.0, 0.0)), Line(p(4.0, 0.0))]);
+    add(vec![Quad(p(5.0, 0.0), p(10.0, 0.0))]);
+    add(vec![Quad(p(0.0, 0.0), p(0.0, 0.0))]);
+    add(vec![Move(p(1.0, 1.0)), Move(p(2.0, 2.0))]);
+
+    // chords at all angles, those of forty-five degrees among them: lines, quarter rounds by quads and by cubics
+    for degrees in 0..360 {
+        let a = (degrees as f64).to_radians();
+        for r in [0.05, 1.0, 10.0, 1000.0] {
+            let on = |u: f64, v: f64| p((u * a.cos() - v * a.sin()) as f32, (u * a.sin() + v * a.cos()) as f32);
+            add(vec![Line(on(r, 0.0)), Line(on(2.0 * r, 0.0)), Line(on(r, r))]);
+            add(vec![Quad(on(r, 0.0), on(r, r))]);
+            let k = 0.552_284_75 * r;
+            add(vec![Cubic(on(k, 0.0), on(r, r - k), on(r, r))]);
+        }
+    }
+    // exact diagonals
+    for (sx, sy) in [(1.0f32, 1.0f32), (1.0, -1.0), (-1.0, 1.0), (-1.0, -1.0)] {
+        for r in [1.0f32, 0.1, 3.7, 255.0, 65_536.0] {
+            for e in [0i32, 1, -1] {
+                let r2 = f32::from_bits((r.to_bits() as i32 + e) as u32).min(65_536.0);
+                add(vec![Line(p(sx * r, sy * r2)), Line(p(0.0, 0.0))]);
+                add(vec![Quad(p(sx * r, 0.0), p(sx * r, sy * r2))]);
+                add(vec![Cubic(p(sx * r * 0.552_28, 0.0), p(sx * r, sy * r2 * 0.447_72), p(sx * r, sy * r2))]);
+            }
+        }
+    }
+    // doubled points, short legs about 2^-23, and reversals
+    let e = f32::EPSILON;
+    for d in [0.0, e * 0.5, f32::from_bits(e.to_bits() - 1), e, f32::from_bits(e.to_bits() + 1), 2.0 * e] {
+        for (x, y) in [(d, 0.0), (0.0, d), (-d, 0.0), (0.0, -d), (d, d), (-0.0, d)] {
+            add(vec![Line(p(x, y)), Line(p(10.0, 0.0))]);
+            add(vec![Quad(p(x, y), p(10.0, 0.0)), Line(p(10.0, 10.0))]);
+            add(vec![Quad(p(10.0, 0.0), p(10.0 + x, y)), Line(p(10.0, 10.0))]);
+            add(vec![Quad(p(10.0, 0.0), p(x, y)), Line(p(10.0, 10.0))]);
+            add(vec![Quad(p(x, y), p(x + x, y + y)), Line(p(10.0, 10.0))]);
+            add(vec![Line(p(10.0, 0.0)), Quad(p(10.0 + x, y), p(10.0, 10.0))]);
+            add(vec![Cubic(p(x, y), p(x, y), p(x, y))]);
+            add(vec![Cubic(p(x, y), p(10.0, 0.0), p(10.0, 10.0)), Line(p(0.0, 5.0))]);
+            add(vec![Line(p(5.0, 5.0)), Move(p(x, y)), Line(p(1.0, 0.0))]);
+            add(vec![Line(p(1.0, 0.0)), Quad(p(1.0, 0.0), p(1.0, 0.0)), Line(p(1.0, 1.0))]);
+        }
+    }
+    // a waiting mark that a dropped quad leaves waiting
+    add(vec![Line(p(4.0, 0.0)), Move(p(7.0, 7.0)), Quad(p(7.0, 7.0), p(7.0, 7.0)), Line(p(9.0, 7.0)), Line(p(9.0, 9.0))]);
+    // turns about 0.001
+    for i in -40..=40 {
+        let a = 0.001 * (1.0 + i as f64 * 1e-3);
+        for base in [0.0, 0.785_398_163_397, 1.0, 1.570_796_326_8, 3.1, -2.5] {
+            let (s, c) = (base as f64).sin_cos();
+            let (s2, c2) = (base + a).sin_cos();
+            add(vec![Line(p((100.0 * c) as f32, (100.0 * s) as f32)), Line(p((100.0 * c + 90.0 * c2) as f32, (100.0 * s + 90.0 * s2) as f32))]);
+        }
+    }
+    // whole sums: straight quads in a row
+    for n in 1..12 {
+        add((1..=n).map(|i| Quad(p(10.0 * i as f32 - 5.0, 0.0), p(10.0 * i as f32, 0.0))).collect());
+        add((1..=n).map(|i| if i % 2 == 0 { Line(p(10.0 * i as f32, 0.0)) } else { Quad(p(10.0 * i as f32 - 5.0, 0.0), p(10.0 * i as f32, 0.0)) }).collect());
+    }
+    // the cubics of the table of differences
+    for c in DIFFERENT {
+        add(vec![Cubic(p(c[0], c[1]), p(c[2], c[3]), p(c[4], c[5]))]);
+    }
+    add(vec![rational_difference()]);
+    // cubics of every number of pieces, those that fall short among them
+    for n in 1..=76 {
+        let x = (1.6875f64 * (n as f64 - 0.5).powi(6)).sqrt() / 3.0;
+        if x <= 65_536.0 {
+            add(vec![Cubic(p(0.0, 0.0), p(x as f32, 0.0), p(x as f32, 7.0)), Line(p(1.0, 8.0))]);
+            add(vec![Cubic(p(0.0, 0.0), p(0.0, x as f32), p(-65_536.0, 0.0)), Line(p(1.0, 8.0))]);
+        }
+    }
+    for n in [41u32, 47, 55, 61, 82, 83, 94, 97, 107, 109, 110, 115, 121, 122] {
+        for w in [1.0f32, 2.0, 4.0, 8.0, 16.0, 64.0] {
+            let r = (n as f64 - 0.5) / w as f64;
+            let x = (1.6875f64 * r.powi(6)).sqrt() / 3.0;
+            if x <= 65_536.0 {
+                for end in [-65_536.0f32, -21_845.0, 0.0, 1000.0, 65_536.0] {
+                    add(vec![RatCubic(p(0.0, 0.0), p(x as f32, 0.0), p(end, 0.0), 1.0, w), Line(p(0.0, 9.0))]);
+                    add(vec![RatCubic(p(0.0, 0.0), p(x as f32, 0.0), p(0.0, end), w, w), Line(p(9.0, 9.0))]);
+                }
+            }
+        }
+    }
+    // weights and coordinates at their limits
+    for w in [1.0 / 64.0, f32::from_bits(0x3c80_0001), 1.0, f32::from_bits(0x3f80_0001), f32::from_bits(0x3f7f_ffff), f32::from_bits(0x427f_ffff), 64.0] {
+        for s in [1.0f32, 0.001, 65_536.0, 1e-30] {
+            add(vec![RatQuad(p(s, 0.0), p(s, s), w)]);
+            add(vec![RatQuad(p(s, -s), p(-s, s), w), RatQuad(p(0.0, s), p(s, s), w)]);
+            add(vec![RatCubic(p(s, 0.0), p(s, s), p(0.0, s), w, 1.0)]);
+            add(vec![RatCubic(p(s, 0.0), p(0.0, s), p(s, s), 1.0, w)]);
+        }
+    }
+    // P12 by drawings: a last sum that a rounding makes one more than the sum before, so that the last quad gets no step and the next spline's steps stray
+    for calls in stray() {
+        add(calls);
+    }
+    // drawing on after a build, and moves everywhere
+    add(vec![Line(p(3.0, 0.0)), Build, Build, Line(p(3.0, 4.0)), Build, Move(p(1.0, 1.0)), Build, Line(p(2.0, 1.0)), Move(p(0.0, 0.0)), Move(p(5.0, 5.0))]);
+    add(vec![Line(p(3.0, 0.0)), Line(p(0.0, -0.0)), Move(p(1.0, 1.0)), Line(p(2.0, 2.0)), Line(p(1.0, 1.0)), Move(p(3.0, 3.0)), Quad(p(4.0, 3.0), p(4.0, 4.0))]);
+    out
+}
+
+/// A straight quad (sum 2), then one whose own curvature is 1 + 2^-23, so that the sum is 3; a turn, and a straight quad.
+fn stray() -> Vec<Vec<Call>> {
+    use crate::model::flatten::own_curvature;
+    let mut out = Vec::new();
+    let mut rng = Rng(12);
+    for angle in [0.3f64, 0.7, 1.1, 1.5, -0.4, -0.9] {
+        let quad = |s: f64, wobble: f64| {
+            let a = p((10.0 + s) as f32, 0.0);
+            (a, p((10.0 + s + s * angle.cos()) as f32, (s * angle.sin() * (1.0 + wobble)) as f32))
+        };
+        let own = |a: P, b: P| own_curvature(p(10.0, 0.0), a, b);
+        let (mut low, mut high) = (0.001, 100.0);
+        for _ in 0..60 {
+            let mid = 0.5 * (low + high);
+            let (a, b) = quad(mid, 0.0);
+            if own(a, b) < 1.0 {
+                low = mid;
+            } else {
+                high = mid;
+            }
+        }
+        // a curvature of exactly 1 is still taken as straight, the next f32 is not
+        let mut found = [false; 3];
+        for _ in 0..40_000 {
+            let (a, b) = quad(high * (1.0 + rng.between(-2e-7, 4e-7)), rng.between(-4e-7, 4e-7));
+            for (i, pattern) in [0x3f7f_ffff, 0x3f80_0000, 0x3f80_0001].into_iter().enumerate() {
+                if own(a, b).to_bits() == pattern && !found[i] {
+                    found[i] = true;
+                    out.push(vec![Call::Move(p(10.0, 0.0)), Call::Quad(a, b), Call::Line(p(3.0, 99.0))]);
+                }
+            }
+            if own(a, b).to_bits() == 0x3f80_0001 {
+                for turn in [p(b.x, b.y + 40.0), p(b.x - 30.0, b.y - 20.0)] {
+                    let mid = p(0.5 * (b.x + turn.x), 0.5 * (b.y + turn.y));
+                    out.push(vec![Call::Quad(p(5.0, 0.0), p(10.0, 0.0)), Call::Quad(a, b), Call::Quad(mid, turn), Call::Line(p(0.0, 99.0))]);
+                    out.push(vec![Call::Quad(p(5.0, 0.0), p(10.0, 0.0)), Call::Quad(a, b), Call::Line(turn), Call::Quad(p(turn.x, 77.0), p(-5.0, 3.0))]);
+                    // behind the turn straight quads in a row (sums 2, 4, 6), or curved ones: the cursor, which lags, goes on once for each step
+                    for n in 2..5 {
+                        let mut calls = vec![Call::Quad(p(5.0, 0.0), p(10.0, 0.0)), Call::Quad(a, b)];
+                        let (dx, dy) = (turn.x - b.x, turn.y - b.y);
+                        for i in 0..n {
+                            let at = |t: f32| p(b.x + dx * (i as f32 + t), b.y + dy * (i as f32 + t));
+                            calls.push(Call::Quad(at(0.5), at(1.0)));
+                        }
+                        let end = p(b.x + dx * n as f32, b.y + dy * n as f32);
+                        calls.push(Call::Quad(p(end.x + dx, end.y + dy), p(end.x + 31.0, end.y - 7.0)));
+                        out.push(calls);
+                    }
+                }
+                if found[1] {
+                    break;
+                }
+            }
+        }
+    }
+    out
+}
+
+/// Cubics from the origin that the exact root and `powf` cut differently: two controls and the end.
+pub const DIFFERENT: [[f32; 6]; 3] =
+    [[0.0, 1.0, 700.0, 265.0, 0.0, 0.0], [2.0, 0.0, 975.0, 681.0, 0.0, 0.0], [0.0, 2.0, 1043.0, 1025.0, 0.0, 0.0]];
+
+/// A rational one of which only the second control's x is not 0.
+pub fn rational_difference() -> Call {
+    Call::RatCubic(p(0.0, 0.0), p(f32::from_bits(0x35dd_b3dd), 0.0), p(0.0, 0.0), 64.0, 64.0)
+}
+
+/// A store made by hand that flattening accepts: weights at every point, coordinates to 4,194,304, any open point.
+pub fn by_hand(rng: &mut Rng) -> Store {
+    let mut s = Store { commands: vec![0], ..Store::default() };
+    for _ in 0..rng.below(12) {
+        s.commands.push(rng.pick(&[0, 1, 1, 2, 2, 2, 3, 3]));
+    }
+    let k = rng.pick(&[0, 1, 1, 2, 4, 6, 14, 15]);
+    let same_weight = rng.one_in(3);
+    let w0 = weight(rng);
+    let n: usize = s.commands.iter().map(|&c| (c as usize).max(1)).sum();
+    let mut before = vec![p(0.0, 0.0)];
+    for _ in 0..n {
+        let q = match k {
+            14 => p(rng.between(-4_194_304.0, 4_194_304.0) as f32, rng.between(-4_194_304.0, 4_194_304.0) as f32),
+            15 => p(4_194_304.0 * rng.sign(), rng.below(4_194_305) as f32 * rng.sign()),
+            _ => point(rng, k, &before),
+        };
+        before.push(q);
+        let w = if same_weight { w0 } else { weight(rng) };
+        s.x.push(q.x);
+        s.y.push(q.y);
+        s.weight.push(w);
+    }
+    s.opening = rng.below(n as u64) as usize;
+    s
+}

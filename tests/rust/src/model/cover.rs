@@ -1,0 +1,71 @@
+//! How often each rule decided something, so that a run can say what it has tried.
+
+use std::cell::RefCell;
+
+pub const NAMES: [&str; 27] = [
+    "splines opened by a contour mark",
+    "splines opened by an angle",
+    "splines opened by a gap",
+    "  of them with a gap of exactly 0.0625",
+    "primitives joined to a spline",
+    "lines without an angle",
+    "  of them where the knife keeps an angle",
+    "quads dropped",
+    "quads that are lines",
+    "quads with a curvature of their own",
+    "quads taken as straight",
+    "  of them where the curvature is not finite",
+    "cubics",
+    "  of them rational",
+    "  of them whose last piece falls short",
+    "Starts after a gap",
+    "joints of exactly 0.0625, without a Start",
+    "steps",
+    "  of them on a quad of another spline",
+    "  of them with t clamped to 0",
+    "  of them with t clamped to 1",
+    "  of them with t = -0",
+    "splines of two or more quads",
+    "  of them with a quad that gets no step",
+    "splines with a whole sum above 0",
+    "reversals taken as no change",
+    "NaN or infinity in a table or an output",
+];
+
+pub const MARK: usize = 0;
+pub const TURN: usize = 1;
+pub const GAP: usize = 2;
+pub const GAP_EXACT: usize = 3;
+pub const JOINED: usize = 4;
+pub const NO_ANGLE: usize = 5;
+pub const KEPT: usize = 6;
+pub const DROPPED: usize = 7;
+pub const AS_LINE: usize = 8;
+pub const CURVED: usize = 9;
+pub const STRAIGHT: usize = 10;
+pub const INFINITE: usize = 11;
+pub const CUBIC: usize = 12;
+pub const RATIONAL: usize = 13;
+pub const SHORT: usize = 14;
+pub const START_GAP: usize = 15;
+pub const NO_START: usize = 16;
+pub const STEP: usize = 17;
+pub const STRAY: usize = 18;
+pub const CLAMP0: usize = 19;
+pub const CLAMP1: usize = 20;
+pub const MINUS0: usize = 21;
+pub const SEVERAL: usize = 22;
+pub const STEPLESS: usize = 23;
+pub const WHOLE: usize = 24;
+pub const REVERSAL: usize = 25;
+pub const NOT_FINITE: usize = 26;
+
+thread_local!(static COUNTS: RefCell<[u64; 27]> = const { RefCell::new([0; 27]) });
+
+pub fn count(i: usize) {
+    COUNTS.with(|c| c.borrow_mut()[i] += 1);
+}
+
+pub fn counts() -> [u64; 27] {
+    COUNTS.with(|c| *c.borrow())
+}

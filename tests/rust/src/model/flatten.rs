@@ -1,0 +1,669 @@
+//! Flattening: tables, words and points, or a numbered refusal.
+
+use super::{
+    cover::{self, count},
+    root::sixth_root,
+    store::{canon, undrawable, Columns, State, CUBIC, LINE, MOVE, QUAD},
+};
+use crate::call::P;
+use std::f32::consts::{FRAC_PI_2, PI};
+
+#[derive(Clone, Copy, Debug, PartialEq, Eq)]
+pub enum Setting {
+    Screen,
+    Knife,
+}
+
+/// The lent quad table. x, y and weight have three numbers for each quad.
+#[derive(Clone, Debug, Default)]
+pub struct QuadTable {
+    pub x: Vec<f32>,
+    pub y: Vec<f32>,
+    pub weight: Vec<f32>,
+    pub x0: Vec<f32>,
+    pub dx_recip: Vec<f32>,
+    pub k0: Vec<f32>,
+    pub dk: Vec<f32>,
+    pub curvatures_recip: Vec<f32>,
+    pub partial_curvatures: Vec<f32>,
+    pub partial_splines: Vec<u32>,
+}
+
+/// The lent spline table.
+#[derive(Clone, Debug, Default)]
+pub struct SplineTable {
+    pub curvature: Vec<f32>,
+    pub p0x: Vec<f32>,
+    pub p0y: Vec<f32>,
+    pub p2x: Vec<f32>,
+    pub p2y: Vec<f32>,
+    pub contour: Vec<u8>,
+}
+
+/// The lent words and outputs.
+#[derive(Clone, Debug, Default)]
+pub struct Output {
+    pub words: Vec<u32>,
+    pub x: Vec<f32>,
+    pub y: Vec<f32>,
+    pub end: Vec<u8>,
+}
+
+#[derive(Clone, Copy, Debug, Default, PartialEq, Eq)]
+pub struct Flattened {
+    pub answer: u8,
+    pub splines: usize,
+    pub quads: usize,
+    pub points: usize,
+}
+
+impl QuadTable {
+    pub fn with_room(n: usize) -> Self {
+        QuadTable {
+            x: vec![0.0; 3 * n],
+            y: vec![0.0; 3 * n],
+            weight: vec![0.0; 3 * n],
+            x0: vec![0.0; n],
+            dx_recip: vec![0.0; n],
+            k0: vec![0.0; n],
+            dk: vec![0.0; n],
+            curvatures_recip: vec![0.0; n],
+            partial_curvatures: vec![0.0; n],
+            partial_splines: vec![0; n],
+        }
+    }
+
+    fn capacity(&self) -> usize {
+        [self.x.len() / 3, self.y.len() / 3, self.weight.len() / 3]
+            .into_iter()
+            .chain([&self.x0, &self.dx_recip, &self.k0, &self.dk, &self.curvatures_recip, &self.partial_curvatures].map(|c| c.len()))
+            .chain([self.partial_splines.len()])
+            .min()
+            .unwrap()
+    }
+}
+
+impl SplineTable {
+    pub fn with_room(n: usize) -> Self {
+        SplineTable {
+            curvature: vec![0.0; n],
+            p0x: vec![0.0; n],
+            p0y: vec![0.0; n],
+            p2x: vec![0.0; n],
+            p2y: vec![0.0; n],
+            contour: vec![0; n],
+        }
+    }
+
+    fn capacity(&self) -> usize {
+        [&self.curvature, &self.p0x, &self.p0y, &self.p2x, &self.p2y].map(|c| c.len()).into_iter().chain([self.contour.len(), 4_194_304]).min().unwrap()
+    }
+}
+
+impl Output {
+    pub fn with_room(n: usize) -> Self {
+        Output { words: vec![0; n], x: vec![0.0; n], y: vec![0.0; n], end: vec![0; n] }
+    }
+
+    fn room(&self) -> usize {
+        self.words.len().min(self.x.len()).min(self.y.len()).min(self.end.len())
+    }
+}
+
+/// A stored point with its weight.
+#[derive(Clone, Copy, Debug)]
+struct W {
+    x: f32,
+    y: f32,
+    w: f32,
+}
+
+impl W {
+    fn plain(p: P) -> W {
+        W { x: p.x, y: p.y, w: 1.0 }
+    }
+
+    fn applied(self) -> P {
+        let r = 1.0 / self.w;
+        P { x: self.x * r, y: self.y * r }
+    }
+}
+
+fn minus(a: P, b: P) -> P {
+    P { x: a.x - b.x, y: a.y - b.y }
+}
+
+fn length(p: P) -> f32 {
+    (p.x * p.x + p.y * p.y).sqrt()
+}
+
+/// Missing below 2^-23.
+fn angle(d: P) -> Option<f32> {
+    if !(length(d) >= 1.0 / 8_388_608.0) {
+        return None;
+    }
+    let (across, up) = (d.x.abs(), d.y.abs());
+    let steep = up > across;
+    let a = if steep { across / up } else { up / across };
+    let s = a * a;
+    let mut r = s.mul_add(-0.046_496_473, 0.159_314_22);
+    r = r.mul_add(s, -0.327_622_77);
+    r = r.mul_add(s * a, a);
+    if steep {
+        r = FRAC_PI_2 - r;
+    }
+    if d.x < 0.0 {
+        r = PI - r;
+    }
+    Some(if d.y < 0.0 { -r } else { r })
+}
+
+fn changed(before: Option<f32>, now: Option<f32>) -> bool {
+    let (Some(a0), Some(a1)) = (before, now) else { return false };
+    let mut d = (a1 - a0).abs();
+    if d > 3.0 && d < 3.3 {
+        count(cover::REVERSAL);
+    }
+    if d > PI {
+        d -= PI;
+    }
+    if d > FRAC_PI_2 {
+        d = PI - d;
+    }
+    d > 0.001
+}
+
+fn lerp(t: f32, a: f32, b: f32) -> f32 {
+    t.mul_add(b, (-t).mul_add(a, a))
+}
+
+fn three(t: f32, a: f32, b: f32, c: f32) -> f32 {
+    lerp(t, lerp(t, a, b), lerp(t, b, c))
+}
+
+fn four(t: f32, a: f32, b: f32, c: f32, d: f32) -> f32 {
+    lerp(t, three(t, a, b, c), three(t, b, c, d))
+}
+
+fn curvature(x: f32) -> f32 {
+    let c = 0.67f32;
+    x / (1.0 - c + (x * x).mul_add(0.25, c * c * c * c).sqrt().sqrt())
+}
+
+fn inv_curvature(k: f32) -> f32 {
+    let c = 0.39f32;
+    k * (1.0 - c + (k * k).mul_add(0.25, c * c).sqrt())
+}
+
+#[derive(Clone, Copy, Debug)]
+struct Spline {
+    sum: f32,
+    start: P,
+    end: P,
+    flag: bool,
+    quads: usize,
+}
+
+#[derive(Clone, Copy, Debug)]
+struct Quad {
+    points: [W; 3],
+    x0: f32,
+    dx_recip: f32,
+    k0: f32,
+    dk: f32,
+    own: f32,
+    sum: f32,
+    spline: usize,
+}
+
+/// How many pieces a cubic gets, before the test for 5: the exact root, or the original's `powf`, to compare the rest where the two differ.
+pub type Pieces = fn(q: f32, mult: f32) -> u64;
+
+/// 0 stands for a number that is none (of a q that no drawing has); it is refused like one over 1,024.
+pub fn exact_pieces(q: f32, mult: f32) -> u64 {
+    match sixth_root(q) {
+        None => u64::MAX,
+        Some(r) => ((r * mult).ceil() as u64).max(1),
+    }
+}
+
+pub fn powf_pieces(q: f32, mult: f32) -> u64 {
+    ((q.powf(1.0 / 6.0) * mult).ceil() as u64).max(1)
+}
+
+/// A quad's numbers before the test for a straight one.
+struct Bend {
+    x0: f32,
+    dx_recip: f32,
+    k0: f32,
+    dk: f32,
+    own: f32,
+}
+
+fn bend(p0: P, p1: P, p2: P) -> Bend {
+    let a = minus(p1, p0);
+    let b = minus(p2, p1);
+    let h = minus(a, b);
+    let cross = (p2.x - p0.x).mul_add(h.y, (-(p2.y - p0.y)) * h.x);
+    let recip = 1.0 / cross;
+    let x0 = a.x.mul_add(h.x, a.y * h.y) * recip;
+    let x2 = b.x.mul_add(h.x, b.y * h.y) * recip;
+    let dx_recip = 1.0 / (x2 - x0);
+    let scale = (cross / (length(h) * (x2 - x0))).abs();
+    let k0 = curvature(x0);
+    let dk = curvature(x2) - k0;
+    let own = 0.5 * dk.abs() * (scale * 16.0).sqrt();
+    Bend { x0, dx_recip, k0, dk, own }
+}
+
+/// A quad's own curvature, before the test for a straight one.
+pub fn own_curvature(p0: P, p1: P, p2: P) -> f32 {
+    bend(p0, p1, p2).own
+}
+
+struct Run {
+    setting: Setting,
+    quad_room: usize,
+    spline_room: usize,
+    mark: bool,
+    last: Option<f32>,
+    splines: Vec<Spline>,
+    quads: Vec<Quad>,
+    pieces: Pieces,
+}
+
+impl Run {
+    /// Whether a primitive that starts here in this direction opens a spline.
+    fn opens(&self, direction: Option<f32>, start: P) -> bool {
+        if self.mark {
+            count(cover::MARK);
+            return true;
+        }
+        if changed(self.last, direction) {
+            count(cover::TURN);
+            return true;
+        }
+        let gap = length(minus(start, self.splines.last().unwrap().end));
+        if gap == 0.0625 {
+            count(cover::GAP_EXACT);
+        }
+        if gap >= 0.0625 {
+            count(cover::GAP);
+            return true;
+        }
+        count(cover::JOINED);
+        false
+    }
+
+    /// Opens a spline, or goes on with the last.
+    fn take(&mut self, opens: bool, start: P, end: P) {
+        if opens {
+            if !self.mark {
+                self.splines.last_mut().unwrap().flag = false;
+            }
+            self.mark = false;
+            self.splines.push(Spline { sum: 0.0, start, end, flag: true, quads: 0 });
+        } else {
+            self.splines.last_mut().unwrap().end = end;
+        }
+    }
+
+    fn line(&mut self, a: W, b: W) -> Result<(), u8> {
+        let (start, end) = (a.applied(), b.applied());
+        let own = angle(minus(end, start));
+        let opens = self.opens(own, start);
+        if opens && self.splines.len() >= self.spline_room {
+            return Err(7);
+        }
+        self.take(opens, start, end);
+        if own.is_none() {
+            count(cover::NO_ANGLE);
+            if self.last.is_some() {
+                count(cover::KEPT);
+            }
+        }
+        if own.is_some() || self.setting == Setting::Screen {
+            self.last = own;
+        }
+        Ok(())
+    }
+
+    fn quad(&mut self, points: [W; 3]) -> Result<(), u8> {
+        let p0 = points[0].applied();
+        let p1 = points[1].applied();
+        let p2 = points[2].applied();
+        let a = minus(p1, p0);
+        let b = minus(p2, p1);
+        let (into, out) = (angle(a), angle(b));
+        match (into, out) {
+            (None, None) => {
+                count(cover::DROPPED);
+                return Ok(());
+            }
+            (None, _) | (_, None) => {
+                count(cover::AS_LINE);
+                return self.line(points[0], points[2]);
+            }
+            _ => {}
+        }
+
+        let Bend { mut x0, mut dx_recip, mut k0, mut dk, mut own } = bend(p0, p1, p2);
+        if !own.is_finite() || own <= 1.0 {
+            count(cover::STRAIGHT);
+            if !own.is_finite() {
+                count(cover::INFINITE);
+            }
+            own = 2.0;
+            x0 = 0.036_624_67;
+            dx_recip = 1.0;
+            k0 = 0.0;
+            dk = 1.0;
+        } else {
+            count(cover::CURVED);
+        }
+
+        let opens = self.opens(into, p0);
+        let before = if opens { 0.0 } else { self.splines.last().unwrap().sum };
+        let sum = before + own;
+        if self.quads.len() >= self.quad_room {
+            return Err(6);
+        }
+        if opens && self.splines.len() >= self.spline_room {
+            return Err(7);
+        }
+        if !(sum <= 65_536.0) {
+            return Err(8);
+        }
+        self.take(opens, p0, p2);
+        let n = self.splines.len();
+        let spline = &mut self.splines[n - 1];
+        spline.sum = sum;
+        spline.quads += 1;
+        self.last = out;
+        self.quads.push(Quad { points, x0, dx_recip, k0, dk, own, sum, spline: n - 1 });
+        Ok(())
+    }
+
+    fn cubic(&mut self, p: [W; 4]) -> Result<(), u8> {
+        count(cover::CUBIC);
+        if p[1].w != 1.0 || p[2].w != 1.0 {
+            count(cover::RATIONAL);
+        }
+        let n = cubic_pieces(p, self.pieces);
+        if n > 1024 {
+            return Err(5);
+        }
+        let incr = 1.0 / n as f32;
+        if n as f32 * incr < 1.0 {
+            count(cover::SHORT);
+        }
+        let at = |t: f32| {
+            W {
+                x: four(t, p[0].x, p[1].x, p[2].x, p[3].x),
+                y: four(t, p[0].y, p[1].y, p[2].y, p[3].y),
+                w: four(t, p[0].w, p[1].w, p[2].w, p[3].w),
+            }
+            .applied()
+        };
+        let mut start = p[0].applied();
+        for i in 1..=n {
+            let t = i as f32 * incr;
+            let end = at(t);
+            let mid = at(t - 0.5 * incr);
+            let control = P {
+                x: mid.x.mul_add(2.0, -0.5 * (start.x + end.x)),
+                y: mid.y.mul_add(2.0, -0.5 * (start.y + end.y)),
+            };
+            self.quad([W::plain(start), W::plain(control), W::plain(end)])?;
+            start = end;
+        }
+        Ok(())
+    }
+}
+
+fn cubic_pieces(p: [W; 4], pieces: Pieces) -> u64 {
+    let (q, mult) = cubic_error(p);
+    pieces(q, mult)
+}
+
+/// q, and the largest of w1, w2 and 1.
+fn cubic_error(p: [W; 4]) -> (f32, f32) {
+    let (p0, p1, p2) = (p[0].applied(), p[1].applied(), p[2].applied());
+    // 3·p2 - p0 - 2·p1, where 2·p1 is exact
+    let bend = |a: f32, b: f32, c: f32| c.mul_add(3.0, -a) - 2.0 * b;
+    let (dx, dy) = (bend(p0.x, p1.x, p2.x), bend(p0.y, p1.y, p2.y));
+    let error = dx.mul_add(dx, dy * dy);
+    let q = error * (1.0 / 1.6875f32);
+    (q, p[1].w.max(p[2].w).max(1.0))
+}
+
+fn stored(c: &Columns, i: usize) -> W {
+    W { x: c.x[i], y: c.y[i], w: c.weight[i] }
+}
+
+/// How many pieces each cubic of a drawable store needs.
+pub fn pieces_of(st: State, c: &Columns, pieces: Pieces) -> Vec<u64> {
+    errors_of(st, c).into_iter().map(|(q, mult)| pieces(q, mult)).collect()
+}
+
+/// q and the largest weight of each cubic.
+pub fn errors_of(st: State, c: &Columns) -> Vec<(f32, f32)> {
+    let mut out = Vec::new();
+    let mut used = 0;
+    for &k in &c.commands[..st.commands] {
+        if k == CUBIC {
+            out.push(cubic_error([stored(c, used - 1), stored(c, used), stored(c, used + 1), stored(c, used + 2)]));
+        }
+        used += (k as usize).max(1);
+    }
+    out
+}
+
+/// One entry of the walk: its word, and for a step its size, number and quad.
+struct Item {
+    word: u32,
+    spline: usize,
+    step: Option<(f32, usize, usize)>,
+    start: bool,
+    flag: bool,
+}
+
+fn subdivisions(s: &Spline) -> usize {
+    s.sum.ceil() as usize
+}
+
+fn starts(splines: &[Spline], k: usize) -> bool {
+    if k == 0 || splines[k - 1].flag {
+        return true;
+    }
+    length(minus(splines[k - 1].end, splines[k].start)) > 0.0625
+}
+
+/// Counted before it is written.
+fn walk_length(splines: &[Spline]) -> u64 {
+    (0..splines.len()).map(|k| starts(splines, k) as u64 + subdivisions(&splines[k]).saturating_sub(1) as u64 + 1).sum()
+}
+
+fn walk(splines: &[Spline], quads: &[Quad]) -> Vec<Item> {
+    let mut items = Vec::new();
+    let mut cursor = 0;
+    let (mut strays, mut stepless) = (0, 0);
+    for (k, s) in splines.iter().enumerate() {
+        let low = k as u32 % 4_194_304;
+        if starts(splines, k) {
+            if k > 0 && !splines[k - 1].flag {
+                count(cover::START_GAP);
+            }
+            items.push(Item { word: 0x7f80_0000 + low, spline: k, step: None, start: true, flag: false });
+        } else if length(minus(splines[k - 1].end, s.start)) == 0.0625 {
+            count(cover::NO_START);
+        }
+        let m = subdivisions(s);
+        if m as f32 == s.sum && m > 0 {
+            count(cover::WHOLE);
+        }
+        let first = items.len();
+        for p in 1..m {
+            if p as f32 > quads[cursor].sum {
+                cursor += 1;
+            }
+            let size = s.sum / m as f32;
+            assert!(cursor < quads.len(), "a step after the last quad");
+            assert!(quads[cursor].spline <= k, "a step on a quad after its spline's last");
+            if quads[cursor].spline != k {
+                strays += 1;
+                count(cover::STRAY);
+            }
+            items.push(Item { word: canon(size).to_bits(), spline: k, step: Some((size, p, cursor)), start: false, flag: false });
+        }
+        if s.quads >= 2 {
+            count(cover::SEVERAL);
+            let mut used: Vec<usize> = items[first..].iter().map(|i| i.step.unwrap().2).collect();
+            used.dedup();
+            if used.len() < s.quads {
+                stepless += 1;
+                count(cover::STEPLESS);
+            }
+        }
+        if m > 0 {
+            cursor += 1;
+        }
+        items.push(Item { word: 0xff80_0000 + low + if s.flag { 0x40_0000 } else { 0 }, spline: k, step: None, start: false, flag: s.flag });
+    }
+    if parted(splines, quads) {
+        assert_eq!((strays, stepless), (0, 0), "each quad gets a step and no step strays");
+    }
+    items
+}
+
+/// In every spline of two or more quads a whole number lies strictly between the last two running sums.
+fn parted(splines: &[Spline], quads: &[Quad]) -> bool {
+    let mut end = 0;
+    splines.iter().all(|s| {
+        end += s.quads;
+        s.quads < 2 || quads[end - 2].sum.floor() + 1.0 < quads[end - 1].sum
+    })
+}
+
+fn step_point(quads: &[Quad], size: f32, p: usize, i: usize) -> P {
+    count(cover::STEP);
+    let q = &quads[i];
+    let before = if i > 0 && quads[i - 1].spline == q.spline { quads[i - 1].sum } else { 0.0 };
+    let ratio = size.mul_add(p as f32, -before) * (1.0 / q.own);
+    let x = inv_curvature(ratio.mul_add(q.dk, q.k0));
+    let raw = (x - q.x0) * q.dx_recip;
+    let t = if raw < 0.0 {
+        count(cover::CLAMP0);
+        0.0
+    } else if raw > 1.0 {
+        count(cover::CLAMP1);
+        1.0
+    } else {
+        raw
+    };
+    if t == 0.0 && t.is_sign_negative() {
+        count(cover::MINUS0);
+    }
+    let [a, b, c] = q.points;
+    let r = 1.0 / three(t, a.w, b.w, c.w);
+    P { x: three(t, a.x, b.x, c.x) * r, y: three(t, a.y, b.y, c.y) * r }
+}
+
+fn put<T: Copy>(column: &mut [T], values: impl Iterator<Item = T>) {
+    for (i, v) in values.enumerate() {
+        column[i] = v;
+    }
+}
+
+fn put_floats(column: &mut [f32], values: impl Iterator<Item = f32>) {
+    for (i, v) in values.enumerate() {
+        if !v.is_finite() {
+            count(cover::NOT_FINITE);
+        }
+        column[i] = canon(v);
+    }
+}
+
+pub fn flatten(setting: Setting, st: State, c: &Columns, q: &mut QuadTable, s: &mut SplineTable, o: &mut Output) -> Flattened {
+    flatten_with(exact_pieces, setting, st, c, q, s, o)
+}
+
+pub fn flatten_with(pieces: Pieces, setting: Setting, st: State, c: &Columns, q: &mut QuadTable, s: &mut SplineTable, o: &mut Output) -> Flattened {
+    if undrawable(st, c) {
+        return Flattened { answer: 3, ..Default::default() };
+    }
+    let mut run = Run {
+        setting,
+        quad_room: q.capacity(),
+        spline_room: s.capacity(),
+        mark: true,
+        last: None,
+        splines: Vec::new(),
+        quads: Vec::new(),
+        pieces,
+    };
+    let mut answer = 0;
+    let mut used = 0;
+    for &k in &c.commands[..st.commands] {
+        let at = |i: usize| stored(c, i);
+        let done = match k {
+            MOVE => {
+                run.mark = true;
+                Ok(())
+            }
+            LINE => run.line(at(used - 1), at(used)),
+            QUAD => run.quad([at(used - 1), at(used), at(used + 1)]),
+            _ => run.cubic([at(used - 1), at(used), at(used + 1), at(used + 2)]),
+        };
+        used += (k as usize).max(1);
+        if let Err(no) = done {
+            answer = no;
+            break;
+        }
+    }
+    let Run { splines, quads, .. } = run;
+
+    let flat = |f: fn(&W) -> f32| quads.iter().flat_map(move |r| r.points.map(|p| f(&p)));
+    put_floats(&mut q.x, flat(|p| p.x));
+    put_floats(&mut q.y, flat(|p| p.y));
+    put_floats(&mut q.weight, flat(|p| p.w));
+    put_floats(&mut q.x0, quads.iter().map(|r| r.x0));
+    put_floats(&mut q.dx_recip, quads.iter().map(|r| r.dx_recip));
+    put_floats(&mut q.k0, quads.iter().map(|r| r.k0));
+    put_floats(&mut q.dk, quads.iter().map(|r| r.dk));
+    put_floats(&mut q.curvatures_recip, quads.iter().map(|r| 1.0 / r.own));
+    put_floats(&mut q.partial_curvatures, quads.iter().map(|r| r.sum));
+    put(&mut q.partial_splines, quads.iter().map(|r| r.spline as u32));
+    put_floats(&mut s.curvature, splines.iter().map(|r| r.sum));
+    put_floats(&mut s.p0x, splines.iter().map(|r| r.start.x));
+    put_floats(&mut s.p0y, splines.iter().map(|r| r.start.y));
+    put_floats(&mut s.p2x, splines.iter().map(|r| r.end.x));
+    put_floats(&mut s.p2y, splines.iter().map(|r| r.end.y));
+    put(&mut s.contour, splines.iter().map(|r| r.flag as u8));
+
+    let counts = Flattened { answer, splines: splines.len(), quads: quads.len(), points: 0 };
+    if answer != 0 {
+        return counts;
+    }
+    let n = walk_length(&splines);
+    if n > o.room() as u64 {
+        return Flattened { answer: 9, ..counts };
+    }
+    let items = walk(&splines, &quads);
+    assert_eq!(items.len() as u64, n);
+    for (i, item) in items.iter().enumerate() {
+        let p = match item.step {
+            Some((size, p, quad)) => step_point(&quads, size, p, quad),
+            None if item.start => splines[item.spline].start,
+            None => splines[item.spline].end,
+        };
+        if !p.x.is_finite() || !p.y.is_finite() {
+            count(cover::NOT_FINITE);
+        }
+        o.words[i] = item.word;
+        o.x[i] = canon(p.x);
+        o.y[i] = canon(p.y);
+        o.end[i] = item.flag as u8;
+    }
+    Flattened { points: items.len(), ..counts }
+}

@@ -1,0 +1,44 @@
+//! What is read of the original, in the port's columns.
+
+/// A drawing's columns, as long as their counts, and the open point's index.
+#[derive(Clone, Debug, Default, PartialEq)]
+pub struct Store {
+    pub x: Vec<f32>,
+    pub y: Vec<f32>,
+    pub weight: Vec<f32>,
+    pub commands: Vec<u8>,
+    pub opening: usize,
+}
+
+/// The quad table and the spline table.
+#[derive(Clone, Debug, Default, PartialEq)]
+pub struct Tables {
+    pub x: Vec<f32>,
+    pub y: Vec<f32>,
+    pub weight: Vec<f32>,
+    pub x0: Vec<f32>,
+    pub dx_recip: Vec<f32>,
+    pub k0: Vec<f32>,
+    pub dk: Vec<f32>,
+    pub curvatures_recip: Vec<f32>,
+    pub partial_curvatures: Vec<f32>,
+    pub partial_splines: Vec<u32>,
+    pub curvature: Vec<f32>,
+    pub p0x: Vec<f32>,
+    pub p0y: Vec<f32>,
+    pub p2x: Vec<f32>,
+    pub p2y: Vec<f32>,
+    pub contour: Vec<u8>,
+}
+
+/// Tables, words and points of a flattened drawing. `steps` and `quads` are the original's work columns beside the words.
+#[derive(Clone, Debug, Default, PartialEq)]
+pub struct Seen {
+    pub tables: Tables,
+    pub words: Vec<u32>,
+    pub steps: Vec<usize>,
+    pub quads: Vec<usize>,
+    pub x: Vec<f32>,
+    pub y: Vec<f32>,
+    pub end: Vec<u8>,
+}
