@@ -1,0 +1,137 @@
+// The spline table as a lent list of records, thin over its columns. No function over such a list is covered by the borrow checker, so each is proved by hand;
+// what they decide and read is left to functions that are.
+ghost use mathlib.Core.Path.{_≡_};
+ghost use lib.Dec.{ltb};
+ghost use lib.ListN.{length, set};
+ghost use Rattle.tables.specs.Tables.{splineTable};
+ghost use Rattle.spline_list.specs.Rows.{rowAtOf, putRowOf, countOf, fills, splineAtOf};
+use columns::flag_byte;
+use columns::is_flag;
+use columns::put_f32;
+use columns::put_u8;
+use columns::read_f32;
+use columns::read_u8;
+use point::Point;
+
+// A spline of the table: curvature is its sum.
+pub struct Spline {
+    pub curvature: f32,
+    pub p0: Point,
+    pub p2: Point,
+    pub contour: bool,
+}
+
+// What stands at an index of a list.
+pub enum Found {
+    At(Spline),
+    Past,
+}
+
+// Row i of the columns, as a record.
+pub fn row_at<'c>(
+    curvature: &'c [f32],
+    p0x: &'c [f32],
+    p0y: &'c [f32],
+    p2x: &'c [f32],
+    p2y: &'c [f32],
+    contour: &'c [u8],
+    i: usize,
+) -> Spline
+    ensures { λ r. ⌜ r ≡ rowAtOf (splineTable (now (curvature .entry)) (now (p0x .entry)) (now (p0y .entry)) (now (p2x .entry)) (now (p2y .entry)) (now (contour .entry))) i ⌝ }
+{
+    Spline {
+        curvature: read_f32(curvature, i),
+        p0: Point {
+            x: read_f32(p0x, i),
+            y: read_f32(p0y, i),
+        },
+        p2: Point {
+            x: read_f32(p2x, i),
+            y: read_f32(p2y, i),
+        },
+        contour: is_flag(read_u8(contour, i)),
+    }
+}
+
+// A record goes to row i of the columns; where a column ends before it, nothing is written there.
+pub fn put_row(
+    curvature: &mut [f32],
+    p0x: &mut [f32],
+    p0y: &mut [f32],
+    p2x: &mut [f32],
+    p2y: &mut [f32],
+    contour: &mut [u8],
+    i: usize,
+    v: Spline,
+)
+    ensures { λ _. ⌜ splineTable (now (curvature .exit)) (now (p0x .exit)) (now (p0y .exit)) (now (p2x .exit)) (now (p2y .exit)) (now (contour .exit)) ≡ putRowOf (splineTable (now (curvature .entry)) (now (p0x .entry)) (now (p0y .entry)) (now (p2x .entry)) (now (p2y .entry)) (now (contour .entry))) i v ⌝ }
+{
+    put_f32(curvature, i, v.curvature);
+    put_f32(p0x, i, v.p0.x);
+    put_f32(p0y, i, v.p0.y);
+    put_f32(p2x, i, v.p2.x);
+    put_f32(p2y, i, v.p2.y);
+    put_u8(contour, i, flag_byte(v.contour));
+}
+
+// How many rows are copied: all, where a list has just as many, and otherwise none.
+pub fn count(a: usize, b: usize) -> usize
+    ensures { λ r. ⌜ r ≡ countOf a b ⌝ }
+{
+    if a == b { a } else { 0 }
+}
+
+// The n rows of the columns go to a list of records that is as long; to any other goes none. How many did is returned.
+pub fn fill<'l, 'c>(
+    list: &'l mut [Spline],
+    curvature: &'c [f32],
+    p0x: &'c [f32],
+    p0y: &'c [f32],
+    p2x: &'c [f32],
+    p2y: &'c [f32],
+    contour: &'c [u8],
+    n: usize,
+) -> usize
+    ensures { λ r. ⌜ (r ≡ countOf n (length (now (list .entry)))) × (now (list .exit) ≡ fills (splineTable (now (curvature .entry)) (now (p0x .entry)) (now (p0y .entry)) (now (p2x .entry)) (now (p2y .entry)) (now (contour .entry))) r (now (list .entry))) ⌝ }
+{
+    let m = count(n, list.len());
+    let mut i: usize = 0;
+    while i < m {
+        list[i] = row_at(curvature, p0x, p0y, p2x, p2y, contour, i);
+        i += 1;
+    }
+    m
+}
+
+fn here(v: Spline) -> Found
+    ensures { λ r. ⌜ r ≡ Found.At v ⌝ }
+{
+    Found::At(v)
+}
+
+fn nowhere() -> Found
+    ensures { λ r. ⌜ r ≡ Found.Past ⌝ }
+{
+    Found::Past
+}
+
+pub fn spline_at(list: &[Spline], i: usize) -> Found
+    ensures { λ r. ⌜ r ≡ splineAtOf (now (list .entry)) i ⌝ }
+{
+    if i < list.len() {
+        return here(list[i]);
+    } else {
+        return nowhere();
+    }
+}
+
+// Whether i is within the list; past it nothing is written.
+pub fn put_spline(list: &mut [Spline], i: usize, v: Spline) -> bool
+    ensures { λ r. ⌜ (r ≡ ltb i (length (now (list .entry)))) × (now (list .exit) ≡ set (now (list .entry)) i v) ⌝ }
+{
+    if i < list.len() {
+        list[i] = v;
+        return true;
+    }
+    false
+}
