@@ -3,6 +3,7 @@
 -- All NaNs are one value here; which bytes a NaN then has in an f32 column is not settled, and that is the one exception. Assumes nothing.
 use Prim.Native.Nat.{ℕ}
 use mathlib.Core.Path.{_≡_}
+use mathlib.Core.Logic.{_⊎_}
 use mathlib.Core.List.{List}
 use lib.Ieee.{Float}
 use Rattle.answer.specs.declared.Answer.{Answer}
@@ -17,9 +18,15 @@ use Rattle.tables.specs.Run.{World, world}
 use Rattle.tables.specs.Commands.{tablesOf}
 use Rattle.flatten.specs.declared.Flattened.{Flattened}
 use Rattle.flatten.specs.Flatten.{Output, output, Flattening, flattening, flattenOf}
+use Rattle.listing.specs.declared.Pair as Pairs
+use Rattle.listing.specs.declared.TwoPoints.{TwoPoints}
+use Rattle.listing.specs.declared.ThreePoints.{ThreePoints}
+use Rattle.listing.specs.declared.Progress as Progresses
+use Rattle.listing.specs.Reading.{Fields, pairFields, twoPointsFields, threePointsFields, Progress, stopped, progressOf}
 use Rattle.listing.specs.Program.{listingOf}
 
--- ---- a result by value, `r ≡ d`: the leaves, points, commands, answers, the plan of a primitive, the capacities
+-- ---- a result by value, `r ≡ d`: the leaves, points, commands, answers, the plan of a primitive, the capacities; and a record of a result with what one buffer or one
+-- table then holds, whose parts are then equal too: a row put into a table, the walk delivered, a text written
 abbrev pub ValueSettled : Type 1
 ValueSettled = (A : Type 0) (d r r' : A) → r ≡ d → r' ≡ d → r ≡ r'
 
@@ -101,6 +108,24 @@ FlattenSettled =
     → flattening r (heldQuads t) (heldSplines t) (heldOutput o) ≡ flattenOf setting store c q s given
     → flattening r' (heldQuads t') (heldSplines t') (heldOutput o') ≡ flattenOf setting store c q s given
     → (r ≡ r') × (t ≡ t') × (o ≡ o')
+
+-- ---- the fields of a listing: `pairFields r end line ≡ d`, and so for two and three points
+abbrev pub PairSettled : Type 0
+PairSettled = (d : Fields) (end line : ℕ) (r r' : Pairs.Pair) → pairFields r end line ≡ d → pairFields r' end line ≡ d → r ≡ r'
+
+abbrev pub TwoPointsSettled : Type 0
+TwoPointsSettled = (d : Fields) (end line : ℕ) (r r' : TwoPoints) → twoPointsFields r end line ≡ d → twoPointsFields r' end line ≡ d → r ≡ r'
+
+abbrev pub ThreePointsSettled : Type 0
+ThreePointsSettled = (d : Fields) (end line : ℕ) (r r' : ThreePoints) → threePointsFields r end line ≡ d → threePointsFields r' end line ≡ d → r ≡ r'
+
+-- ---- the reading of a listing, `progressOf r columns ≡ d`: the result always, and the columns unless it stopped at a fault or a refused command
+pub data HasStopped : Progress → Type 0 where
+  has-stopped : (a : Answer) (line : ℕ) → HasStopped (stopped a line)
+
+abbrev pub ReadSettled : Type 0
+ReadSettled =
+    (d : Progress) (r r' : Progresses.Progress) (c c' : StoreColumns) → progressOf r (held c) ≡ d → progressOf r' (held c') ≡ d → (r ≡ r') × (HasStopped d ⊎ (c ≡ c'))
 
 -- ---- the program's listing: what is written for an input
 abbrev pub ListingSettled : Type 0
