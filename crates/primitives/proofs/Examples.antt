@@ -38,7 +38,7 @@ P x y = pointAt (whole32 x) (whole32 y)
 abbrev endingAt : Point → Cubic
 endingAt end = record { p0 = plain (P 0 0); p1 = plain (P 0 10); p2 = plain (P 10 10); p3 = plain end }
 
-pub error-near : cubicErrorOf (endingAt (P 10 0)) ≡ whole32 1000
+pub error-near : cubicErrorOf (endingAt (P 30 0)) ≡ whole32 1000
 unfolding cubicErrorOf bendOf appliedOf fmaOf trailingZeros size span climb odd units round neg sum add sub mul div lt eq le ofInt isNan ofFields ofBits
 error-near = refl
 
