@@ -51,15 +51,4 @@ fn main() {
     assert!(between(&path, "pub fn push_line(", "{", "pub fn push_quad(").contains(statement));
     let knife = path.replace(statement, "self.last_angle = angle.or(self.last_angle);");
     fs::write(out.join("path_knife.rs"), with_probe(&knife)).unwrap();
-
-    // where the library is linked: the folder of libabi.a
-    println!("cargo:rustc-check-cfg=cfg(library)");
-    println!("cargo:rerun-if-env-changed=KERMEZHUL_STATICLIB");
-    if let Some(dir) = env::var_os("KERMEZHUL_STATICLIB") {
-        let dir = PathBuf::from(dir);
-        println!("cargo:rerun-if-changed={}", dir.join("libabi.a").display());
-        println!("cargo:rustc-link-search=native={}", dir.display());
-        println!("cargo:rustc-link-lib=static=abi");
-        println!("cargo:rustc-cfg=library");
-    }
 }

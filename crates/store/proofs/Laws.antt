@@ -5,7 +5,7 @@ use native.Mathlib.Omega.{arith}
 use native.Mathlib.Nat.{le-refl, le-add-right}
 use mathlib.Core.Path.{_≡_, refl, sym, ap, _∙_, subst}
 use mathlib.Core.Bool.{Bool, true, false, not, _||_, cond, false≢true, true≢false}
-use mathlib.Core.List.{List, [], _∷_}
+use mathlib.Core.List.{List, [], _∷_, _++_}
 use lib.Dec.{eqb}
 use lib.ListN.{length, length-set}
 use lib.Seq.{take-suc-set, getD-set-same}
@@ -27,7 +27,7 @@ use Rattle.store.specs.Drawable.{storedOkOf, knownOf, totalUsesOf, drawa
 use Rattle.store.proofs.Tests.{and-left, and-right, or-false-left, or-false-right}
 use Rattle.store.proofs.Deciding.{room-fits}
 use Rattle.store.proofs.Ranges.{one-ok, zero-stored}
-use Rattle.store.proofs.Sound.{Sound, sound, sound-drawable}
+use Rattle.store.proofs.Sound.{Sound, sound, sound-drawable, sound-usable}
 use Rattle.store.proofs.Keeping.{writes-good, sound-kept}
 
 -- ---- a call is refused and changes nothing, or all its tests passed and it is carried out
@@ -206,3 +206,13 @@ replay-sound (call ∷ calls) o g = replay-sound calls (drawOf call (o .state) (
 pub replay-drawable : (calls : List Call) (c : Columns) → isDone (freshOf c .answer) ≡ true
     → drawableOf (replayOf calls (freshOf c) .state) (replayOf calls (freshOf c) .columns) ≡ true
 replay-drawable calls c e = sound-drawable _ _ (replay-sound calls (freshOf c) (fresh-sound c e))
+
+-- so no later call finds the store unusable
+pub replay-usable : (calls : List Call) (c : Columns) → isDone (freshOf c .answer) ≡ true → usableOf (replayOf calls (freshOf c) .state) (replayOf calls (freshOf c) .columns) ≡ true
+replay-usable calls c e = sound-usable _ _ (replay-sound calls (freshOf c) (fresh-sound c e))
+
+-- one list of calls after another
+pub replay-append : (calls more : List Call) (o : Outcome) → replayOf (calls ++ more) o ≡ replayOf more (replayOf calls o)
+unfolding replayOf
+replay-append [] more o = refl
+replay-append (call ∷ calls) more o = replay-append calls more (drawOf call (o .state) (o .columns))

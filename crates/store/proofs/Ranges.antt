@@ -1,7 +1,7 @@
 -- A coordinate in range times a weight in range lies within ±4,194,304, which is 65,536 · 64: rounding keeps order. Assumes nothing.
 use Prim.Native.Nat.{ℕ, zero, suc, _+_, _*_, _^_, _≤_, _<_}
 use native.Mathlib.Omega.{arith}
-use native.Mathlib.Nat.{le-trans, le-of-eq, lt-of-lt-of-le, eq-or-lt-of-le, mul-one, one-mul, mul-le-mul, mul-le-mul-right, mul-pos, mul-assoc, mul-comm, mul-left-comm, le-add-right}
+use native.Mathlib.Nat.{le-trans, le-of-eq, lt-of-lt-of-le, eq-or-lt-of-le, mul-one, one-mul, mul-le-mul, mul-le-mul-right, mul-pos, mul-assoc, mul-left-comm, le-add-right}
 use mathlib.Core.Logic.{inl, inr}
 use mathlib.Core.Path.{_≡_, refl, sym, ap, _∙_, subst}
 use mathlib.Core.Bool.{Bool, true, false, not, _&&_, _||_, cond, false≢true}
@@ -140,7 +140,7 @@ product-le a b c d h k =
     le-trans (mul-le-mul p q) (le-of-eq (regroup 65536 64 4194304 b d refl))
   where
     regroup : (x y z b d : ℕ) → x * y ≡ z → x * b * (y * d) ≡ z * (b * d)
-    regroup x y z b d e = rw (← e) (simp (mul-assoc, mul-comm, mul-left-comm))
+    regroup x y z b d e = rw (← e) (simp (mul-assoc, mul-left-comm))
 
 module _ (s : Bool) (m : ℕ) (e : ℤ) (h : inside 16 (fin s m e) ≡ true) where
   product-inside : (w : Float) → weightOkOf w ≡ true → inside 22 (fin s m e ⊗ w) ≡ true

@@ -64,9 +64,9 @@ module _ (st : StoreState) (c : Columns) where
     unfolding evenOf
     is-even = rw (eq-eqb (length (c .y)) (length (c .x)) (g .counted .y), eq-eqb (length (c .weight)) (length (c .x)) (g .counted .weight))
 
-    usable : usableOf st c ≡ true
+    pub sound-usable : usableOf st c ≡ true
     unfolding usableOf
-    usable =
+    sound-usable =
         let f = g .counted in
         rw (
           is-even,
@@ -82,7 +82,7 @@ module _ (st : StoreState) (c : Columns) where
     unfolding drawableOf
     sound-drawable =
         rw (
-          usable,
+          sound-usable,
           g .known,
           eq-eqb (getD (c .commands) 0 0) moveCommand (g .first),
           eq-eqb (totalUsesOf (take (st .commands) (c .commands))) (st .points) (g .uses),

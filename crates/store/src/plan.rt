@@ -6,7 +6,7 @@ ghost use mathlib.Core.List.{List, [], _∷_};
 ghost use Prim.Native.Nat.{ℕ, _+_, _≤_, _<_};
 ghost use lib.Dec.{leb, eqb};
 ghost use lib.ListN.{length};
-ghost use Rattle.store.specs.Columns.{columns, usableOf, lastCommandOf, moveCommand};
+ghost use Rattle.store.specs.Columns.{columns, usableOf, lastCommandOf, moveCommand, quadCommand, cubicCommand};
 ghost use Rattle.store.specs.Closing.{unclosedOf};
 ghost use Rattle.store.specs.Drawing.{appended, closed, moved, writesOf, roomOf};
 ghost use Rattle.store.specs.Plan.{pointsIn, commandsIn, writesBy, Standing, Decided};
@@ -87,6 +87,18 @@ fn append(st: StoreState, points: Batch, command: u8) -> Plan
     }
 }
 
+fn quad(st: StoreState, p1: WeightedPoint, p2: WeightedPoint) -> Plan
+    ensures { λ r. ⌜ writesBy r ≡ appended st (p1 ∷ p2 ∷ []) quadCommand ⌝ }
+{
+    append(st, Batch::Two(p1, p2), QUAD)
+}
+
+fn cubic(st: StoreState, p1: WeightedPoint, p2: WeightedPoint, p3: WeightedPoint) -> Plan
+    ensures { λ r. ⌜ writesBy r ≡ appended st (p1 ∷ p2 ∷ p3 ∷ []) cubicCommand ⌝ }
+{
+    append(st, Batch::Three(p1, p2, p3), CUBIC)
+}
+
 fn close(x: &[f32], y: &[f32], weight: &[f32], st: StoreState) -> Plan
     requires { ⌜ Standing st (columns (now x) (now y) (now weight) []) ⌝ }
     ensures { λ r. ⌜ writesBy r ≡ closed st (columns (now (x .entry)) (now (y .entry)) (now (weight .entry)) []) (unclosedOf st (columns (now (x .entry)) (now (y .entry)) (now (weight .entry)) [])) ⌝ }
@@ -162,33 +174,23 @@ fn plan_of(
     match call {
         Call::Move(p) => move_by(x, y, weight, commands, st, p),
         Call::Line(p) => append(st, Batch::One(WeightedPoint::plain(p)), LINE),
-        Call::Quad(p1, p2) => append(
+        Call::Quad(p1, p2) => quad(st, WeightedPoint::plain(p1), WeightedPoint::plain(p2)),
+        Call::Cubic(p1, p2, p3) => cubic(
             st,
-            Batch::Two(WeightedPoint::plain(p1), WeightedPoint::plain(p2)),
-            QUAD,
+            WeightedPoint::plain(p1),
+            WeightedPoint::plain(p2),
+            WeightedPoint::plain(p3),
         ),
-        Call::Cubic(p1, p2, p3) => append(
+        Call::RatQuad(p1, p2, w) => quad(
             st,
-            Batch::Three(
-                WeightedPoint::plain(p1),
-                WeightedPoint::plain(p2),
-                WeightedPoint::plain(p3),
-            ),
-            CUBIC,
+            WeightedPoint::rational(p1, w),
+            WeightedPoint::plain(p2),
         ),
-        Call::RatQuad(p1, p2, w) => append(
+        Call::RatCubic(p1, p2, p3, w1, w2) => cubic(
             st,
-            Batch::Two(WeightedPoint::rational(p1, w), WeightedPoint::plain(p2)),
-            QUAD,
-        ),
-        Call::RatCubic(p1, p2, p3, w1, w2) => append(
-            st,
-            Batch::Three(
-                WeightedPoint::rational(p1, w1),
-                WeightedPoint::rational(p2, w2),
-                WeightedPoint::plain(p3),
-            ),
-            CUBIC,
+            WeightedPoint::rational(p1, w1),
+            WeightedPoint::rational(p2, w2),
+            WeightedPoint::plain(p3),
         ),
         Call::Build => close(x, y, weight, st),
     }

@@ -4,7 +4,7 @@ use crate::{
     call::{written, Call},
     model::{
         self,
-        flatten::{exact_pieces, flatten_with, pieces_of, powf_pieces},
+        flatten::{errors_of, exact_pieces, flatten_with, powf_pieces},
         Columns, Flattened, Output, QuadTable, Setting, SplineTable, State,
     },
     original::{knife, screen},
@@ -141,11 +141,20 @@ fn compare_flattenings(
     room: &mut Room,
     n: &mut Counts,
 ) -> Result<(), String> {
-    let ours = pieces_of(st, c, exact_pieces);
-    n.cubics += ours.len() as u64;
+    let errors = errors_of(st, c);
+    if errors.len() != pieces.len() {
+        return Err(format!("{} cubics, the original has {}", errors.len(), pieces.len()));
+    }
+    n.cubics += errors.len() as u64;
     let mut differ = false;
-    for (a, b) in ours.iter().zip(pieces) {
+    for ((q, mult), b) in errors.iter().zip(pieces) {
+        let a = &exact_pieces(*q, *mult);
         if *a != *b as u64 {
+            // they may differ by one, and only where the true number is next to a whole one
+            let near = (*q as f64).powf(1.0 / 6.0) * *mult as f64;
+            if a.abs_diff(*b as u64) != 1 || (near - near.round()).abs() > near * 1e-6 {
+                return Err(format!("{a} pieces of q = {q:?}, the original has {b}"));
+            }
             differ = true;
             n.differing_cubics += 1;
             if *a > *b as u64 {
@@ -205,26 +214,30 @@ pub fn compare_drawing(calls: &[Call], prefixes: bool, room: &mut Room, n: &mut 
     })
 }
 
-/// A store made by hand.
-pub fn compare_store(store: &Store, room: &mut Room, n: &mut Counts) -> Result<(), String> {
+/// A store made by hand: flattened in both settings, then drawn on.
+pub fn compare_store(store: &Store, calls: &[Call], room: &mut Room, n: &mut Counts) -> Result<(), String> {
     n.by_hand += 1;
     let result = (|| {
         let points = store.x.len();
         let st = State { points, commands: store.commands.len(), opening: store.opening };
-        let with_room = |v: &[f32]| [v, &[0.0]].concat();
+        let with_room = |v: &[f32]| [v, &vec![0.0; 4 * calls.len()]].concat();
         let mut c = Columns {
             x: with_room(&store.x),
             y: with_room(&store.y),
             weight: with_room(&store.weight),
-            commands: [&store.commands[..], &[0]].concat(),
+            commands: [&store.commands[..], &vec![0; 2 * calls.len()]].concat(),
         };
         let pieces = screen::pieces_of_store(store);
         compare_flattenings(st, &c, &pieces, [&|| screen::flatten_store(store), &|| knife::flatten_store(store)], room, n)?;
-        let (answer, st) = model::draw(&Call::Build, st, &mut c);
-        if answer != 0 {
-            return Err(format!("build answers {answer}"));
+        let mut st = st;
+        for (i, call) in calls.iter().enumerate() {
+            let (answer, next) = model::draw(call, st, &mut c);
+            if answer != 0 {
+                return Err(format!("call {i} answers {answer}"));
+            }
+            st = next;
         }
-        same_store(st, &c, &screen::close_store(store))
+        same_store(st, &c, &screen::draw_on(store, calls)).map_err(|e| format!("{e}\n{}", written(calls)))
     })();
     result.map_err(|e| {
         n.mismatches += 1;

@@ -23,11 +23,11 @@ pub const KINDS: [&str; 14] = [
     "steps about a tenth of 0.0625",
 ];
 
-/// A kind: those with very many points come a third as often as the others.
+/// A kind: those with very many points come an eighth as often as the others.
 pub fn kind(rng: &mut Rng) -> usize {
     loop {
         let k = rng.below(KINDS.len() as u64) as usize;
-        if !(k == 2 || k == 8) || rng.one_in(3) {
+        if !(k == 2 || k == 8 || k == 11) || rng.one_in(8) {
             return k;
         }
     }
@@ -116,7 +116,7 @@ fn point(rng: &mut Rng, k: usize, before: &[P]) -> P {
 
 fn mixed(rng: &mut Rng, k: usize) -> Vec<Call> {
     let n = match k {
-        11 => 60 + rng.below(240),
+        11 => 60 + rng.below(140),
         2 => 1 + rng.below(6),
         _ => 1 + rng.below(14),
     };
@@ -431,7 +431,7 @@ pub fn directed() -> Vec<Vec<Call>> {
 
 /// A straight quad (sum 2), then one whose own curvature is 1 + 2^-23, so that the sum is 3; a turn, and a straight quad.
 fn stray() -> Vec<Vec<Call>> {
-    use crate::model::{self, Setting};
+    use crate::model::flatten::own_curvature;
     let mut out = Vec::new();
     let mut rng = Rng(12);
     for angle in [0.3f64, 0.7, 1.1, 1.5, -0.4, -0.9] {
@@ -439,38 +439,48 @@ fn stray() -> Vec<Vec<Call>> {
             let a = p((10.0 + s) as f32, 0.0);
             (a, p((10.0 + s + s * angle.cos()) as f32, (s * angle.sin() * (1.0 + wobble)) as f32))
         };
-        // the curvature of the second quad, straight ones told apart by exactly 2
-        let own = |a: P, b: P| {
-            let calls = [Call::Move(p(10.0, 0.0)), Call::Quad(a, b)];
-            let mut c = model::Columns { x: vec![0.0; 8], y: vec![0.0; 8], weight: vec![0.0; 8], commands: vec![0; 8] };
-            let (_, mut st) = model::fresh(&mut c);
-            for call in &calls {
-                st = model::draw(call, st, &mut c).1;
-            }
-            let (mut q, mut s, mut o) = (model::QuadTable::with_room(2), model::SplineTable::with_room(2), model::Output::with_room(64));
-            model::flatten(Setting::Screen, st, &c, &mut q, &mut s, &mut o);
-            s.curvature[0]
-        };
+        let own = |a: P, b: P| own_curvature(p(10.0, 0.0), a, b);
         let (mut low, mut high) = (0.001, 100.0);
         for _ in 0..60 {
             let mid = 0.5 * (low + high);
             let (a, b) = quad(mid, 0.0);
-            let c = own(a, b);
-            if c == 2.0 && mid < 50.0 {
+            if own(a, b) < 1.0 {
                 low = mid;
             } else {
                 high = mid;
             }
         }
-        for _ in 0..20_000 {
-            let (a, b) = quad(high * (1.0 + rng.between(0.0, 4e-7)), rng.between(-4e-7, 4e-7));
+        // a curvature of exactly 1 is still taken as straight, the next f32 is not
+        let mut found = [false; 3];
+        for _ in 0..40_000 {
+            let (a, b) = quad(high * (1.0 + rng.between(-2e-7, 4e-7)), rng.between(-4e-7, 4e-7));
+            for (i, pattern) in [0x3f7f_ffff, 0x3f80_0000, 0x3f80_0001].into_iter().enumerate() {
+                if own(a, b).to_bits() == pattern && !found[i] {
+                    found[i] = true;
+                    out.push(vec![Call::Move(p(10.0, 0.0)), Call::Quad(a, b), Call::Line(p(3.0, 99.0))]);
+                }
+            }
             if own(a, b).to_bits() == 0x3f80_0001 {
                 for turn in [p(b.x, b.y + 40.0), p(b.x - 30.0, b.y - 20.0)] {
                     let mid = p(0.5 * (b.x + turn.x), 0.5 * (b.y + turn.y));
                     out.push(vec![Call::Quad(p(5.0, 0.0), p(10.0, 0.0)), Call::Quad(a, b), Call::Quad(mid, turn), Call::Line(p(0.0, 99.0))]);
                     out.push(vec![Call::Quad(p(5.0, 0.0), p(10.0, 0.0)), Call::Quad(a, b), Call::Line(turn), Call::Quad(p(turn.x, 77.0), p(-5.0, 3.0))]);
+                    // behind the turn straight quads in a row (sums 2, 4, 6), or curved ones: the cursor, which lags, goes on once for each step
+                    for n in 2..5 {
+                        let mut calls = vec![Call::Quad(p(5.0, 0.0), p(10.0, 0.0)), Call::Quad(a, b)];
+                        let (dx, dy) = (turn.x - b.x, turn.y - b.y);
+                        for i in 0..n {
+                            let at = |t: f32| p(b.x + dx * (i as f32 + t), b.y + dy * (i as f32 + t));
+                            calls.push(Call::Quad(at(0.5), at(1.0)));
+                        }
+                        let end = p(b.x + dx * n as f32, b.y + dy * n as f32);
+                        calls.push(Call::Quad(p(end.x + dx, end.y + dy), p(end.x + 31.0, end.y - 7.0)));
+                        out.push(calls);
+                    }
                 }
-                break;
+                if found[1] {
+                    break;
+                }
             }
         }
     }

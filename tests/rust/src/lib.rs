@@ -59,6 +59,8 @@ mod path_knife {
 pub mod against;
 pub mod call;
 pub mod drawings;
+#[cfg(feature = "library")]
+pub mod hostile;
 pub mod model;
 pub mod original;
 pub mod rng;

@@ -12,13 +12,17 @@ macro_rules! original {
         pub mod $name {
             use super::*;
             use crate::$path::{probe, PathBuilder};
+            pub use crate::$path::probe::Repeated;
 
             fn at(p: P) -> Point {
                 Point::new(p.x, p.y)
             }
 
             fn replay(calls: &[Call]) -> PathBuilder {
-                let mut b = PathBuilder::new();
+                replay_on(PathBuilder::new(), calls)
+            }
+
+            fn replay_on(mut b: PathBuilder, calls: &[Call]) -> PathBuilder {
                 for call in calls {
                     match *call {
                         Call::Move(a) => {
@@ -62,7 +66,7 @@ macro_rules! original {
                 probe::see(&replay(calls))
             }
 
-            /// The pieces of each cubic of a store made by hand, its flattening, and what closing makes of it.
+            /// The pieces of each cubic of a store made by hand, and its flattening.
             pub fn pieces_of_store(store: &Store) -> Vec<usize> {
                 probe::pieces_of_store(store)
             }
@@ -71,8 +75,9 @@ macro_rules! original {
                 probe::see_store(store)
             }
 
-            pub fn close_store(store: &Store) -> Store {
-                probe::close_store(store)
+            /// The store after these calls on a store made by hand.
+            pub fn draw_on(store: &Store, calls: &[Call]) -> Store {
+                probe::store_of(&replay_on(probe::builder_on(store), calls))
             }
         }
     };

@@ -162,7 +162,7 @@ pub mod iter {
         }
     }
 
-    /// Pairs go to both sides. The left side is filled from an iterator that keeps the right parts back.
+    /// Pairs go to both sides, one after another.
     impl<A, B, FromA, FromB> ParallelExtend<(A, B)> for (FromA, FromB)
     where
         A: Send,
@@ -170,18 +170,12 @@ pub mod iter {
         FromA: ParallelExtend<A>,
         FromB: ParallelExtend<B>,
     {
+        #[inline]
         fn par_extend<I: IntoParallelIterator<Item = (A, B)>>(&mut self, par_iter: I) {
-            let mut rights = Vec::new();
-            {
-                let items = par_iter.into_par_iter().into_seq();
-                rights.reserve(items.size_hint().0);
-                let rights = &mut rights;
-                self.0.par_extend(Seq(items.map(move |(a, b)| {
-                    rights.push(b);
-                    a
-                })));
+            for (a, b) in par_iter.into_par_iter().into_seq() {
+                self.0.par_extend(Seq(std::iter::once(a)));
+                self.1.par_extend(Seq(std::iter::once(b)));
             }
-            self.1.par_extend(Seq(rights.into_iter()));
         }
     }
 }

@@ -57,7 +57,10 @@ fn main() {
     for i in 0..drawings {
         if i % 16 == 15 {
             let store = by_hand(&mut rng);
-            tell(compare_store(&store, &mut room, &mut n));
+            let k = rng.pick(&[0, 1, 4, 6, 9]);
+            let mut calls = random(&mut rng, k);
+            calls.truncate(1 + rng.below(4) as usize);
+            tell(compare_store(&store, &calls, &mut room, &mut n));
             continue;
         }
         let k = kind(&mut rng);

@@ -231,6 +231,36 @@ pub fn powf_pieces(q: f32, mult: f32) -> u64 {
     ((q.powf(1.0 / 6.0) * mult).ceil() as u64).max(1)
 }
 
+/// A quad's numbers before the test for a straight one.
+struct Bend {
+    x0: f32,
+    dx_recip: f32,
+    k0: f32,
+    dk: f32,
+    own: f32,
+}
+
+fn bend(p0: P, p1: P, p2: P) -> Bend {
+    let a = minus(p1, p0);
+    let b = minus(p2, p1);
+    let h = minus(a, b);
+    let cross = (p2.x - p0.x).mul_add(h.y, (-(p2.y - p0.y)) * h.x);
+    let recip = 1.0 / cross;
+    let x0 = a.x.mul_add(h.x, a.y * h.y) * recip;
+    let x2 = b.x.mul_add(h.x, b.y * h.y) * recip;
+    let dx_recip = 1.0 / (x2 - x0);
+    let scale = (cross / (length(h) * (x2 - x0))).abs();
+    let k0 = curvature(x0);
+    let dk = curvature(x2) - k0;
+    let own = 0.5 * dk.abs() * (scale * 16.0).sqrt();
+    Bend { x0, dx_recip, k0, dk, own }
+}
+
+/// A quad's own curvature, before the test for a straight one.
+pub fn own_curvature(p0: P, p1: P, p2: P) -> f32 {
+    bend(p0, p1, p2).own
+}
+
 struct Run {
     setting: Setting,
     quad_room: usize,
@@ -317,16 +347,7 @@ impl Run {
             _ => {}
         }
 
-        let h = minus(a, b);
-        let cross = (p2.x - p0.x).mul_add(h.y, (-(p2.y - p0.y)) * h.x);
-        let recip = 1.0 / cross;
-        let mut x0 = a.x.mul_add(h.x, a.y * h.y) * recip;
-        let x2 = b.x.mul_add(h.x, b.y * h.y) * recip;
-        let mut dx_recip = 1.0 / (x2 - x0);
-        let scale = (cross / (length(h) * (x2 - x0))).abs();
-        let mut k0 = curvature(x0);
-        let mut dk = curvature(x2) - k0;
-        let mut own = 0.5 * dk.abs() * (scale * 16.0).sqrt();
+        let Bend { mut x0, mut dx_recip, mut k0, mut dk, mut own } = bend(p0, p1, p2);
         if !own.is_finite() || own <= 1.0 {
             count(cover::STRAIGHT);
             if !own.is_finite() {
@@ -401,13 +422,19 @@ impl Run {
 }
 
 fn cubic_pieces(p: [W; 4], pieces: Pieces) -> u64 {
+    let (q, mult) = cubic_error(p);
+    pieces(q, mult)
+}
+
+/// q, and the largest of w1, w2 and 1.
+fn cubic_error(p: [W; 4]) -> (f32, f32) {
     let (p0, p1, p2) = (p[0].applied(), p[1].applied(), p[2].applied());
     // 3·p2 - p0 - 2·p1, where 2·p1 is exact
     let bend = |a: f32, b: f32, c: f32| c.mul_add(3.0, -a) - 2.0 * b;
     let (dx, dy) = (bend(p0.x, p1.x, p2.x), bend(p0.y, p1.y, p2.y));
     let error = dx.mul_add(dx, dy * dy);
     let q = error * (1.0 / 1.6875f32);
-    pieces(q, p[1].w.max(p[2].w).max(1.0))
+    (q, p[1].w.max(p[2].w).max(1.0))
 }
 
 fn stored(c: &Columns, i: usize) -> W {
@@ -416,11 +443,16 @@ fn stored(c: &Columns, i: usize) -> W {
 
 /// How many pieces each cubic of a drawable store needs.
 pub fn pieces_of(st: State, c: &Columns, pieces: Pieces) -> Vec<u64> {
+    errors_of(st, c).into_iter().map(|(q, mult)| pieces(q, mult)).collect()
+}
+
+/// q and the largest weight of each cubic.
+pub fn errors_of(st: State, c: &Columns) -> Vec<(f32, f32)> {
     let mut out = Vec::new();
     let mut used = 0;
     for &k in &c.commands[..st.commands] {
         if k == CUBIC {
-            out.push(cubic_pieces([stored(c, used - 1), stored(c, used), stored(c, used + 1), stored(c, used + 2)], pieces));
+            out.push(cubic_error([stored(c, used - 1), stored(c, used), stored(c, used + 1), stored(c, used + 2)]));
         }
         used += (k as usize).max(1);
     }
@@ -455,6 +487,7 @@ fn walk_length(splines: &[Spline]) -> u64 {
 fn walk(splines: &[Spline], quads: &[Quad]) -> Vec<Item> {
     let mut items = Vec::new();
     let mut cursor = 0;
+    let (mut strays, mut stepless) = (0, 0);
     for (k, s) in splines.iter().enumerate() {
         let low = k as u32 % 4_194_304;
         if starts(splines, k) {
@@ -476,7 +509,9 @@ fn walk(splines: &[Spline], quads: &[Quad]) -> Vec<Item> {
             }
             let size = s.sum / m as f32;
             assert!(cursor < quads.len(), "a step after the last quad");
+            assert!(quads[cursor].spline <= k, "a step on a quad after its spline's last");
             if quads[cursor].spline != k {
+                strays += 1;
                 count(cover::STRAY);
             }
             items.push(Item { word: canon(size).to_bits(), spline: k, step: Some((size, p, cursor)), start: false, flag: false });
@@ -486,6 +521,7 @@ fn walk(splines: &[Spline], quads: &[Quad]) -> Vec<Item> {
             let mut used: Vec<usize> = items[first..].iter().map(|i| i.step.unwrap().2).collect();
             used.dedup();
             if used.len() < s.quads {
+                stepless += 1;
                 count(cover::STEPLESS);
             }
         }
@@ -494,7 +530,19 @@ fn walk(splines: &[Spline], quads: &[Quad]) -> Vec<Item> {
         }
         items.push(Item { word: 0xff80_0000 + low + if s.flag { 0x40_0000 } else { 0 }, spline: k, step: None, start: false, flag: s.flag });
     }
+    if parted(splines, quads) {
+        assert_eq!((strays, stepless), (0, 0), "each quad gets a step and no step strays");
+    }
     items
+}
+
+/// In every spline of two or more quads a whole number lies strictly between the last two running sums.
+fn parted(splines: &[Spline], quads: &[Quad]) -> bool {
+    let mut end = 0;
+    splines.iter().all(|s| {
+        end += s.quads;
+        s.quads < 2 || quads[end - 2].sum.floor() + 1.0 < quads[end - 1].sum
+    })
 }
 
 fn step_point(quads: &[Quad], size: f32, p: usize, i: usize) -> P {

@@ -5,6 +5,7 @@
 
 pub mod cover;
 pub mod flatten;
+pub mod program;
 pub mod root;
 pub mod store;
 

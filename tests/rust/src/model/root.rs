@@ -114,7 +114,7 @@ mod tests {
         for n in 1..=1290u32 {
             // n^6 need not be an f32; the f32 at or below it has a root at or below n
             let r = sixth_root((n as f64).powi(6) as f32).unwrap();
-            assert!((r as f64 - n as f64).abs() <= n as f64 * 1e-7, "{n}: {r}");
+            assert!((r as f64 - n as f64).abs() <= n as f64 * 2e-7, "{n}: {r}");
         }
         let tiny = f32::from_bits(1);
         let r = sixth_root(tiny).unwrap();

@@ -31,8 +31,8 @@ plain-requires-2 c κs = search needs
 plain-requires-3 : tie.Need-plain-requires-3
 plain-requires-3 c κs = search needs
 
-append-requires-2 : tie.Need-append-requires-2
-append-requires-2 c κs = search needs
+quad-requires : tie.Need-quad-requires
+quad-requires c κs = search needs
 
 enum-known-call-4 : tie.Need-enum-known-call-4
 enum-known-call-4 c = search needs
@@ -46,8 +46,8 @@ plain-requires-5 c κs = search needs
 plain-requires-6 : tie.Need-plain-requires-6
 plain-requires-6 c κs = search needs
 
-append-requires-3 : tie.Need-append-requires-3
-append-requires-3 c κs = search needs
+cubic-requires : tie.Need-cubic-requires
+cubic-requires c κs = search needs
 
 enum-known-call-5 : tie.Need-enum-known-call-5
 enum-known-call-5 c = search needs
@@ -58,8 +58,8 @@ rational-requires c κs = search needs
 plain-requires-7 : tie.Need-plain-requires-7
 plain-requires-7 c κs = search needs
 
-append-requires-4 : tie.Need-append-requires-4
-append-requires-4 c κs = search needs
+quad-requires-2 : tie.Need-quad-requires-2
+quad-requires-2 c κs = search needs
 
 enum-known-call-6 : tie.Need-enum-known-call-6
 enum-known-call-6 c = search needs
@@ -73,8 +73,8 @@ rational-requires-3 c κs = search needs
 plain-requires-8 : tie.Need-plain-requires-8
 plain-requires-8 c κs = search needs
 
-append-requires-5 : tie.Need-append-requires-5
-append-requires-5 c κs = search needs
+cubic-requires-2 : tie.Need-cubic-requires-2
+cubic-requires-2 c κs = search needs
 
 enum-told : tie.Need-enum-told
 enum-told c = search needs
@@ -92,19 +92,19 @@ returns-2 c = rw (c .before .before .before .call2 .given .1, c .append .ensures
 
 returns-3 : tie.Need-returns-3
 unfolding writesOf
-returns-3 c = rw (c .before .before .before .before .call3 .given .1, c .append2 .ensures, c .before .plain3 .ensures, c .before .before .plain2 .ensures)
+returns-3 c = rw (c .before .before .before .before .call3 .given .1, c .quad .ensures, c .before .plain3 .ensures, c .before .before .plain2 .ensures)
 
 returns-4 : tie.Need-returns-4
 unfolding writesOf
-returns-4 c = rw (c .before .before .before .before .before .call4 .given .1, c .append3 .ensures, c .before .plain6 .ensures, c .before .before .plain5 .ensures, c .before .before .before .plain4 .ensures)
+returns-4 c = rw (c .before .before .before .before .before .call4 .given .1, c .cubic .ensures, c .before .plain6 .ensures, c .before .before .plain5 .ensures, c .before .before .before .plain4 .ensures)
 
 returns-5 : tie.Need-returns-5
 unfolding writesOf
-returns-5 c = rw (c .before .before .before .before .call5 .given .1, c .append4 .ensures, c .before .plain7 .ensures, c .before .before .rational .ensures)
+returns-5 c = rw (c .before .before .before .before .call5 .given .1, c .quad2 .ensures, c .before .plain7 .ensures, c .before .before .rational .ensures)
 
 returns-6 : tie.Need-returns-6
 unfolding writesOf
-returns-6 c = rw (c .before .before .before .before .before .call6 .given .1, c .append5 .ensures, c .before .plain8 .ensures, c .before .before .rational3 .ensures, c .before .before .before .rational2 .ensures)
+returns-6 c = rw (c .before .before .before .before .before .call6 .given .1, c .cubic2 .ensures, c .before .plain8 .ensures, c .before .before .rational3 .ensures, c .before .before .before .rational2 .ensures)
 
 returns-7 : tie.Need-returns-7
 unfolding writesOf
@@ -122,21 +122,21 @@ plan-of-spec =
     enum-known-call-3
     plain-requires-2
     plain-requires-3
-    append-requires-2
+    quad-requires
     enum-known-call-4
     plain-requires-4
     plain-requires-5
     plain-requires-6
-    append-requires-3
+    cubic-requires
     enum-known-call-5
     rational-requires
     plain-requires-7
-    append-requires-4
+    quad-requires-2
     enum-known-call-6
     rational-requires-2
     rational-requires-3
     plain-requires-8
-    append-requires-5
+    cubic-requires-2
     enum-told
     close-requires
     returns

@@ -1,0 +1,60 @@
+/* Kermezhul for C: outlines of lines, quads and cubics, flattened into the points that a knife follows.
+ *
+ * Link with target/staticlib/libabi.a, which `rt staticlib abi` proves and writes (x86-64 Linux).
+ *
+ * The caller lends all memory. Each column is a pointer and its length in entries. No pointer may be null, also where the length is 0, and no two columns
+ * that are lent to one call may overlap. Apart from that every call is defined on all values: it returns 0, or the number of a refusal.
+ *
+ *   0 done                                            5 a cubic needs over 1,024 pieces
+ *   1 a coordinate is NaN or beyond +-65,536          6 the quad table is full
+ *   2 a weight is NaN or outside 1/64..64             7 the spline table is full, or holds 4,194,304
+ *   3 the store is unusable                           8 a spline's running sum would pass 65,536
+ *   4 the store is full                               9 words or outputs are shorter than the walk
+ */
+#ifndef KERMEZHUL_H
+#define KERMEZHUL_H
+
+#include <stddef.h>
+#include <stdint.h>
+
+#ifdef __cplusplus
+extern "C" {
+#endif
+
+/* A drawing: columns x, y, weight of one length, and the commands (0 Move, 1 Line, 2 Quad, 3 Cubic) with a length of their own. `points` and `used` say how
+ * many of each are in use, `opening` which point opened the contour. A call reads and changes them; a refused call changes nothing. */
+#define KERMEZHUL_DRAWING                                                                                                                                \
+    float *x, size_t x_len, float *y, size_t y_len, float *weight, size_t weight_len, uint8_t *commands, size_t commands_len, size_t *points, size_t *used, \
+        size_t *opening
+
+/* A fresh drawing: a Move at (0,0). The three counts are written and not read. Answers 0, 3 (columns of unequal length) or 4 (no room). */
+uint32_t kermezhul_fresh(KERMEZHUL_DRAWING);
+
+/* The drawing calls test 3, 1, 2, 4 in that order. */
+uint32_t kermezhul_move_to(KERMEZHUL_DRAWING, float px, float py);
+uint32_t kermezhul_line_to(KERMEZHUL_DRAWING, float px, float py);
+uint32_t kermezhul_quad_to(KERMEZHUL_DRAWING, float x1, float y1, float x2, float y2);
+uint32_t kermezhul_cubic_to(KERMEZHUL_DRAWING, float x1, float y1, float x2, float y2, float x3, float y3);
+/* w, w1 and w2 are the weights of the control points. */
+uint32_t kermezhul_rat_quad_to(KERMEZHUL_DRAWING, float x1, float y1, float x2, float y2, float w);
+uint32_t kermezhul_rat_cubic_to(KERMEZHUL_DRAWING, float x1, float y1, float x2, float y2, float x3, float y3, float w1, float w2);
+/* Closes the contour with a line where it is open. */
+uint32_t kermezhul_build(KERMEZHUL_DRAWING);
+
+/* The float leaves, for tests: each is correctly rounded, or as named in the documents. All NaNs count as one. */
+float kermezhul_fma(float a, float b, float c);
+float kermezhul_sqrt(float a);
+/* The largest float whose exact sixth power is at most q. */
+float kermezhul_sixth_root(float q);
+/* How many pieces a cubic with the error q and the weights w1, w2 gets. */
+uint32_t kermezhul_pieces(float q, float w1, float w2);
+float kermezhul_min(float a, float b);
+float kermezhul_max(float a, float b);
+float kermezhul_clamp(float a, float low, float high);
+float kermezhul_ceil(float a);
+
+#ifdef __cplusplus
+}
+#endif
+
+#endif

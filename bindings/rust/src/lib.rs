@@ -1,0 +1,156 @@
+//! Safe calls into Kermezhul's proved flattener, which turns outlines of lines, quads and cubics into the points that a knife follows.
+//!
+//! The functions here are as thin as those of the C header beside them: the caller lends all memory as slices, and gets 0 or the number of a refusal.
+//! No argument is wrong; what it gives is what the library answers.
+//!
+//! ```no_run
+//! use kermezhul::{Call, Columns, State};
+//!
+//! let (mut x, mut y, mut weight, mut commands) = ([0.0; 16], [0.0; 16], [0.0; 16], [0; 16]);
+//! let mut columns = Columns { x: &mut x, y: &mut y, weight: &mut weight, commands: &mut commands };
+//! let (answer, state) = columns.fresh();
+//! assert_eq!(answer, 0);
+//! let (answer, state) = columns.draw(state, Call::Line(10.0, 0.0));
+//! assert_eq!((answer, state), (0, State { points: 2, commands: 2, opening: 0 }));
+//! ```
+
+/// What stands beside a drawing's columns: how many points and commands are in use, and which point opened the contour.
+#[derive(Clone, Copy, Debug, Default, PartialEq, Eq)]
+pub struct State {
+    pub points: usize,
+    pub commands: usize,
+    pub opening: usize,
+}
+
+/// The columns of a drawing. x, y and weight are as long as each other, or the calls answer 3.
+pub struct Columns<'a> {
+    pub x: &'a mut [f32],
+    pub y: &'a mut [f32],
+    pub weight: &'a mut [f32],
+    pub commands: &'a mut [u8],
+}
+
+/// A drawing call. Coordinates come in pairs; the weights of a rational call stand last.
+#[derive(Clone, Copy, Debug, PartialEq)]
+pub enum Call {
+    Move(f32, f32),
+    Line(f32, f32),
+    Quad([f32; 4]),
+    Cubic([f32; 6]),
+    RatQuad([f32; 4], f32),
+    RatCubic([f32; 6], f32, f32),
+    /// Closes the contour with a line where it is open.
+    Build,
+}
+
+mod raw {
+    macro_rules! drawing {
+        ($($name:ident($($arg:ident),*);)*) => {
+            extern "C" {
+                $(pub fn $name(
+                    x: *mut f32, x_len: usize, y: *mut f32, y_len: usize, weight: *mut f32, weight_len: usize, commands: *mut u8, commands_len: usize,
+                    points: &mut usize, used: &mut usize, opening: &mut usize, $($arg: f32),*
+                ) -> u32;)*
+            }
+        };
+    }
+
+    drawing! {
+        kermezhul_fresh();
+        kermezhul_move_to(px, py);
+        kermezhul_line_to(px, py);
+        kermezhul_quad_to(x1, y1, x2, y2);
+        kermezhul_cubic_to(x1, y1, x2, y2, x3, y3);
+        kermezhul_rat_quad_to(x1, y1, x2, y2, w);
+        kermezhul_rat_cubic_to(x1, y1, x2, y2, x3, y3, w1, w2);
+        kermezhul_build();
+    }
+
+    extern "C" {
+        pub fn kermezhul_fma(a: f32, b: f32, c: f32) -> f32;
+        pub fn kermezhul_sqrt(a: f32) -> f32;
+        pub fn kermezhul_sixth_root(q: f32) -> f32;
+        pub fn kermezhul_pieces(q: f32, w1: f32, w2: f32) -> u32;
+        pub fn kermezhul_min(a: f32, b: f32) -> f32;
+        pub fn kermezhul_max(a: f32, b: f32) -> f32;
+        pub fn kermezhul_clamp(a: f32, low: f32, high: f32) -> f32;
+        pub fn kermezhul_ceil(a: f32) -> f32;
+    }
+}
+
+impl Columns<'_> {
+    /// A fresh drawing: a Move at (0,0). Answers 0, 3 (columns of unequal length) or 4 (no room).
+    pub fn fresh(&mut self) -> (u32, State) {
+        let mut st = State::default();
+        // SAFETY: the pointers and lengths are those of slices that do not overlap, since each is borrowed mutably
+        let answer = unsafe {
+            raw::kermezhul_fresh(
+                self.x.as_mut_ptr(),
+                self.x.len(),
+                self.y.as_mut_ptr(),
+                self.y.len(),
+                self.weight.as_mut_ptr(),
+                self.weight.len(),
+                self.commands.as_mut_ptr(),
+                self.commands.len(),
+                &mut st.points,
+                &mut st.commands,
+                &mut st.opening,
+            )
+        };
+        (answer, st)
+    }
+
+    /// One drawing call. It tests 3, 1, 2, 4 in that order; refused, it changes nothing and gives `st` back.
+    pub fn draw(&mut self, st: State, call: Call) -> (u32, State) {
+        let mut st = st;
+        macro_rules! call {
+            ($name:ident $(, $arg:expr)*) => {
+                raw::$name(
+                    self.x.as_mut_ptr(), self.x.len(), self.y.as_mut_ptr(), self.y.len(), self.weight.as_mut_ptr(), self.weight.len(),
+                    self.commands.as_mut_ptr(), self.commands.len(), &mut st.points, &mut st.commands, &mut st.opening $(, $arg)*
+                )
+            };
+        }
+        // SAFETY: as in `fresh`
+        let answer = unsafe {
+            match call {
+                Call::Move(x, y) => call!(kermezhul_move_to, x, y),
+                Call::Line(x, y) => call!(kermezhul_line_to, x, y),
+                Call::Quad(c) => call!(kermezhul_quad_to, c[0], c[1], c[2], c[3]),
+                Call::Cubic(c) => call!(kermezhul_cubic_to, c[0], c[1], c[2], c[3], c[4], c[5]),
+                Call::RatQuad(c, w) => call!(kermezhul_rat_quad_to, c[0], c[1], c[2], c[3], w),
+                Call::RatCubic(c, v, w) => call!(kermezhul_rat_cubic_to, c[0], c[1], c[2], c[3], c[4], c[5], v, w),
+                Call::Build => call!(kermezhul_build),
+            }
+        };
+        (answer, st)
+    }
+}
+
+/// The float leaves, for tests.
+pub mod leaves {
+    use super::raw;
+
+    macro_rules! leaf {
+        ($($doc:literal $name:ident, $raw:ident($($arg:ident),*) -> $result:ty;)*) => {
+            $(#[doc = $doc]
+            #[inline]
+            pub fn $name($($arg: f32),*) -> $result {
+                // SAFETY: numbers in, a number out
+                unsafe { raw::$raw($($arg),*) }
+            })*
+        };
+    }
+
+    leaf! {
+        "a · b + c, rounded once." fma, kermezhul_fma(a, b, c) -> f32;
+        "The square root, rounded once." sqrt, kermezhul_sqrt(a) -> f32;
+        "The largest float whose exact sixth power is at most q." sixth_root, kermezhul_sixth_root(q) -> f32;
+        "How many pieces a cubic with the error q and the weights w1, w2 gets." pieces, kermezhul_pieces(q, w1, w2) -> u32;
+        "The lesser; a NaN gives way, and -0 is less than +0." min, kermezhul_min(a, b) -> f32;
+        "The greater; a NaN gives way, and -0 is less than +0." max, kermezhul_max(a, b) -> f32;
+        "Brought between low and high; a NaN stays." clamp, kermezhul_clamp(a, low, high) -> f32;
+        "The least whole number not below a." ceil, kermezhul_ceil(a) -> f32;
+    }
+}
