@@ -7,6 +7,7 @@ use store::StoreState;
 
 mod commands;
 mod fields;
+mod program;
 mod reading;
 mod writing;
 
