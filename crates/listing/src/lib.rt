@@ -12,6 +12,7 @@ mod reading;
 mod writing;
 
 pub use fields::field_at;
+pub use program::listing;
 
 pub enum Op {
     Move,
