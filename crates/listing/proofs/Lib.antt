@@ -3,3 +3,5 @@ pub mod PointLaws
 pub mod CommandLaws
 pub mod StepLaws
 pub mod WritingLaws
+pub mod FlatLaws
+pub mod ProgramLaws

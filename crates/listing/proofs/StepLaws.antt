@@ -21,8 +21,9 @@ use Rattle.listing.specs.declared.Op.{Op}
 use Rattle.listing.specs.declared.Op.the-variants as Ops
 use Rattle.listing.specs.declared.Command.{Command}
 use Rattle.listing.specs.declared.Command.the-variants.{Drawing, Fault, Finish}
+use Rattle.listing.specs.declared.Progress as Progresses
 use Rattle.listing.specs.Grammar.{opLineOf, keysOf, callOf}
-use Rattle.listing.specs.Reading.{Placed, Fields, read, wrong, fieldsFrom, withFields, commandFrom, tryOps, ops, commandAt, Progress, going, finished, stopped, afterCall, afterCommand, stepOf, stepsOf}
+use Rattle.listing.specs.Reading.{Placed, Fields, read, wrong, fieldsFrom, withFields, commandFrom, tryOps, ops, commandAt, Progress, going, finished, stopped, afterCall, afterCommand, stepOf, stepsOf, progressOf}
 use Rattle.listing.proofs.FieldLaws.{Onward, fields-onward}
 use Rattle.listing.proofs.CommandLaws.{behind-op}
 
@@ -119,6 +120,9 @@ call-onward text at line p o q Finish at' line' e h = absurd (let z : _≡_ {A =
 pub step-onward : (text : List ℕ) (at line : ℕ) (o q : Outcome) (at' line' : ℕ) → Placed text at line → going at' line' q ≡ stepOf text (going at line o) → Further text at at' line'
 unfolding stepOf
 step-onward text at line o q at' line' p h = call-onward text at line p o q (commandAt text at line) at' line' refl (sym h)
+
+pub progress-seen : (r r' : Progresses.Progress) (c : Columns) (p : Progress) → progressOf r c ≡ p → r ≡ r' → progressOf r' c ≡ p
+progress-seen r r' c p h e = sym (ap (λ (q : Progresses.Progress). progressOf q c) e) ∙ h
 
 -- ---- many steps
 steps-finished : (n : ℕ) (text : List ℕ) (o : Outcome) → stepsOf n text (finished o) ≡ finished o

@@ -26,7 +26,7 @@ use Rattle.text.proofs.Decimals.{one-digit}
 use Rattle.text.proofs.Stores.{sets-append}
 use Rattle.listing.specs.declared.Listed.{Listed}
 use Rattle.listing.specs.declared.Listed.the-variants.{Bytes, Short}
-use Rattle.listing.specs.Writing.{WrittenAs, lineOf, pointLines, allPointLines, reportOf, headOf, columnPoints, Listing, listing, listedAs}
+use Rattle.listing.specs.Writing.{WrittenAs, lineOf, pointLines, allPointLines, reportOf, headOf, columnPoints, Listing, listed, listedAs}
 
 -- ---- lengths
 pub line-length : (key value : List ℕ) → length (lineOf key value) ≡ length key + length value + 2
@@ -167,14 +167,14 @@ points-report ps =
     let p = lineOf (bytes "points") (decimalOf (length ps)) in
     append-assoc a (l ++ p) (allPointLines ps) ∙ ap (λ (r : List ℕ). a ++ r) (append-assoc l p (allPointLines ps))
 
-pub listed-short : (text out : List ℕ) → length out < length text → listing Short out ≡ listedAs text out
+pub listed-short : (text out : List ℕ) → length out < length text → listed Short out ≡ listedAs text out
 unfolding listedAs
 listed-short text out h = rw (lt-leb (length text) (length out) h)
 
-pub listed-bytes : (text out out' : List ℕ) (n : ℕ) → length text ≤ length out → n ≡ length text → out' ≡ sets out 0 text → listing (Bytes n) out' ≡ listedAs text out
+pub listed-bytes : (text out out' : List ℕ) (n : ℕ) → length text ≤ length out → n ≡ length text → out' ≡ sets out 0 text → listed (Bytes n) out' ≡ listedAs text out
 unfolding listedAs
 listed-bytes text out out' n h e w =
-    ap (λ (m : ℕ). listing (Bytes m) out') e ∙ ap (listing (Bytes (length text))) w ∙ rw (le-leb (length text) (length out) h)
+    ap (λ (m : ℕ). listed (Bytes m) out') e ∙ ap (listed (Bytes (length text))) w ∙ rw (le-leb (length text) (length out) h)
 
 pub listed-seen : (s t out : List ℕ) (l : Listing) → l ≡ listedAs s out → s ≡ t → l ≡ listedAs t out
 listed-seen s t out l h e = h ∙ ap (λ (r : List ℕ). listedAs r out) e
@@ -194,12 +194,12 @@ module _ (points : ℕ) (x y : List Float) (end : List ℕ) where
       let ps = columnPoints 0 points x y end in
       ap (λ (n : ℕ). headOf 0 0 n ++ allPointLines ps) (sym (column-points-length 0 points x y end)) ∙ points-report ps
 
-  pub report-short : (out : List ℕ) (head : ℕ) → head ≡ length (headOf 0 0 points) → length out < head + 28 * points → listing Short out ≡ listedAs (reportOf Done 0 (columnPoints 0 points x y end)) out
+  pub report-short : (out : List ℕ) (head : ℕ) → head ≡ length (headOf 0 0 points) → length out < head + 28 * points → listed Short out ≡ listedAs (reportOf Done 0 (columnPoints 0 points x y end)) out
   report-short out head e h =
       let l : length columnText ≡ length (headOf 0 0 points) + 28 * points = column-length in
-      listed-seen columnText (reportOf Done 0 (columnPoints 0 points x y end)) out (listing Short out) (listed-short columnText out (omega arith)) column-report
+      listed-seen columnText (reportOf Done 0 (columnPoints 0 points x y end)) out (listed Short out) (listed-short columnText out (omega arith)) column-report
 
-  pub report-bytes : (out b out' : List ℕ) (head at : ℕ) → head ≡ length (headOf 0 0 points) → head + 28 * points ≤ length out → WrittenAs (headOf 0 0 points) out 0 b at → out' ≡ sets b at (allPointLines (columnPoints 0 points x y end)) → listing (Bytes (head + 28 * points)) out' ≡ listedAs (reportOf Done 0 (columnPoints 0 points x y end)) out
+  pub report-bytes : (out b out' : List ℕ) (head at : ℕ) → head ≡ length (headOf 0 0 points) → head + 28 * points ≤ length out → WrittenAs (headOf 0 0 points) out 0 b at → out' ≡ sets b at (allPointLines (columnPoints 0 points x y end)) → listed (Bytes (head + 28 * points)) out' ≡ listedAs (reportOf Done 0 (columnPoints 0 points x y end)) out
   report-bytes out b out' head at e h w v =
       let l : length columnText ≡ length (headOf 0 0 points) + 28 * points = column-length in
       let lines = allPointLines (columnPoints 0 points x y end) in
@@ -208,5 +208,5 @@ module _ (points : ℕ) (x y : List Float) (end : List ℕ) where
       ∙ ap (λ (c : List ℕ). sets c at lines) (w .stored)
       ∙ ap (λ (n : ℕ). sets (sets out 0 (headOf 0 0 points)) n lines) (w .next)
       ∙ sym (sets-append out 0 (headOf 0 0 points) lines) in
-      listed-seen columnText (reportOf Done 0 (columnPoints 0 points x y end)) out (listing (Bytes (head + 28 * points)) out')
+      listed-seen columnText (reportOf Done 0 (columnPoints 0 points x y end)) out (listed (Bytes (head + 28 * points)) out')
       (listed-bytes columnText out out' (head + 28 * points) (omega arith) (omega arith) stored) column-report

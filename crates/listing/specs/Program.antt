@@ -11,6 +11,7 @@ use Rattle.answer.specs.declared.Answer.the-variants.{Done, InputTooLong}
 use Rattle.answer.specs.Number.{isDone}
 use Rattle.primitives.specs.declared.Setting.the-variants.{Screen}
 use Rattle.store.specs.declared.Call.the-variants.{Build}
+use Rattle.store.specs.declared.StoreState.{StoreState}
 use Rattle.store.specs.Columns.{Columns, columns}
 use Rattle.store.specs.Drawing.{Outcome, drawOf, freshOf}
 use Rattle.tables.specs.Tables.{QuadTable, quadTable, SplineTable, splineTable}
@@ -42,12 +43,13 @@ unfoldable pub flatReport : Bool → Flattening → List ℕ
 flatReport false f = reportOf (f .result .answer) 0 []
 flatReport true f = reportOf Done 0 (pointsOf (f .quads) (f .splines) (walkOf (f .quads) (f .splines) (f .result .splines)))
 
+unfoldable pub flatOf : StoreState → Columns → List ℕ
+flatOf st c = let f = flattenOf Screen st c programQuads programSplines programOutput in flatReport (isDone (f .result .answer)) f
+
 -- the final build, refused on line 0, and the flattening
 unfoldable pub built : Bool → Outcome → List ℕ
 built false o = reportOf (o .answer) 0 []
-built true o =
-    let f = flattenOf Screen (o .state) (o .columns) programQuads programSplines programOutput in
-    flatReport (isDone (f .result .answer)) f
+built true o = flatOf (o .state) (o .columns)
 
 unfoldable pub builtFrom : Outcome → List ℕ
 builtFrom o = let b = drawOf Build (o .state) (o .columns) in built (isDone (b .answer)) b

@@ -61,8 +61,8 @@ pub record Listing : Type 0 where
   pub result : Listed
   pub output : List ℕ
 
-abbrev pub listing : Listed → List ℕ → Listing
-listing result output = record { result = result; output = output }
+abbrev pub listed : Listed → List ℕ → Listing
+listed result output = record { result = result; output = output }
 
 unfoldable pub listedAs : List ℕ → List ℕ → Listing
-listedAs text out = cond (leb (length text) (length out)) (listing (Bytes (length text)) (sets out 0 text)) (listing Short out)
+listedAs text out = cond (leb (length text) (length out)) (listed (Bytes (length text)) (sets out 0 text)) (listed Short out)

@@ -7,10 +7,12 @@ use store::StoreState;
 
 mod commands;
 mod fields;
+mod program;
 mod reading;
 mod writing;
 
 pub use fields::field_at;
+pub use program::listing;
 
 pub enum Op {
     Move,

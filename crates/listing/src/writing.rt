@@ -11,7 +11,7 @@ ghost use Rattle.point.specs.Point.{pointAt};
 ghost use Rattle.evaluate.specs.Evaluate.{finished};
 ghost use Rattle.text.specs.Hex.{hexOf};
 ghost use Rattle.text.specs.Decimal.{decimalOf};
-ghost use Rattle.listing.specs.Writing.{lineOf, pointLines, allPointLines, reportOf, WrittenAs, headOf, columnPoints, listing, listedAs};
+ghost use Rattle.listing.specs.Writing.{lineOf, pointLines, allPointLines, reportOf, WrittenAs, headOf, columnPoints, listed, listedAs};
 use crate::Listed;
 use answer::Answer;
 
@@ -88,7 +88,7 @@ fn put_head(buffer: &mut [u8], number: u64, line: u64, points: u64) -> usize
 
 // The report of a refusal: no point follows.
 pub fn refuse(output: &mut [u8], refusal: Answer, line: usize) -> Listed
-    ensures { λ r. ⌜ listing r (now (output .exit)) ≡ listedAs (reportOf refusal line []) (now (output .entry)) ⌝ }
+    ensures { λ r. ⌜ listed r (now (output .exit)) ≡ listedAs (reportOf refusal line []) (now (output .entry)) ⌝ }
 {
     let number = answer::number(refusal) as u64;
     let needed = head_length(number, line as u64, 0);
@@ -102,7 +102,7 @@ pub fn refuse(output: &mut [u8], refusal: Answer, line: usize) -> Listed
 // The report of a flattened drawing, from its columns of points.
 pub fn report(output: &mut [u8], points: usize, x: &[f32], y: &[f32], end: &[u8]) -> Listed
     requires { ⌜ points ≤ 512 ⌝ }
-    ensures { λ r. ⌜ listing r (now (output .exit)) ≡ listedAs (reportOf Answer.Done 0 (columnPoints 0 points (now (x .entry)) (now (y .entry)) (now (end .entry)))) (now (output .entry)) ⌝ }
+    ensures { λ r. ⌜ listed r (now (output .exit)) ≡ listedAs (reportOf Answer.Done 0 (columnPoints 0 points (now (x .entry)) (now (y .entry)) (now (end .entry)))) (now (output .entry)) ⌝ }
 {
     let head = head_length(0, 0, points as u64);
     let needed = head + 28 * points;

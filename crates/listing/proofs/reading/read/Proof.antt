@@ -10,7 +10,7 @@ use Rattle.store.specs.Columns.{Columns, columns}
 use Rattle.store.specs.Drawing.{outcome}
 use Rattle.listing.specs.declared.Progress as Progresses
 use Rattle.listing.specs.Reading.{Placed, Progress, going, finished, stopped, stepOf, stepsOf, readOf, progressOf}
-use Rattle.listing.proofs.StepLaws.{Further, step-onward, steps-again, steps-end, steps-stop}
+use Rattle.listing.proofs.StepLaws.{Further, progress-seen, step-onward, steps-again, steps-end, steps-stop}
 use Rattle.listing.proofs.reading.read.Statement.{statement}
 use Rattle.listing.proofs.reading.read.Tie as tie
 
@@ -28,9 +28,6 @@ Inv-loop listing x₀ y₀ weight₀ commands₀ state₀ at₀ line₀ x y weig
 abbrev μ-loop : tie.MeasureT-loop
 μ-loop listing x₀ y₀ weight₀ commands₀ state₀ at₀ line₀ x y weight commands state at line = length listing - at
 
-seen : (r r' : Progresses.Progress) (c : Columns) (p : Progress) → progressOf r c ≡ p → r ≡ r' → progressOf r' c ≡ p
-seen r r' c p h e = sym (ap (λ (q : Progresses.Progress). progressOf q c) e) ∙ h
-
 loop-holds : tie.Need-loop-holds Inv-loop μ-loop
 unfolding readOf
 loop-holds c = (length (c .before .before .before .before .before .args .listing .now) + 1, refl, omega arith, record { inside = omega arith; counted = omega arith }, refl, refl, refl, refl)
@@ -43,14 +40,14 @@ enum-known-s c = search needs
 
 loop-less : tie.Need-loop-less Inv-loop μ-loop
 loop-less c =
-    let on = step-onward _ _ _ _ _ _ _ (c .before .before .before .before .before .before .before .before .before .before .before .before .before .before .before .before .loop .inv .3) (seen _ _ _ _ (c .before .before .before .before .before .before .before .before .before .before .before .step .ensures) (c .before .s .given .1)) in
+    let on = step-onward _ _ _ _ _ _ _ (c .before .before .before .before .before .before .before .before .before .before .before .before .before .before .before .before .loop .inv .3) (progress-seen _ _ _ _ (c .before .before .before .before .before .before .before .before .before .before .before .step .ensures) (c .before .s .given .1)) in
     omega arith
 
 loop-again : tie.Need-loop-again Inv-loop μ-loop
 loop-again c =
-    let on = step-onward _ _ _ _ _ _ _ (c .before .before .before .before .before .before .before .before .before .before .before .before .before .before .before .before .loop .inv .3) (seen _ _ _ _ (c .before .before .before .before .before .before .before .before .before .before .before .step .ensures) (c .before .s .given .1)) in (
+    let on = step-onward _ _ _ _ _ _ _ (c .before .before .before .before .before .before .before .before .before .before .before .before .before .before .before .before .loop .inv .3) (progress-seen _ _ _ _ (c .before .before .before .before .before .before .before .before .before .before .before .step .ensures) (c .before .s .given .1)) in (
       c .before .before .before .before .before .before .before .before .before .before .before .before .before .before .before .before .loop .inv .0 - 1,
-      steps-again _ _ _ _ (omega arith) (c .before .before .before .before .before .before .before .before .before .before .before .before .before .before .before .before .loop .inv .1) _ (seen _ _ _ _ (c .before .before .before .before .before .before .before .before .before .before .before .step .ensures) (c .before .s .given .1)),
+      steps-again _ _ _ _ (omega arith) (c .before .before .before .before .before .before .before .before .before .before .before .before .before .before .before .before .loop .inv .1) _ (progress-seen _ _ _ _ (c .before .before .before .before .before .before .before .before .before .before .before .step .ensures) (c .before .s .given .1)),
       omega arith,
       on .placed,
       c .before .before .before .before .before .before .before .before .before .before .before .step .kept .1 .0 ∙ c .before .before .before .before .before .before .before .before .before .before .before .before .before .before .before .before .loop .inv .4,
@@ -75,7 +72,7 @@ same-length-4 : tie.Need-same-length-4 Inv-loop μ-loop
 same-length-4 c = c .before .before .before .before .before .before .before .before .before .before .before .step .kept .1 .1 .1 .1 .0 ∙ c .before .before .before .before .before .before .before .before .before .before .before .before .before .before .before .before .loop .inv .7
 
 returns : tie.Need-returns Inv-loop μ-loop
-returns c = steps-end _ _ _ _ (omega arith) (c .before .before .before .before .before .before .before .before .before .before .before .before .before .before .before .before .loop .inv .1) _ (seen _ _ _ _ (c .before .before .before .before .before .before .before .before .before .before .before .step .ensures) (c .before .s2 .given .1))
+returns c = steps-end _ _ _ _ (omega arith) (c .before .before .before .before .before .before .before .before .before .before .before .before .before .before .before .before .loop .inv .1) _ (progress-seen _ _ _ _ (c .before .before .before .before .before .before .before .before .before .before .before .step .ensures) (c .before .s2 .given .1))
 
 enum-known-answer : tie.Need-enum-known-answer Inv-loop μ-loop
 enum-known-answer c = search needs
@@ -93,7 +90,7 @@ same-length-8 : tie.Need-same-length-8 Inv-loop μ-loop
 same-length-8 c = c .before .before .before .before .before .before .before .before .before .before .before .step .kept .1 .1 .1 .1 .0 ∙ c .before .before .before .before .before .before .before .before .before .before .before .before .before .before .before .before .loop .inv .7
 
 returns-2 : tie.Need-returns-2 Inv-loop μ-loop
-returns-2 c = steps-stop _ _ _ _ (omega arith) (c .before .before .before .before .before .before .before .before .before .before .before .before .before .before .before .before .loop .inv .1) _ _ (seen _ _ _ _ (c .before .before .before .before .before .before .before .before .before .before .before .step .ensures) (c .before .answer .given .1))
+returns-2 c = steps-stop _ _ _ _ (omega arith) (c .before .before .before .before .before .before .before .before .before .before .before .before .before .before .before .before .loop .inv .1) _ _ (progress-seen _ _ _ _ (c .before .before .before .before .before .before .before .before .before .before .before .step .ensures) (c .before .answer .given .1))
 
 pub read-spec : {M : Type 1} → statement M
 read-spec =

@@ -1,0 +1,107 @@
+-- Laws of the flattened drawing: what a flattening that is done delivered, its points read back from their columns, and how many there are. Assumes nothing.
+use mathlib.Core.Path.{_≡_, refl, sym, ap, _∙_}
+use mathlib.Core.Bool.{Bool, true, false, _&&_}
+use mathlib.Core.List.{List, [], _∷_, _++_, map}
+use Prim.Native.Nat.{ℕ, zero, suc, _+_, _≤_}
+use native.Mathlib.Nat.{add-zero}
+use native.Mathlib.Omega.{arith}
+use borrow.Author.Tests.{leb-true}
+use lib.Dec.{leb}
+use lib.Ieee.{Float, nan}
+use lib.ListN.{length, drop, getD, length-map}
+use lib.Seq.{drop-drop, getD-drop}
+use Rattle.columns.specs.Flags.{flagByteOf, isFlagOf}
+use Rattle.answer.specs.Number.{isDone}
+use Rattle.primitives.specs.declared.Setting.{Setting}
+use Rattle.store.specs.declared.StoreState.{StoreState}
+use Rattle.store.specs.Columns.{Columns}
+use Rattle.store.specs.Drawable.{drawableOf}
+use Rattle.tables.specs.Tables.{QuadTable, SplineTable}
+use Rattle.tables.specs.Run.{World}
+use Rattle.tables.specs.Commands.{tablesOf}
+use Rattle.point.specs.Point.{pointAt}
+use Rattle.walk.specs.Walk.{Item, walkOf}
+use Rattle.evaluate.specs.Evaluate.{Finished, finished, pointsOf, itemPointOf}
+use Rattle.evaluate.specs.Output.{Output, over, fitsOutput, writeOutput}
+use Rattle.flatten.specs.Flatten.{Flattening, walked, tabled, flattenDrawable, flattenOf}
+use Rattle.listing.specs.Writing.{columnPoints}
+
+-- ---- what was delivered
+abbrev itemsOf : Flattening → List Item
+itemsOf f = walkOf (f .quads) (f .splines) (f .result .splines)
+
+pub record Delivered (f : Flattening) (o : Output) : Type 0 where
+  pub fits : fitsOutput (length (itemsOf f)) o ≡ true
+  pub points : f .result .points ≡ length (itemsOf f)
+  pub written : f .output ≡ writeOutput (f .quads) (f .splines) (itemsOf f) o
+
+walked-done : (b : Bool) (w : World) (o : Output) → fitsOutput (length (walkOf (w .quads) (w .splines) (w .state .splines))) o ≡ b → isDone (walked b w (walkOf (w .quads) (w .splines) (w .state .splines)) o .result .answer) ≡ true → Delivered (walked b w (walkOf (w .quads) (w .splines) (w .state .splines)) o) o
+unfolding walked
+walked-done true w o e h = record { fits = e; points = refl; written = refl }
+walked-done false w o e h = absurd (let z : _≡_ {A = ℕ} 0 1 = cc in omega arith)
+
+tabled-done : (b : Bool) (w : World) (o : Output) → isDone (w .state .answer) ≡ b → isDone (tabled b w o .result .answer) ≡ true → Delivered (tabled b w o) o
+unfolding tabled
+tabled-done true w o e h = walked-done (fitsOutput (length (walkOf (w .quads) (w .splines) (w .state .splines))) o) w o refl h
+tabled-done false w o e h = absurd (let z : _≡_ {A = ℕ} 0 1 = cc in omega arith)
+
+drawable-done : (b : Bool) (setting : Setting) (st : StoreState) (c : Columns) (q : QuadTable) (s : SplineTable) (o : Output) → isDone (flattenDrawable b setting st c q s o .result .answer) ≡ true → Delivered (flattenDrawable b setting st c q s o) o
+unfolding flattenDrawable
+drawable-done true setting st c q s o h = let w = tablesOf setting st c q s in tabled-done (isDone (w .state .answer)) w o refl h
+drawable-done false setting st c q s o h = absurd (let z : _≡_ {A = ℕ} 0 1 = cc in omega arith)
+
+pub flatten-done : (setting : Setting) (st : StoreState) (c : Columns) (q : QuadTable) (s : SplineTable) (o : Output) → isDone (flattenOf setting st c q s o .result .answer) ≡ true → Delivered (flattenOf setting st c q s o) o
+unfolding flattenOf
+flatten-done setting st c q s o h = drawable-done (drawableOf st c) setting st c q s o h
+
+-- ---- the points from their columns
+flag-back : (b : Bool) → isFlagOf (flagByteOf b) ≡ b
+unfolding flagByteOf isFlagOf
+flag-back true = refl
+flag-back false = refl
+
+module _ {A : Type 0} where
+  head-at : (l : List A) (i : ℕ) (d v : A) (rest : List A) → drop i l ≡ v ∷ rest → getD l i d ≡ v
+  head-at l i d v rest h =
+      sym (getD-drop i l 0 d ∙ ap (λ (n : ℕ). getD l n d) (add-zero i)) ∙ ap (λ (r : List A). getD r 0 d) h
+
+  tail-at : (l : List A) (i : ℕ) (v : A) (rest : List A) → drop i l ≡ v ∷ rest → drop (i + 1) l ≡ rest
+  tail-at l i v rest h = sym (drop-drop 1 i l) ∙ ap (drop 1) h
+
+pub points-from : (ps : List Finished) (i : ℕ) (x y : List Float) (end : List ℕ) (rx ry : List Float) (re : List ℕ) → drop i x ≡ map (λ p. p .point .x) ps ++ rx → drop i y ≡ map (λ p. p .point .y) ps ++ ry → drop i end ≡ map (λ p. flagByteOf (p .end)) ps ++ re → columnPoints i (length ps) x y end ≡ ps
+unfolding columnPoints
+points-from [] i x y end rx ry re hx hy he = refl
+points-from (p ∷ ps) i x y end rx ry re hx hy he =
+    ap (λ (v : Float). finished (pointAt v (getD y i nan)) (isFlagOf (getD end i 0)) ∷ columnPoints (i + 1) (length ps) x y end) (head-at x i nan (p .point .x) (map (λ q. q .point .x) ps ++ rx) hx)
+    ∙ ap (λ (v : Float). finished (pointAt (p .point .x) v) (isFlagOf (getD end i 0)) ∷ columnPoints (i + 1) (length ps) x y end) (head-at y i nan (p .point .y) (map (λ q. q .point .y) ps ++ ry) hy)
+    ∙ ap (λ (v : ℕ). finished (p .point) (isFlagOf v) ∷ columnPoints (i + 1) (length ps) x y end) (head-at end i 0 (flagByteOf (p .end)) (map (λ q. flagByteOf (q .end)) ps ++ re) he)
+    ∙ ap (λ (b : Bool). finished (p .point) b ∷ columnPoints (i + 1) (length ps) x y end) (flag-back (p .end))
+    ∙ ap (λ (r : List Finished). p ∷ r)
+    (points-from ps (i + 1) x y end rx ry re
+    (tail-at x i (p .point .x) (map (λ q. q .point .x) ps ++ rx) hx)
+    (tail-at y i (p .point .y) (map (λ q. q .point .y) ps ++ ry) hy)
+    (tail-at end i (flagByteOf (p .end)) (map (λ q. flagByteOf (q .end)) ps ++ re) he))
+
+first-of : (a b c d : Bool) → (a && b && c && d) ≡ true → a ≡ true
+first-of true b c d h = refl
+first-of false b c d h = h
+
+module _ (f : Flattening) (o : Output) (d : Delivered f o) where
+  abbrev delivered : List Finished
+  delivered = pointsOf (f .quads) (f .splines) (itemsOf f)
+
+  delivered-count : length delivered ≡ f .result .points
+  unfolding pointsOf
+  delivered-count = length-map (itemsOf f) (itemPointOf (f .quads) (f .splines)) ∙ sym (d .points)
+
+  pub delivered-points : columnPoints 0 (f .result .points) (f .output .x) (f .output .y) (f .output .end) ≡ delivered
+  unfolding writeOutput over
+  delivered-points =
+      let w = writeOutput (f .quads) (f .splines) (itemsOf f) o in
+      ap (λ (n : ℕ). columnPoints 0 n (f .output .x) (f .output .y) (f .output .end)) (sym delivered-count)
+      ∙ ap (λ (u : Output). columnPoints 0 (length delivered) (u .x) (u .y) (u .end)) (d .written)
+      ∙ points-from delivered 0 (w .x) (w .y) (w .end) (drop (length (map (λ p. p .point .x) delivered)) (o .x)) (drop (length (map (λ p. p .point .y) delivered)) (o .y)) (drop (length (map (λ p. flagByteOf (p .end)) delivered)) (o .end)) refl refl refl
+
+  pub delivered-fit : f .result .points ≤ length (o .words)
+  unfolding fitsOutput
+  delivered-fit = omega (arith, d .points, leb-true (length (itemsOf f)) (length (o .words)) (first-of (leb (length (itemsOf f)) (length (o .words))) (leb (length (itemsOf f)) (length (o .x))) (leb (length (itemsOf f)) (length (o .y))) (leb (length (itemsOf f)) (length (o .end))) (d .fits)))

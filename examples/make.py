@@ -1,0 +1,147 @@
+#!/usr/bin/env python3
+"""Makes the listings of this folder, what the program writes for them, and the pictures: examples/make.py
+
+For each drawing below NAME.txt is its listing, NAME.out the program's output (by ../flatten) and NAME.svg a picture of both: the drawing as
+it is meant in brown, exact but for rational curves, which are drawn as 200 short lines, and over it the flattened points, joined as the knife
+joins them, a ring around the last point of a contour. Python's own library is all that it needs; any browser shows the pictures.
+"""
+import math
+import os
+import struct
+import subprocess
+
+HERE = os.path.dirname(os.path.abspath(__file__))
+HALF = math.sqrt(0.5)  # the weight of a quarter circle
+
+KEYS = {
+    "move": ["x", "y"],
+    "line": ["x", "y"],
+    "quad": ["x1", "y1", "x2", "y2"],
+    "rquad": ["x1", "y1", "x2", "y2", "w"],
+    "cubic": ["x1", "y1", "x2", "y2", "x3", "y3"],
+    "rcubic": ["x1", "y1", "x2", "y2", "x3", "y3", "w1", "w2"],
+}
+
+DRAWINGS = {
+    # 01's example: a point given twice leaves no mark, and the corner behind it is lost in the screen setting
+    "doubled-point": [("move", 0, 0), ("line", 10, 0), ("line", 10, 0), ("line", 10, 10)],
+    # a quarter round from the origin, closed by its chord, which lies at forty-five degrees
+    "quarter-round": [("move", 0, 0), ("rquad", 100, 0, 100, 100, HALF)],
+    # the end of a belt: two straights, a half round of two quarter circles, and a hole for the buckle
+    "belt-end": [
+        ("move", 0, 0), ("line", 180, 0), ("rquad", 210, 0, 210, 30, HALF), ("rquad", 210, 60, 180, 60, HALF), ("line", 0, 60),
+        ("move", 165, 30), ("rquad", 165, 37, 158, 37, HALF), ("rquad", 151, 37, 151, 30, HALF), ("rquad", 151, 23, 158, 23, HALF),
+        ("rquad", 165, 23, 165, 30, HALF),
+    ],
+    # the tongue of a buckle: it tapers to a tip of cubics, and its slot is cut out of the broad end
+    "buckle-tongue": [
+        ("move", 0, 20), ("cubic", 60, 20, 90, 34, 150, 36), ("cubic", 168, 37, 168, 43, 150, 44), ("cubic", 90, 46, 60, 60, 0, 60),
+        ("quad", 8, 40, 0, 20),
+        ("move", 20, 34), ("line", 44, 34), ("quad", 50, 34, 50, 40), ("quad", 50, 46, 44, 46), ("line", 20, 46), ("quad", 14, 46, 14, 40),
+        ("quad", 14, 34, 20, 34),
+    ],
+    # a saddle flap: long sweeps of cubics, one of them rational, and two straights where it is stitched on
+    "saddle-flap": [
+        ("move", 40, 0), ("line", 240, 0), ("cubic", 290, 30, 300, 120, 270, 200), ("rcubic", 250, 260, 190, 330, 130, 340, 1.5, 0.75),
+        ("cubic", 60, 345, 10, 290, 6, 220), ("quad", 0, 120, 30, 60), ("line", 40, 0),
+    ],
+}
+
+
+def single(v):
+    return struct.unpack(">f", struct.pack(">f", v))[0]
+
+
+def listing(drawing):
+    lines = []
+    for op, *numbers in drawing:
+        lines.append(f"op={op}")
+        lines += [f"{key}={struct.pack('>f', v).hex()}" for key, v in zip(KEYS[op], numbers, strict=True)]
+    return "".join(line + "\n" for line in lines)
+
+
+def points(output):
+    lines = output.split("\n")
+    rows = lines[3:-1]
+    of = lambda text: struct.unpack(">f", bytes.fromhex(text.split("=")[1]))[0]
+    return [(of(rows[i]), of(rows[i + 1]), rows[i + 2] == "end=1") for i in range(0, len(rows), 3)]
+
+
+def curve(start, control, weights, t):
+    """A point of a rational curve of any degree, by its Bernstein form."""
+    all_points, all_weights = [start, *control], [1.0, *weights, 1.0]
+    n = len(all_points) - 1
+    terms = [math.comb(n, i) * t**i * (1 - t) ** (n - i) * w for i, w in enumerate(all_weights)]
+    return tuple(sum(b * p[k] for b, p in zip(terms, all_points)) / sum(terms) for k in (0, 1))
+
+
+def path(drawing):
+    """SVG path data of the drawing as it is meant, each contour closed."""
+    d, at, opened = ["M 0 0"], (0.0, 0.0), False
+    for op, *v in drawing:
+        if op == "move":
+            d.append((" Z" if opened else "") + f" M {v[0]} {v[1]}")
+            at, opened = (v[0], v[1]), False
+            continue
+        opened = True
+        if op == "line":
+            d.append(f" L {v[0]} {v[1]}")
+            at = (v[0], v[1])
+            continue
+        count = {"quad": 2, "rquad": 2, "cubic": 3, "rcubic": 3}[op]
+        control, weights = [tuple(v[2 * i : 2 * i + 2]) for i in range(count)], v[2 * count :]
+        if weights:
+            for i in range(1, 201):
+                d.append(" L {:.3f} {:.3f}".format(*curve(at, control, weights, i / 200)))
+        else:
+            d.append((" Q " if count == 2 else " C ") + ", ".join(f"{x} {y}" for x, y in control))
+        at = control[-1]
+    return "".join(d) + (" Z" if opened else "")
+
+
+def picture(name, drawing, found):
+    xs = [p[0] for p in found] + [v[i] for _, *v in drawing for i in range(0, len(v) // 2 * 2, 2) if i < 6]
+    ys = [p[1] for p in found] + [v[i + 1] for _, *v in drawing for i in range(0, len(v) // 2 * 2, 2) if i < 6]
+    left, top, right, bottom = min(xs), min(ys), max(xs), max(ys)
+    wide = max(right - left, bottom - top)
+    m, dot = wide * 0.06, wide * 0.006
+    runs, run = [], []
+    for x, y, end in found:
+        run.append(f"{x:.4f},{y:.4f}")
+        if end:
+            runs.append(run)
+            run = []
+    out = [
+        f'<svg xmlns="http://www.w3.org/2000/svg" viewBox="{left - m:.3f} {top - m:.3f} {right - left + 2 * m:.3f} {bottom - top + 3 * m:.3f}" width="720">',
+        f"<title>{name}</title>",
+        '<rect x="-10000" y="-10000" width="20000" height="20000" fill="#faf6ef"/>',
+        f'<path d="{path(drawing)}" fill="#e8d3b5" fill-rule="evenodd" stroke="#b98a52" stroke-width="{2.4 * dot:.3f}" stroke-linejoin="round"/>',
+    ]
+    for run in runs:
+        out.append(f'<polyline points="{" ".join(run)}" fill="none" stroke="#1d3557" stroke-width="{0.5 * dot:.3f}"/>')
+    for x, y, end in found:
+        out.append(f'<circle cx="{x:.4f}" cy="{y:.4f}" r="{dot:.3f}" fill="#1d3557"/>')
+        if end:
+            out.append(f'<circle cx="{x:.4f}" cy="{y:.4f}" r="{2.2 * dot:.3f}" fill="none" stroke="#c1121f" stroke-width="{0.6 * dot:.3f}"/>')
+    text = f"{name}: {len(found)} points, {len(runs)} contour{'s' if len(runs) != 1 else ''}"
+    out.append(f'<text x="{left:.3f}" y="{bottom + 1.6 * m:.3f}" font-family="sans-serif" font-size="{wide * 0.035:.3f}" fill="#1d3557">{text}</text>')
+    out.append("</svg>")
+    return "\n".join(out) + "\n"
+
+
+def main():
+    for name, drawing in DRAWINGS.items():
+        text = listing(drawing)
+        stem = os.path.join(HERE, name)
+        with open(stem + ".txt", "w", encoding="ascii", newline="") as f:
+            f.write(text)
+        output = subprocess.run([os.path.join(HERE, "..", "flatten"), stem + ".txt"], check=True, stdout=subprocess.PIPE, text=True).stdout
+        assert output.startswith("answer=0\n"), (name, output[:40])
+        with open(stem + ".out", "w", encoding="ascii", newline="") as f:
+            f.write(output)
+        with open(stem + ".svg", "w", encoding="utf8", newline="") as f:
+            f.write(picture(name, drawing, points(output)))
+        print(name, output.split("\n")[2])
+
+
+main()
