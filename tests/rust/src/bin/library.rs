@@ -4,8 +4,9 @@
 
 use against_rust::{
     drawings::{directed, kind, random},
-    hostile::{any_call, any_float, any_store, call_both, leaves_on, replay_both},
+    hostile::{call_both, leaves_on, replay_both},
     rng::Rng,
+    wild::{any_call, any_float, any_store},
 };
 use std::time::Instant;
 
