@@ -2,7 +2,8 @@
 
 use crate::{
     call::{written, Call},
-    model::{self, Columns, State},
+    flat_case::Flat,
+    model::{self, Columns, Flattened, State},
 };
 use kermezhul as lib;
 
@@ -111,3 +112,74 @@ pub fn leaves_on(a: f32, b: f32, c: f32) -> Result<(), String> {
     Ok(())
 }
 
+
+/// The library's flattening of all that is lent.
+pub fn by_library(f: &mut Flat) -> Flattened {
+    let st = lib::State { points: f.st.points, commands: f.st.commands, opening: f.st.opening };
+    let drawn = lib::Drawn { x: &f.columns.x, y: &f.columns.y, weight: &f.columns.weight, commands: &f.columns.commands };
+    let (q, s, o) = (&mut f.quads, &mut f.splines, &mut f.output);
+    let mut quads = lib::Quads {
+        x: &mut q.x,
+        y: &mut q.y,
+        weight: &mut q.weight,
+        x0: &mut q.x0,
+        dx_recip: &mut q.dx_recip,
+        k0: &mut q.k0,
+        dk: &mut q.dk,
+        curvatures_recip: &mut q.curvatures_recip,
+        partial_curvatures: &mut q.partial_curvatures,
+        partial_splines: &mut q.partial_splines,
+    };
+    let mut splines = lib::Splines {
+        curvature: &mut s.curvature,
+        p0x: &mut s.p0x,
+        p0y: &mut s.p0y,
+        p2x: &mut s.p2x,
+        p2y: &mut s.p2y,
+        contour: &mut s.contour,
+    };
+    let mut output = lib::Output { words: &mut o.words, x: &mut o.x, y: &mut o.y, end: &mut o.end };
+    let setting = match f.setting {
+        model::Setting::Screen => lib::Setting::Screen,
+        model::Setting::Knife => lib::Setting::Knife,
+    };
+    let r = lib::flatten(setting, st, drawn, &mut quads, &mut splines, &mut output);
+    Flattened { answer: r.answer as u8, splines: r.splines, quads: r.quads, points: r.points }
+}
+
+/// The same flattening by both, on equal buffers: the answer, or what differs.
+pub fn flatten_both(lent: &Flat) -> Result<Flattened, String> {
+    let (mut ours, mut theirs) = (lent.clone(), lent.clone());
+    let (a, b) = (by_library(&mut ours), theirs.by_model());
+    let told = |e: String| format!("{e}\n  flattening {:?} on {:?}, {:?}", lent.setting, lent.st, lent.columns);
+    if a != b {
+        return Err(told(format!("{a:?}, the model has {b:?}")));
+    }
+    let (q, r) = (&ours.quads, &theirs.quads);
+    let (s, t) = (&ours.splines, &theirs.splines);
+    let (o, p) = (&ours.output, &theirs.output);
+    for (name, x, y) in [
+        ("x", &q.x, &r.x),
+        ("y", &q.y, &r.y),
+        ("weight", &q.weight, &r.weight),
+        ("x0", &q.x0, &r.x0),
+        ("dx_recip", &q.dx_recip, &r.dx_recip),
+        ("k0", &q.k0, &r.k0),
+        ("dk", &q.dk, &r.dk),
+        ("curvatures_recip", &q.curvatures_recip, &r.curvatures_recip),
+        ("partial_curvatures", &q.partial_curvatures, &r.partial_curvatures),
+        ("curvature", &s.curvature, &t.curvature),
+        ("p0x", &s.p0x, &t.p0x),
+        ("p0y", &s.p0y, &t.p0y),
+        ("p2x", &s.p2x, &t.p2x),
+        ("p2y", &s.p2y, &t.p2y),
+        ("output x", &o.x, &p.x),
+        ("output y", &o.y, &p.y),
+    ] {
+        same_floats(name, x, y).map_err(told)?;
+    }
+    if q.partial_splines != r.partial_splines || s.contour != t.contour || o.words != p.words || o.end != p.end {
+        return Err(told("partial_splines, contour, words or end differ from the model's".to_string()));
+    }
+    Ok(a)
+}
