@@ -28,7 +28,7 @@ impl Flat {
 
 /// A length about what is needed: enough, one short, none.
 fn length(rng: &mut Rng, needed: usize, all: usize) -> usize {
-    match rng.below(40) {
+    match rng.below(200) {
         0 => needed.saturating_sub(1),
         1 => 0,
         2 => rng.below(needed as u64 + 1) as usize,
