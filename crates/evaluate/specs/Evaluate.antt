@@ -16,6 +16,7 @@ use Rattle.command.specs.declared.PointCommand.{PointCommand}
 use Rattle.command.specs.declared.PointCommand.the-variants.{Start, Incr, End}
 use Rattle.tables.specs.Tables.{QuadTable, SplineTable, splineAt}
 use Rattle.walk.specs.Walk.{Item}
+use Rattle.evaluate.specs.declared.StepQuad.{StepQuad}
 
 -- a finished point: end says whether it is a flagged End
 pub record Finished : Type 0 where
@@ -29,24 +30,37 @@ unfoldable pub controlPointOf : QuadTable → ℕ → WeightedPoint
 controlPointOf q i = weighted (pointAt (getD (q .x) i nan) (getD (q .y) i nan)) (getD (q .weight) i nan)
 
 -- the sum of the quad before i in the same spline, or 0
-unfoldable pub previousSumOf : QuadTable → ℕ → Float
-previousSumOf q i =
-    cond (leb 1 i && eqb (getD (q .partial-splines) (i - 1) 0) (getD (q .partial-splines) i 0)) (getD (q .partial-curvatures) (i - 1) nan) zero32
+unfoldable pub previousSumOf : List Float → List ℕ → ℕ → Float
+previousSumOf sums splines i = cond (leb 1 i && eqb (getD splines (i - 1) 0) (getD splines i 0)) (getD sums (i - 1) nan) zero32
 
--- t of step p of this size on quad i
-unfoldable pub parameterOf : QuadTable → Float → ℕ → ℕ → Float
-parameterOf q size p i =
-    let ratio = fma32 size (whole32 p) (neg (previousSumOf q i)) ⊗ getD (q .curvatures-recip) i nan in
-    let x = invCurvatureOf (fma32 ratio (getD (q .dk) i nan) (getD (q .k0) i nan)) in
-    clampOf ((x ⊖ getD (q .x0) i nan) ⊗ getD (q .dx-recip) i nan) zero32 one32
+-- what a step reads of its quad i
+abbrev pub stepQuadOf : QuadTable → ℕ → StepQuad
+stepQuadOf q i =
+    record {
+      p0 = controlPointOf q (3 * i);
+      p1 = controlPointOf q (3 * i + 1);
+      p2 = controlPointOf q (3 * i + 2);
+      x0 = getD (q .x0) i nan;
+      «dx_recip» = getD (q .dx-recip) i nan;
+      k0 = getD (q .k0) i nan;
+      dk = getD (q .dk) i nan;
+      «curvature_recip» = getD (q .curvatures-recip) i nan;
+      «previous_sum» = previousSumOf (q .partial-curvatures) (q .partial-splines) i;
+    }
 
-unfoldable pub stepPointOf : QuadTable → Float → ℕ → ℕ → Point
-stepPointOf q size p i =
-    evalQuadOf (parameterOf q size p i) (controlPointOf q (3 * i)) (controlPointOf q (3 * i + 1)) (controlPointOf q (3 * i + 2))
+-- t of step p of this size on its quad
+unfoldable pub parameterOf : StepQuad → Float → ℕ → Float
+parameterOf quad size p =
+    let ratio = fma32 size (whole32 p) (neg (quad .«previous_sum»)) ⊗ quad .«curvature_recip» in
+    let x = invCurvatureOf (fma32 ratio (quad .dk) (quad .k0)) in
+    clampOf ((x ⊖ quad .x0) ⊗ quad .«dx_recip») zero32 one32
+
+unfoldable pub stepPointOf : StepQuad → Float → ℕ → Point
+stepPointOf quad size p = evalQuadOf (parameterOf quad size p) (quad .p0) (quad .p1) (quad .p2)
 
 unfoldable pub commandPointOf : QuadTable → SplineTable → PointCommand → ℕ → ℕ → Finished
 commandPointOf q s (Start k) p i = finished (splineAt s k .p0) false
-commandPointOf q s (Incr size) p i = finished (stepPointOf q size p i) false
+commandPointOf q s (Incr size) p i = finished (stepPointOf (stepQuadOf q i) size p) false
 commandPointOf q s (End k flag) p i = finished (splineAt s k .p2) flag
 
 unfoldable pub itemPointOf : QuadTable → SplineTable → Item → Finished

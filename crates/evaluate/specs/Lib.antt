@@ -1,1 +1,4 @@
+pub mod Three
 pub mod Evaluate
+pub mod Output
+pub mod Writing

@@ -17,18 +17,9 @@ use Rattle.tables.specs.Tables.{QuadTable, SplineTable}
 use Rattle.tables.specs.Run.{World}
 use Rattle.tables.specs.Commands.{tablesOf}
 use Rattle.walk.specs.Walk.{Item, walkOf, wordsOf}
-use Rattle.evaluate.specs.Evaluate.{Finished, pointsOf}
+pub use Rattle.evaluate.specs.Output.{Output, output}
+unfoldable pub use Rattle.evaluate.specs.Output.{over, fitsOutput, writeOutput}
 use Rattle.flatten.specs.declared.Flattened.{Flattened}
-
--- the words and the outputs: x, y, and 1 for a flagged End
-pub record Output : Type 0 where
-  pub words : List ℕ
-  pub x : List Float
-  pub y : List Float
-  pub end : List ℕ
-
-abbrev pub output : List ℕ → List Float → List Float → List ℕ → Output
-output words x y end = record { words = words; x = x; y = y; end = end }
 
 -- what the caller is left with
 pub record Flattening : Type 0 where
@@ -42,19 +33,6 @@ flattened answer splines quads points = record { answer = answer; splines = spli
 
 abbrev pub flattening : Flattened → QuadTable → SplineTable → Output → Flattening
 flattening result q s o = record { result = result; quads = q; splines = s; output = o }
-
--- "entries past the count are unchanged"
-unfoldable pub over {ℓ} : {A : Type ℓ} → List A → List A → List A
-over new old = new ++ drop (length new) old
-
-unfoldable pub fitsOutput : ℕ → Output → Bool
-fitsOutput n o = leb n (length (o .words)) && leb n (length (o .x)) && leb n (length (o .y)) && leb n (length (o .end))
-
-unfoldable pub writeOutput : QuadTable → SplineTable → List Item → Output → Output
-writeOutput q s items o =
-    let points = pointsOf q s items in
-    output (over (wordsOf items) (o .words)) (over (map (λ p. p .point .x) points) (o .x)) (over (map (λ p. p .point .y) points) (o .y))
-    (over (map (λ p. flagByteOf (p .end)) points) (o .end))
 
 -- "9 comes last": the walk fits, or the tables are complete and nothing else is written
 unfoldable pub walked : Bool → World → List Item → Output → Flattening

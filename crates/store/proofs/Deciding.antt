@@ -1,25 +1,23 @@
 -- What the tests of a call come to: each refusal, and the writes of an accepted call. Assumes nothing.
-use Prim.Native.Nat.{ℕ, _+_, _-_, _≤_, _<_}
+use Prim.Native.Nat.{_+_, _≤_}
 use native.Mathlib.Omega.{arith}
 use native.Mathlib.Nat.{le-refl, le-trans, le-of-eq}
-use mathlib.Core.Path.{_≡_, refl, sym, ap, _∙_}
-use mathlib.Core.Bool.{Bool, true, false, not, _&&_, cond}
-use mathlib.Core.List.{List, []}
-use lib.Dec.{leb, eqb}
+use mathlib.Core.Path.{_≡_, sym, ap, _∙_}
+use mathlib.Core.Bool.{Bool, true, false}
+use mathlib.Core.List.{[]}
+use lib.Dec.{leb}
 use lib.ListN.{length}
-use borrow.Author.Tests.{leb-true, not-true, not-false}
-use Rattle.answer.specs.declared.Answer.{Answer}
-use Rattle.answer.specs.declared.Answer.the-variants.{Done, BadCoordinate, BadWeight, Unusable, StoreFull}
+use borrow.Author.Tests.{leb-true}
+use Rattle.answer.specs.declared.Answer.the-variants.{BadCoordinate, BadWeight, Unusable, StoreFull}
 use Rattle.point.specs.declared.Point.{Point}
 use Rattle.store.specs.declared.StoreState.{StoreState}
 use Rattle.store.specs.declared.Call.{Call}
 use Rattle.store.specs.declared.Call.the-variants.{Move, Line, Quad, Cubic, RatQuad, RatCubic, Build}
 use Rattle.store.specs.declared.plan.Plan.{Plan}
 use Rattle.store.specs.declared.plan.Decision.the-variants.{Refuse, Store}
-use Rattle.store.specs.Columns.{Columns, columns, usableOf, lastCommandOf, moveCommand}
-use Rattle.store.specs.Closing.{unclosedOf}
+use Rattle.store.specs.Columns.{Columns, columns, usableOf}
 use Rattle.store.specs.Drawing.{Writes, every, coordinateOkOf, coordinatesOf, weightOkOf, weightsOf, appended, closed, moved, writesOf, roomOf, answerOf, drawOf}
-use Rattle.store.specs.Plan.{writesBy, Room, Fitting, Decided}
+use Rattle.store.specs.Plan.{writesBy, Fitting, Decided}
 use Rattle.store.proofs.Tests.{and-left, and-right}
 use Rattle.store.proofs.Usable.{Counted, usable-counts}
 
@@ -46,7 +44,7 @@ writes-at (RatCubic p1 p2 p3 w1 w2) st c = le-refl (st .points)
 writes-at Build st c = closed-at st c _
 
 -- columns of one length with room in x have room in all
-room-fits : (st : StoreState) (c : Columns) → Counted st c → (w : Writes) → roomOf w st c ≡ true → Fitting w st c
+pub room-fits : (st : StoreState) (c : Columns) → Counted st c → (w : Writes) → roomOf w st c ≡ true → Fitting w st c
 unfolding roomOf
 room-fits st c f w r =
     let behind = w .at + length (w .points) in

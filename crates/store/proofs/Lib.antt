@@ -5,3 +5,8 @@ pub mod Deciding
 pub mod Writing
 pub mod Loops
 pub mod Ranges
+pub mod Written
+pub mod Sound
+pub mod Keeping
+pub mod Laws
+pub mod Built

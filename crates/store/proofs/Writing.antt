@@ -1,9 +1,8 @@
 -- What the functions that write the columns make of them. Assumes nothing.
 use Prim.Native.Nat.{ℕ, _+_, _≤_, _<_}
 use native.Mathlib.Omega.{arith}
-use native.Mathlib.Nat.{le-trans}
-use mathlib.Core.Path.{_≡_, refl, sym, ap, _∙_}
-use mathlib.Core.Bool.{Bool, true, false, not, _&&_, _||_, true≢false}
+use mathlib.Core.Path.{_≡_, sym, ap, _∙_}
+use mathlib.Core.Bool.{Bool, true, false, not, _||_}
 use mathlib.Core.List.{List, [], _∷_}
 use lib.Dec.{eqb}
 use lib.ListN.{length, set}
@@ -22,8 +21,8 @@ use Rattle.store.specs.declared.plan.Decision.{Decision}
 use Rattle.store.specs.declared.plan.Decision.the-variants.{Store}
 use Rattle.store.specs.Columns.{Columns, columns, stateAt, putPoint, putCommand, evenOf, moveCommand}
 use Rattle.store.specs.Drawing.{outcome, putPoints, putCommands, written, stateAfter, drawOf, freshOf}
-use Rattle.store.specs.Plan.{pointsIn, commandsIn, writesBy, Room, Fitting, Fits, Decided, carriedOut}
-use Rattle.store.proofs.Tests.{and-left, and-right}
+use Rattle.store.specs.Plan.{pointsIn, commandsIn, writesBy, Room, Fitting, Decided, carriedOut}
+use Rattle.store.proofs.Tests.{and-left, and-right, or-false-left, or-false-right}
 
 -- ---- points and commands
 pub room-kept : {m n : ℕ} {x y w x' y' w' : List Float} → m ≤ n → length x' ≡ length x → length y' ≡ length y → length w' ≡ length w
@@ -63,14 +62,6 @@ pub decision-told : {d d' : Decision} (call : Call) (st : StoreState) (c : Colum
 decision-told call st c e h = ap (λ (d : Decision). carriedOut d st c) (sym e) ∙ h .same
 
 -- ---- a fresh drawing
-or-false-left : (a b : Bool) → (a || b) ≡ false → a ≡ false
-or-false-left true b e = e
-or-false-left false b e = refl
-
-or-false-right : (a b : Bool) → (a || b) ≡ false → b ≡ false
-or-false-right true b e = absurd (true≢false e)
-or-false-right false b e = e
-
 module _ (c : Columns) (even : Bool) (h : even ≡ evenOf (columns (c .x) (c .y) (c .weight) [])) where
   even-told : even ≡ evenOf c
   unfolding evenOf

@@ -11,7 +11,7 @@ ghost use Rattle.store.specs.Drawing.{outcome, putPoints, putCommands, w
 ghost use Rattle.store.specs.Plan.{pointsIn, commandsIn, writesBy, Room, Fitting};
 use crate::Drawn;
 use crate::StoreState;
-use crate::columns;
+use crate::entries;
 use crate::plan::Batch;
 use crate::plan::Marks;
 use crate::plan::Plan;
@@ -24,16 +24,16 @@ fn put_points(x: &mut [f32], y: &mut [f32], weight: &mut [f32], at: usize, point
     match points {
         Batch::Empty => {}
         Batch::One(p) => {
-            columns::put_point(x, y, weight, at, p);
+            entries::put_point(x, y, weight, at, p);
         }
         Batch::Two(p1, p2) => {
-            columns::put_point(x, y, weight, at, p1);
-            columns::put_point(x, y, weight, at + 1, p2);
+            entries::put_point(x, y, weight, at, p1);
+            entries::put_point(x, y, weight, at + 1, p2);
         }
         Batch::Three(p1, p2, p3) => {
-            columns::put_point(x, y, weight, at, p1);
-            columns::put_point(x, y, weight, at + 1, p2);
-            columns::put_point(x, y, weight, at + 2, p3);
+            entries::put_point(x, y, weight, at, p1);
+            entries::put_point(x, y, weight, at + 1, p2);
+            entries::put_point(x, y, weight, at + 2, p3);
         }
     }
 }

@@ -10,7 +10,7 @@ use point::WeightedPoint;
 
 mod accepted;
 mod builder;
-mod columns;
+mod entries;
 mod limits;
 mod plan;
 mod whole;
@@ -57,7 +57,7 @@ pub fn fresh(x: &mut [f32], y: &mut [f32], weight: &mut [f32], commands: &mut [u
         commands: 0,
         opening: 0,
     };
-    if !columns::even(&x[..], &y[..], &weight[..]) {
+    if !entries::even(&x[..], &y[..], &weight[..]) {
         return Drawn {
             answer: Answer::Unusable,
             state: none,
@@ -69,8 +69,8 @@ pub fn fresh(x: &mut [f32], y: &mut [f32], weight: &mut [f32], commands: &mut [u
             state: none,
         };
     }
-    columns::put_point(x, y, weight, 0, WeightedPoint::plain(Point::new(0.0, 0.0)));
-    commands[0] = columns::MOVE;
+    entries::put_point(x, y, weight, 0, WeightedPoint::plain(Point::new(0.0, 0.0)));
+    commands[0] = entries::MOVE;
     Drawn {
         answer: Answer::Done,
         state: StoreState {

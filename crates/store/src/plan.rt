@@ -12,11 +12,11 @@ ghost use Rattle.store.specs.Drawing.{appended, closed, moved, writesOf,
 ghost use Rattle.store.specs.Plan.{pointsIn, commandsIn, writesBy, Standing, Decided};
 use crate::Call;
 use crate::StoreState;
-use crate::columns;
-use crate::columns::CUBIC;
-use crate::columns::LINE;
-use crate::columns::MOVE;
-use crate::columns::QUAD;
+use crate::entries;
+use crate::entries::CUBIC;
+use crate::entries::LINE;
+use crate::entries::MOVE;
+use crate::entries::QUAD;
 use crate::limits;
 use answer::Answer;
 use point::Point;
@@ -91,7 +91,7 @@ fn close(x: &[f32], y: &[f32], weight: &[f32], st: StoreState) -> Plan
     requires { ⌜ Standing st (columns (now x) (now y) (now weight) []) ⌝ }
     ensures { λ r. ⌜ writesBy r ≡ closed st (columns (now (x .entry)) (now (y .entry)) (now (weight .entry)) []) (unclosedOf st (columns (now (x .entry)) (now (y .entry)) (now (weight .entry)) [])) ⌝ }
 {
-    if !columns::unclosed(x, y, weight, st) {
+    if !entries::unclosed(x, y, weight, st) {
         return Plan {
             at: st.points,
             points: Batch::Empty,
@@ -99,7 +99,7 @@ fn close(x: &[f32], y: &[f32], weight: &[f32], st: StoreState) -> Plan
             opening: st.opening,
         };
     }
-    let opening = columns::stored_point(x, y, weight, st.opening);
+    let opening = entries::stored_point(x, y, weight, st.opening);
     append(st, Batch::One(opening), LINE)
 }
 
@@ -110,7 +110,7 @@ fn move_on(x: &[f32], y: &[f32], weight: &[f32], st: StoreState, p: Point) -> Pl
 {
     let n = st.points;
     let new = WeightedPoint::plain(p);
-    if !columns::unclosed(x, y, weight, st) {
+    if !entries::unclosed(x, y, weight, st) {
         return Plan {
             at: n,
             points: Batch::One(new),
@@ -118,7 +118,7 @@ fn move_on(x: &[f32], y: &[f32], weight: &[f32], st: StoreState, p: Point) -> Pl
             opening: n,
         };
     }
-    let opening = columns::stored_point(x, y, weight, st.opening);
+    let opening = entries::stored_point(x, y, weight, st.opening);
     let next = n + 1;
     Plan {
         at: n,
@@ -215,7 +215,7 @@ pub fn decide(
 ) -> Decision
     ensures { λ r. ⌜ Decided r call st (columns (now (x .entry)) (now (y .entry)) (now (weight .entry)) (now (commands .entry))) ⌝ }
 {
-    if !columns::usable(x, y, weight, commands, st) {
+    if !entries::usable(x, y, weight, commands, st) {
         return Decision::Refuse(Answer::Unusable);
     }
     if !limits::coordinates_ok(call) {

@@ -8,7 +8,7 @@ ghost use Rattle.store.specs.Columns.{columns, usesOf};
 ghost use Rattle.store.specs.Drawing.{every, weightOkOf};
 ghost use Rattle.store.specs.Drawable.{storedOkOf, knownOf, totalUsesOf, drawableOf};
 use crate::StoreState;
-use crate::columns;
+use crate::entries;
 use crate::limits;
 
 // 65,536 times 64: what a coordinate in range times a weight in range can reach.
@@ -87,11 +87,11 @@ fn all_stored_ok(column: &[f32], n: usize) -> bool
 pub fn drawable(x: &[f32], y: &[f32], weight: &[f32], commands: &[u8], st: StoreState) -> bool
     ensures { λ r. ⌜ r ≡ drawableOf st (columns (now (x .entry)) (now (y .entry)) (now (weight .entry)) (now (commands .entry))) ⌝ }
 {
-    if !columns::usable(x, y, weight, commands, st) {
+    if !entries::usable(x, y, weight, commands, st) {
         return false;
     }
     let drawn = known(commands, st.commands)
-        & (commands[0] == columns::MOVE)
+        & (commands[0] == entries::MOVE)
         & uses_all(commands, st.commands, st.points);
     let held = all_weights_ok(weight, st.points)
         & all_stored_ok(x, st.points)

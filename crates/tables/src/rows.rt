@@ -62,7 +62,7 @@ pub fn put_quad(
 }
 
 // The whole number before, and 0 before 0.
-fn below(n: usize) -> usize
+pub fn below(n: usize) -> usize
     ensures { λ r. ⌜ r ≡ n - 1 ⌝ }
 {
     if n == 0 { 0 } else { n - 1 }

@@ -1,7 +1,7 @@
--- `store::columns::even` meets its contract: it is the definition's test. Assumes nothing.
+-- `store::entries::even` meets its contract: it is the definition's test. Assumes nothing.
 use mathlib.Core.Path.{refl}
-use Rattle.store.proofs.columns.even.Statement.{statement}
-use Rattle.store.proofs.columns.even.Tie as tie
+use Rattle.store.proofs.entries.even.Statement.{statement}
+use Rattle.store.proofs.entries.even.Tie as tie
 use Rattle.store.specs.Columns.{evenOf}
 
 returns : tie.Need-returns

@@ -1,9 +1,9 @@
--- `store::columns::usable` meets its contract: the counts are tested before the last command is read. Assumes nothing.
+-- `store::entries::usable` meets its contract: the counts are tested before the last command is read. Assumes nothing.
 use native.Mathlib.Omega.{arith}
 use borrow.Author.Needs.{needs}
 use Rattle.store.proofs.Usable.{counted-by, uncounted, last-decides}
-use Rattle.store.proofs.columns.usable.Statement.{statement}
-use Rattle.store.proofs.columns.usable.Tie as tie
+use Rattle.store.proofs.entries.usable.Statement.{statement}
+use Rattle.store.proofs.entries.usable.Tie as tie
 use Rattle.store.specs.Columns.{columns, lastCommandOf}
 
 even-requires : tie.Need-even-requires

@@ -1,8 +1,8 @@
--- `store::columns::put_point` meets its contract: three writes, whatever the commands are. Assumes nothing.
+-- `store::entries::put_point` meets its contract: three writes, whatever the commands are. Assumes nothing.
 use mathlib.Core.Path.{refl}
 use borrow.Author.Needs.{needs}
-use Rattle.store.proofs.columns.put_point.Statement.{statement}
-use Rattle.store.proofs.columns.put_point.Tie as tie
+use Rattle.store.proofs.entries.put_point.Statement.{statement}
+use Rattle.store.proofs.entries.put_point.Tie as tie
 use Rattle.store.specs.Columns.{putPoint}
 
 mul-x : tie.Need-mul-x

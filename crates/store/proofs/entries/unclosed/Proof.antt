@@ -1,7 +1,7 @@
--- `store::columns::unclosed` meets its contract: both points are read, applied and compared. Assumes nothing.
+-- `store::entries::unclosed` meets its contract: both points are read, applied and compared. Assumes nothing.
 use borrow.Author.Needs.{needs}
-use Rattle.store.proofs.columns.unclosed.Statement.{statement}
-use Rattle.store.proofs.columns.unclosed.Tie as tie
+use Rattle.store.proofs.entries.unclosed.Statement.{statement}
+use Rattle.store.proofs.entries.unclosed.Tie as tie
 use Rattle.store.specs.Closing.{unclosedOf}
 
 sub-stored-point : tie.Need-sub-stored-point

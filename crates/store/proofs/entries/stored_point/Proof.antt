@@ -1,8 +1,8 @@
--- `store::columns::stored_point` meets its contract: three reads. Assumes nothing.
+-- `store::entries::stored_point` meets its contract: three reads. Assumes nothing.
 use mathlib.Core.Path.{refl}
 use borrow.Author.Needs.{needs}
-use Rattle.store.proofs.columns.stored_point.Statement.{statement}
-use Rattle.store.proofs.columns.stored_point.Tie as tie
+use Rattle.store.proofs.entries.stored_point.Statement.{statement}
+use Rattle.store.proofs.entries.stored_point.Tie as tie
 use Rattle.store.specs.Columns.{storedPointOf}
 
 mul-t5 : tie.Need-mul-t5

@@ -1,0 +1,196 @@
+-- Writing a walk entry by entry leaves what `writeOutput` says, and where each part of it ends. Assumes nothing.
+use Prim.Native.Nat.{ℕ, zero, suc, _+_, _-_, _≤_, _<_}
+use native.Mathlib.Nat.{add-zero, le-trans, le-refl}
+use native.Mathlib.Numerals.{add-one}
+use native.Mathlib.Omega.{arith}
+use mathlib.Core.Path.{_≡_, refl, sym, _∙_, ap, ap₂, subst}
+use mathlib.Core.Bool.{Bool, true, false, _&&_, cond}
+use mathlib.Core.List.{List, [], _∷_, _++_, map}
+use lib.Dec.{leb, eqb}
+use lib.ListN.{length, drop, set, length-append, length-map}
+use lib.Seq.{sets, sets-eq}
+use lib.Ieee.{Float}
+use borrow.Author.Tests.{leb-true, ne-eqb}
+use Rattle.leaves.specs.Whole.{wholeUpOf}
+use Rattle.columns.specs.Flags.{flagByteOf}
+use Rattle.command.specs.declared.PointCommand.the-variants.{Start, Incr, End}
+use Rattle.command.specs.Packing.{packOf}
+use Rattle.tables.specs.Tables.{QuadTable, SplineTable, splineAt}
+use Rattle.walk.specs.Walk.{Item, item, subdivisionsOf, stepSizeOf, startsAfterOf, startsOf, cursorAtOf, cursorAt, stepsFrom, cursorFrom, cursorAfter, splineItemsOf, walkFrom, walkOf, wordOf, wordsOf}
+use Rattle.walk.specs.Length.{stepsOf, sizeOf}
+use Rattle.walk.proofs.Lengths.{steps-length}
+use Rattle.evaluate.specs.declared.Place.{Place}
+use Rattle.evaluate.specs.Evaluate.{Finished, finished, stepQuadOf, stepPointOf, commandPointOf, itemPointOf, pointsOf}
+use Rattle.evaluate.specs.Output.{Output, output, over, fitsOutput, writeOutput}
+use Rattle.evaluate.specs.Writing.{Written, written, placeAt, writeEntryOf, writeStartOf, writeStepsFrom, writeStepsOf, endPlaceOf, writeSplineOf, writeWalkFrom, writeWalkOf}
+
+-- ---- a list of items, written from an entry on
+unfoldable pub writeItems : QuadTable → SplineTable → ℕ → List Item → Output → Output
+writeItems q s at [] o = o
+writeItems q s at (i ∷ items) o = writeItems q s (at + 1) items (writeEntryOf at (wordOf i) (itemPointOf q s i) o)
+
+next : (a n : ℕ) → a + 1 + n ≡ a + suc n
+next a n = omega arith
+
+items-append : (q : QuadTable) (s : SplineTable) (at : ℕ) (xs ys : List Item) (o : Output)
+    → writeItems q s at (xs ++ ys) o ≡ writeItems q s (at + length xs) ys (writeItems q s at xs o)
+unfolding writeItems
+items-append q s at [] ys o = ap (λ (a : ℕ). writeItems q s a ys o) (sym (add-zero at))
+items-append q s at (x ∷ xs) ys o =
+    let o' = writeEntryOf at (wordOf x) (itemPointOf q s x) o in
+    items-append q s (at + 1) xs ys o' ∙ ap (λ (a : ℕ). writeItems q s a ys (writeItems q s (at + 1) xs o')) (next at (length xs))
+
+-- ---- the parts of a spline
+pub cursor-from-bound : (q : QuadTable) (n p cursor : ℕ) → cursorFrom q n p cursor ≤ cursor + n
+unfolding cursorFrom cursorAt
+cursor-from-bound q zero p cursor = omega arith
+cursor-from-bound q (suc n) p cursor =
+    let a = cursor-from-bound q n (p + 1) (cursorAt q p cursor) in
+    let b = step (lib.Ieee.lt (lib.ListN.getD (q .partial-curvatures) cursor lib.Ieee.nan) (Rattle.leaves.specs.Single.whole32 p)) in
+    omega arith
+  where
+    step : (t : Bool) → cond t (cursor + 1) cursor ≤ cursor + 1
+    step true = omega arith
+    step false = omega arith
+
+pub steps-place : (q : QuadTable) (size : Float) (n p : ℕ) (from : Place) (o : Output)
+    → writeStepsFrom q size n p from o .place ≡ placeAt (from .at + n) (cursorFrom q n p (from .cursor))
+unfolding writeStepsFrom cursorFrom
+steps-place q size zero p from o = ap (λ (a : ℕ). placeAt a (from .cursor)) (sym (add-zero (from .at)))
+steps-place q size (suc n) p from o =
+    let i = cursorAt q p (from .cursor) in
+    steps-place q size n (p + 1) (placeAt (from .at + 1) i) _ ∙ ap (λ (a : ℕ). placeAt a (cursorFrom q n (p + 1) i)) (next (from .at) n)
+
+steps-output : (q : QuadTable) (s : SplineTable) (size : Float) (n p : ℕ) (from : Place) (o : Output)
+    → writeStepsFrom q size n p from o .output ≡ writeItems q s (from .at) (stepsFrom q size n p (from .cursor)) o
+unfolding writeStepsFrom stepsFrom writeItems wordOf itemPointOf commandPointOf
+steps-output q s size zero p from o = refl
+steps-output q s size (suc n) p from o = steps-output q s size n (p + 1) (placeAt (from .at + 1) (cursorAt q p (from .cursor))) _
+
+module _ (q : QuadTable) (s : SplineTable) (k : ℕ) (from : Place) (o : Output) where
+  startItems : List Item
+  startItems = cond (startsOf s k) (item (Start k) 0 0 ∷ []) []
+
+  start-written : writeStartOf k (splineAt s (k - 1)) (splineAt s k) from o
+      ≡ written (writeItems q s (from .at) startItems o) (placeAt (from .at + length startItems) (from .cursor))
+  unfolding startItems writeStartOf startsOf writeItems wordOf itemPointOf commandPointOf
+  start-written = go (startsAfterOf k (splineAt s (k - 1)) (splineAt s k))
+    where
+      go : (b : Bool)
+          → cond b
+          (written (writeEntryOf (from .at) (packOf (Start k)) (finished (splineAt s k .p0) false) o) (placeAt (from .at + 1) (from .cursor)))
+          (written o from)
+          ≡ written (writeItems q s (from .at) (cond b (item (Start k) 0 0 ∷ []) []) o)
+          (placeAt (from .at + length (cond b (item (Start k) 0 0 ∷ []) [])) (from .cursor))
+      go true = refl
+      go false = ap (λ (a : ℕ). written o (placeAt a (from .cursor))) (sym (add-zero (from .at)))
+
+finish : (q : QuadTable) (s : SplineTable) (at n : ℕ) (start steps : List Item) (end : Item) (o : Output) → length steps ≡ n
+    → writeEntryOf (at + length start + n) (wordOf end) (itemPointOf q s end) (writeItems q s (at + length start) steps (writeItems q s at start o))
+    ≡ writeItems q s at (start ++ (steps ++ (end ∷ []))) o
+unfolding writeItems
+finish q s at n start steps end o e =
+    let o' = writeItems q s at start o in
+    sym
+    (items-append q s at start (steps ++ (end ∷ [])) o
+    ∙ items-append q s (at + length start) steps (end ∷ []) o'
+    ∙ ap (λ (m : ℕ). writeItems q s (at + length start + m) (end ∷ []) (writeItems q s (at + length start) steps o')) e)
+
+finish-at : (at n : ℕ) (start steps : List Item) (end : Item) → length steps ≡ n → at + length start + n + 1 ≡ at + length (start ++ (steps ++ (end ∷ [])))
+finish-at at n start steps end e =
+    let a = length-append start (steps ++ (end ∷ [])) in
+    let b = length-append steps (end ∷ []) in
+    omega arith
+
+finish-cursor : (q : QuadTable) (m cursor : ℕ)
+    → cond (eqb m 0) (cursorFrom q (m - 1) 1 cursor) (cursorFrom q (m - 1) 1 cursor + 1) ≡ cond (eqb m 0) cursor (cursorFrom q (m - 1) 1 cursor + 1)
+unfolding cursorFrom
+finish-cursor q zero cursor = refl
+finish-cursor q (suc m) cursor = let e : eqb (suc m) 0 ≡ false = ne-eqb (suc m) 0 (λ z. omega arith) in rw e
+
+module _ (q : QuadTable) (s : SplineTable) (k : ℕ) (from : Place) (o : Output) where
+  afterSteps : Written → Written
+  afterSteps b =
+      let row = splineAt s k in
+      written (writeEntryOf (b .place .at) (packOf (End k (row .contour))) (finished (row .p2) (row .contour)) (b .output)) (endPlaceOf (row .curvature) (b .place))
+
+  afterStart : Written → Written
+  afterStart a = afterSteps (writeStepsOf q (stepSizeOf s k) (subdivisionsOf s k - 1) (a .place) (a .output))
+
+  -- a whole spline
+  pub spline-written : writeSplineOf q k (splineAt s (k - 1)) (splineAt s k) from o
+      ≡ written (writeItems q s (from .at) (splineItemsOf q s k (from .cursor)) o)
+      (placeAt (from .at + length (splineItemsOf q s k (from .cursor))) (cursorAfter q s k (from .cursor)))
+  unfolding afterSteps afterStart startItems writeSplineOf writeStepsOf endPlaceOf splineItemsOf cursorAfter subdivisionsOf stepSizeOf wordOf itemPointOf commandPointOf
+  spline-written =
+      let n = subdivisionsOf s k - 1 in
+      let start = startItems q s k from o in
+      let steps = stepsFrom q (stepSizeOf s k) n 1 (from .cursor) in
+      let end = item (End k (splineAt s k .contour)) 0 0 in
+      let o' = writeItems q s (from .at) start o in
+      let from' = placeAt (from .at + length start) (from .cursor) in
+      let e = steps-length q (stepSizeOf s k) n 1 (from .cursor) in
+      ap afterStart (start-written q s k from o)
+      ∙ ap afterSteps (ap₂ written (steps-output q s (stepSizeOf s k) n 1 from' o') (steps-place q (stepSizeOf s k) n 1 from' o'))
+      ∙ ap₂ written (finish q s (from .at) n start steps end o e)
+      (ap₂ placeAt (finish-at (from .at) n start steps end e) (finish-cursor q (subdivisionsOf s k) (from .cursor)))
+
+-- ---- the whole walk
+walk-from-written : (q : QuadTable) (s : SplineTable) (n k : ℕ) (from : Place) (o : Output)
+    → writeWalkFrom q s n k from o ≡ writeItems q s (from .at) (walkFrom q s n k (from .cursor)) o
+unfolding writeWalkFrom walkFrom writeItems
+walk-from-written q s zero k from o = refl
+walk-from-written q s (suc n) k from o =
+    let items = splineItemsOf q s k (from .cursor) in
+    let cursor = cursorAfter q s k (from .cursor) in
+    ap (λ (w : Written). writeWalkFrom q s n (k + 1) (w .place) (w .output)) (spline-written q s k from o)
+    ∙ walk-from-written q s n (k + 1) (placeAt (from .at + length items) cursor) (writeItems q s (from .at) items o)
+    ∙ sym (items-append q s (from .at) items (walkFrom q s n (k + 1) cursor) o)
+
+-- ---- the four columns
+columnsFrom : QuadTable → SplineTable → List Item → Output → ℕ → Output
+columnsFrom q s items o at =
+    let points = pointsOf q s items in
+    output (sets (o .words) at (wordsOf items)) (sets (o .x) at (map (λ (p : Finished). p .point .x) points))
+    (sets (o .y) at (map (λ (p : Finished). p .point .y) points)) (sets (o .end) at (map (λ (p : Finished). flagByteOf (p .end)) points))
+
+items-columns : (q : QuadTable) (s : SplineTable) (items : List Item) (o : Output) (at : ℕ) → writeItems q s at items o ≡ columnsFrom q s items o at
+unfolding columnsFrom writeItems wordsOf pointsOf writeEntryOf
+items-columns q s [] o at = refl
+items-columns q s (i ∷ items) o at =
+    let o' = writeEntryOf at (wordOf i) (itemPointOf q s i) o in
+    items-columns q s items o' (at + 1) ∙ ap (columnsFrom q s items o') (add-one at)
+
+sets-over : {A : Type 0} (new old : List A) → length new ≤ length old → sets old 0 new ≡ over new old
+unfolding over
+sets-over new old h = let e : 0 + length new ≡ length new = omega arith in sets-eq new old 0 (omega arith) ∙ ap (λ (k : ℕ). new ++ drop k old) e
+
+both : (a b : Bool) → (a && b) ≡ true → (a ≡ true) × (b ≡ true)
+both true b e = (refl, e)
+both false b e = (e, let z : _≡_ {A = ℕ} 0 1 = cc in absurd (omega arith))
+
+map-over : {A B : Type 0} (f : A → B) (l : List A) (old : List B) (n : ℕ) → length l ≡ n → leb n (length old) ≡ true → sets old 0 (map f l) ≡ over (map f l) old
+map-over f l old n e h = sets-over (map f l) old (subst (λ (m : ℕ). m ≤ length old) (sym (length-map l f ∙ e)) (leb-true n (length old) h))
+
+pub written-fits : (q : QuadTable) (s : SplineTable) (items : List Item) (o : Output) → fitsOutput (length items) o ≡ true
+    → writeItems q s 0 items o ≡ writeOutput q s items o
+unfolding columnsFrom writeOutput fitsOutput wordsOf pointsOf
+written-fits q s items o h =
+    let n = length items in
+    let points = pointsOf q s items in
+    let e : length points ≡ n = length-map items (itemPointOf q s) in
+    let a = both (leb n (length (o .words)) && leb n (length (o .x)) && leb n (length (o .y))) (leb n (length (o .end))) h in
+    let b = both (leb n (length (o .words)) && leb n (length (o .x))) (leb n (length (o .y))) (a .0) in
+    let c = both (leb n (length (o .words))) (leb n (length (o .x))) (b .0) in
+    items-columns q s items o 0
+    ∙ rw (
+      map-over wordOf items (o .words) n refl (c .0),
+      map-over (λ (p : Finished). p .point .x) points (o .x) n e (c .1),
+      map-over (λ (p : Finished). p .point .y) points (o .y) n e (b .1),
+      map-over (λ (p : Finished). flagByteOf (p .end)) points (o .end) n e (a .1),
+    )
+
+pub walk-written : (q : QuadTable) (s : SplineTable) (n : ℕ) (o : Output) → fitsOutput (length (walkOf q s n)) o ≡ true
+    → writeWalkOf q s n o ≡ writeOutput q s (walkOf q s n) o
+unfolding writeWalkOf walkOf
+walk-written q s n o e = walk-from-written q s n 0 (placeAt 0 0) o ∙ written-fits q s (walkOf q s n) o e

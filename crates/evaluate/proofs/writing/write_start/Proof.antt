@@ -1,0 +1,53 @@
+-- `evaluate::writing::write_start` meets its contract. Assumes nothing.
+use borrow.Author.Tests.{not-true, not-false}
+use Rattle.evaluate.specs.Writing.{writeStartOf}
+use borrow.Author.Needs.{needs}
+use Rattle.evaluate.proofs.writing.write_start.Statement.{statement}
+use Rattle.evaluate.proofs.writing.write_start.Tie as tie
+
+starts-after-requires : tie.Need-starts-after-requires
+starts-after-requires c κs = search needs
+
+returns : tie.Need-returns
+unfolding writeStartOf
+returns c = rw (← c .before .starts-after .ensures, not-true (c .before .starts-after .result) (c .if1 .taken))
+
+pack-requires : tie.Need-pack-requires
+pack-requires c κs = search needs
+
+write-entry-requires : tie.Need-write-entry-requires
+write-entry-requires c κs = search needs
+
+add-t14 : tie.Need-add-t14
+add-t14 c = search needs
+
+same-length : tie.Need-same-length
+same-length c = search needs
+
+same-length-2 : tie.Need-same-length-2
+same-length-2 c = search needs
+
+same-length-3 : tie.Need-same-length-3
+same-length-3 c = search needs
+
+same-length-4 : tie.Need-same-length-4
+same-length-4 c = search needs
+
+returns-2 : tie.Need-returns-2
+unfolding writeStartOf
+returns-2 c = rw (← c .before .before .before .before .before .before .before .before .before .before .before .before .before .before .before .before .starts-after .ensures, not-false (c .before .before .before .before .before .before .before .before .before .before .before .before .before .before .before .before .starts-after .result) (c .before .before .before .before .before .before .before .before .before .before .before .before .before .before .before .if1 .left), ← c .before .before .before .before .before .before .before .before .before .before .before .before .before .before .pack .ensures, c .before .before .before .before .before .before .before .before .write-entry .ensures)
+
+pub write-start-spec : {M : Type 1} → statement M
+write-start-spec =
+    tie.close
+    (tie.spec
+    starts-after-requires
+    returns
+    pack-requires
+    write-entry-requires
+    add-t14
+    same-length
+    same-length-2
+    same-length-3
+    same-length-4
+    returns-2)

@@ -1,0 +1,84 @@
+-- The walk written entry by entry, words and points in one pass: what each writing function leaves. Assumes nothing.
+use Prim.Native.Nat.{ℕ, zero, suc, _+_, _-_}
+use mathlib.Core.Bool.{Bool, true, false, cond}
+use lib.Dec.{eqb}
+use lib.Ieee.{Float}
+use lib.ListN.{length, set}
+use Rattle.leaves.specs.Whole.{wholeUpOf}
+use Rattle.command.specs.declared.PointCommand.the-variants.{Start, Incr, End}
+use Rattle.command.specs.Packing.{packOf}
+use Rattle.columns.specs.Flags.{flagByteOf}
+use Rattle.primitives.specs.declared.SplineRow.{SplineRow}
+use Rattle.tables.specs.Tables.{QuadTable, SplineTable, splineAt}
+use Rattle.walk.specs.Walk.{cursorAt, startsAfterOf, walkOf}
+use Rattle.walk.specs.Length.{stepsOf, sizeOf}
+use Rattle.evaluate.specs.declared.Place.{Place}
+use Rattle.evaluate.specs.declared.Delivered.{Delivered}
+use Rattle.evaluate.specs.Evaluate.{Finished, finished, stepQuadOf, stepPointOf}
+use Rattle.evaluate.specs.Output.{Output, output, fitsOutput, writeOutput}
+
+-- the outputs, and the place that comes next
+pub record Written : Type 0 where
+  pub output : Output
+  pub place : Place
+
+abbrev pub written : Output → Place → Written
+written output place = record { output = output; place = place }
+
+abbrev pub placeAt : ℕ → ℕ → Place
+placeAt at cursor = record { at = at; cursor = cursor }
+
+unfoldable pub writeEntryOf : ℕ → ℕ → Finished → Output → Output
+writeEntryOf at word f o =
+    output (set (o .words) at word) (set (o .x) at (f .point .x)) (set (o .y) at (f .point .y)) (set (o .end) at (flagByteOf (f .end)))
+
+unfoldable pub writeStartOf : ℕ → SplineRow → SplineRow → Place → Output → Written
+writeStartOf k last row from o =
+    cond (startsAfterOf k last row)
+    (written (writeEntryOf (from .at) (packOf (Start k)) (finished (row .p0) false) o) (placeAt (from .at + 1) (from .cursor)))
+    (written o from)
+
+-- n steps from step p on
+unfoldable pub writeStepsFrom : QuadTable → Float → ℕ → ℕ → Place → Output → Written
+writeStepsFrom q size zero p from o = written o from
+writeStepsFrom q size (suc n) p from o =
+    let i = cursorAt q p (from .cursor) in
+    writeStepsFrom q size n (p + 1) (placeAt (from .at + 1) i)
+    (writeEntryOf (from .at) (packOf (Incr size)) (finished (stepPointOf (stepQuadOf q i) size p) false) o)
+
+unfoldable pub writeStepsOf : QuadTable → Float → ℕ → Place → Output → Written
+writeStepsOf q size n from o = writeStepsFrom q size n 1 from o
+
+-- "and by one after each spline with m over 0"
+unfoldable pub endPlaceOf : Float → Place → Place
+endPlaceOf sum from = placeAt (from .at + 1) (cond (eqb (wholeUpOf sum) 0) (from .cursor) (from .cursor + 1))
+
+unfoldable pub writeSplineOf : QuadTable → ℕ → SplineRow → SplineRow → Place → Output → Written
+writeSplineOf q k last row from o =
+    let a = writeStartOf k last row from o in
+    let b = writeStepsOf q (sizeOf (row .curvature)) (stepsOf (row .curvature)) (a .place) (a .output) in
+    written (writeEntryOf (b .place .at) (packOf (End k (row .contour))) (finished (row .p2) (row .contour)) (b .output)) (endPlaceOf (row .curvature) (b .place))
+
+-- n splines from spline k on
+unfoldable pub writeWalkFrom : QuadTable → SplineTable → ℕ → ℕ → Place → Output → Output
+writeWalkFrom q s zero k from o = o
+writeWalkFrom q s (suc n) k from o =
+    let w = writeSplineOf q k (splineAt s (k - 1)) (splineAt s k) from o in
+    writeWalkFrom q s n (k + 1) (w .place) (w .output)
+
+unfoldable pub writeWalkOf : QuadTable → SplineTable → ℕ → Output → Output
+writeWalkOf q s n o = writeWalkFrom q s n 0 (placeAt 0 0) o
+
+-- whether the walk fits and how long it is, with the outputs
+pub record Delivery : Type 0 where
+  pub result : Delivered
+  pub output : Output
+
+abbrev pub delivery : Bool → ℕ → Output → Delivery
+delivery fits points output = record { result = record { fits = fits; points = points }; output = output }
+
+-- "9: words or outputs are shorter than the walk": then nothing is written
+unfoldable pub deliverOf : QuadTable → SplineTable → ℕ → Output → Delivery
+deliverOf q s n o =
+    let items = walkOf q s n in
+    cond (fitsOutput (length items) o) (delivery true (length items) (writeOutput q s items o)) (delivery false 0 o)

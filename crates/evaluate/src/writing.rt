@@ -1,0 +1,314 @@
+// The pass that writes: words and points together, in the order of the walk, after its length was tested.
+ghost use mathlib.Core.Path.{_≡_};
+ghost use Prim.Native.Nat.{_≤_};
+ghost use Rattle.tables.specs.Tables.{quadTable, splineTable};
+ghost use Rattle.evaluate.specs.Evaluate.{finished};
+ghost use Rattle.evaluate.specs.Output.{output, fitsOutput};
+ghost use Rattle.evaluate.specs.Writing.{written, writeEntryOf, writeStartOf, writeStepsOf, endPlaceOf, writeSplineOf, writeWalkOf, delivery, deliverOf};
+use crate::Delivered;
+use crate::Place;
+use crate::step;
+use columns::flag_byte;
+use columns::put_f32;
+use columns::put_u8;
+use columns::put_u32;
+use command::PointCommand;
+use point::Point;
+use primitives::SplineRow;
+use tables::spline_at;
+
+// One entry of the words and the outputs.
+fn write_entry(
+    words: &mut [u32],
+    out_x: &mut [f32],
+    out_y: &mut [f32],
+    out_end: &mut [u8],
+    at: usize,
+    word: u32,
+    point: Point,
+    flag: bool,
+)
+    ensures { λ _. ⌜ output (now (words .exit)) (now («out_x» .exit)) (now («out_y» .exit)) (now («out_end» .exit)) ≡ writeEntryOf at word (finished point flag) (output (now (words .entry)) (now («out_x» .entry)) (now («out_y» .entry)) (now («out_end» .entry))) ⌝ }
+{
+    put_u32(words, at, word);
+    put_f32(out_x, at, point.x);
+    put_f32(out_y, at, point.y);
+    put_u8(out_end, at, flag_byte(flag));
+}
+
+// The Start of spline k, where there is one.
+fn write_start(
+    words: &mut [u32],
+    out_x: &mut [f32],
+    out_y: &mut [f32],
+    out_end: &mut [u8],
+    k: u32,
+    last: SplineRow,
+    row: SplineRow,
+    from: Place,
+) -> Place
+    requires { ⌜ from .at ≤ 0x4000_0000_0000_0000 ⌝ }
+    ensures { λ r. ⌜ written (output (now (words .exit)) (now («out_x» .exit)) (now («out_y» .exit)) (now («out_end» .exit))) r ≡ writeStartOf k last row from (output (now (words .entry)) (now («out_x» .entry)) (now («out_y» .entry)) (now («out_end» .entry))) ⌝ }
+{
+    if !walk::starts_after(k, last, row) {
+        return from;
+    }
+    let at = from.at;
+    let word = PointCommand::Start(k as usize).pack();
+    let start = row.p0;
+    write_entry(words, out_x, out_y, out_end, at, word, start, false);
+    Place {
+        at: at + 1,
+        cursor: from.cursor,
+    }
+}
+
+// The n steps of a spline.
+fn write_steps(
+    x: &[f32],
+    y: &[f32],
+    weight: &[f32],
+    x0: &[f32],
+    dx_recip: &[f32],
+    k0: &[f32],
+    dk: &[f32],
+    curvatures_recip: &[f32],
+    partial_curvatures: &[f32],
+    partial_splines: &[u32],
+    words: &mut [u32],
+    out_x: &mut [f32],
+    out_y: &mut [f32],
+    out_end: &mut [u8],
+    size: f32,
+    n: u32,
+    from: Place,
+) -> Place
+    requires { ⌜ (n ≤ 65536) × (from .at ≤ 0x4000_0000_0000_0001) ⌝ }
+    ensures { λ r. ⌜ written (output (now (words .exit)) (now («out_x» .exit)) (now («out_y» .exit)) (now («out_end» .exit))) r ≡ writeStepsOf (quadTable (now (x .entry)) (now (y .entry)) (now (weight .entry)) (now (x0 .entry)) (now («dx_recip» .entry)) (now (k0 .entry)) (now (dk .entry)) (now («curvatures_recip» .entry)) (now («partial_curvatures» .entry)) (now («partial_splines» .entry))) size n from (output (now (words .entry)) (now («out_x» .entry)) (now («out_y» .entry)) (now («out_end» .entry))) ⌝ }
+{
+    let word = PointCommand::Incr(size).pack();
+    let mut at = from.at;
+    let mut cursor = from.cursor;
+    let mut p: u32 = 1;
+    let mut left = n;
+    while left > 0 {
+        cursor = walk::cursor_at(partial_curvatures, p, cursor);
+        let quad = step::step_quad(
+            x,
+            y,
+            weight,
+            x0,
+            dx_recip,
+            k0,
+            dk,
+            curvatures_recip,
+            partial_curvatures,
+            partial_splines,
+            cursor,
+        );
+        let point = step::step_point(quad, size, p);
+        write_entry(words, out_x, out_y, out_end, at, word, point, false);
+        at += 1;
+        p += 1;
+        left -= 1;
+    }
+    Place { at, cursor }
+}
+
+// The place after a spline's End: past its last quad, if it has one.
+fn end_place(sum: f32, from: Place) -> Place
+    requires { ⌜ (from .at ≤ 0x4000_0000_0002_0000) × (from .cursor ≤ 0x4000_0000_0002_0000) ⌝ }
+    ensures { λ r. ⌜ r ≡ endPlaceOf sum from ⌝ }
+{
+    let at = from.at + 1;
+    let cursor = from.cursor;
+    if leaves::whole_up(sum) == 0 {
+        return Place { at, cursor };
+    }
+    let next = cursor + 1;
+    Place { at, cursor: next }
+}
+
+// Spline k, which comes after `last`.
+fn write_spline(
+    x: &[f32],
+    y: &[f32],
+    weight: &[f32],
+    x0: &[f32],
+    dx_recip: &[f32],
+    k0: &[f32],
+    dk: &[f32],
+    curvatures_recip: &[f32],
+    partial_curvatures: &[f32],
+    partial_splines: &[u32],
+    words: &mut [u32],
+    out_x: &mut [f32],
+    out_y: &mut [f32],
+    out_end: &mut [u8],
+    k: u32,
+    last: SplineRow,
+    row: SplineRow,
+    from: Place,
+) -> Place
+    requires { ⌜ (from .at ≤ 0x4000_0000_0000_0000) × (from .cursor ≤ 0x4000_0000_0000_0000) ⌝ }
+    ensures { λ r. ⌜ written (output (now (words .exit)) (now («out_x» .exit)) (now («out_y» .exit)) (now («out_end» .exit))) r ≡ writeSplineOf (quadTable (now (x .entry)) (now (y .entry)) (now (weight .entry)) (now (x0 .entry)) (now («dx_recip» .entry)) (now (k0 .entry)) (now (dk .entry)) (now («curvatures_recip» .entry)) (now («partial_curvatures» .entry)) (now («partial_splines» .entry))) k last row from (output (now (words .entry)) (now («out_x» .entry)) (now («out_y» .entry)) (now («out_end» .entry))) ⌝ }
+{
+    let sum = row.curvature;
+    let start = write_start(words, out_x, out_y, out_end, k, last, row, from);
+    let size = walk::size(sum);
+    let n = walk::steps(sum);
+    let to = write_steps(
+        x,
+        y,
+        weight,
+        x0,
+        dx_recip,
+        k0,
+        dk,
+        curvatures_recip,
+        partial_curvatures,
+        partial_splines,
+        words,
+        out_x,
+        out_y,
+        out_end,
+        size,
+        n,
+        start,
+    );
+    let flag = row.contour;
+    let word = PointCommand::End(k as usize, flag).pack();
+    let end = row.p2;
+    write_entry(words, out_x, out_y, out_end, to.at, word, end, flag);
+    end_place(sum, to)
+}
+
+// All splines. The place stays small: at most 65,538 entries for each of fewer than 2^32.
+fn write_walk(
+    x: &[f32],
+    y: &[f32],
+    weight: &[f32],
+    x0: &[f32],
+    dx_recip: &[f32],
+    k0: &[f32],
+    dk: &[f32],
+    curvatures_recip: &[f32],
+    partial_curvatures: &[f32],
+    partial_splines: &[u32],
+    curvature: &[f32],
+    p0x: &[f32],
+    p0y: &[f32],
+    p2x: &[f32],
+    p2y: &[f32],
+    contour: &[u8],
+    words: &mut [u32],
+    out_x: &mut [f32],
+    out_y: &mut [f32],
+    out_end: &mut [u8],
+    n: u32,
+)
+    ensures { λ _. ⌜ output (now (words .exit)) (now («out_x» .exit)) (now («out_y» .exit)) (now («out_end» .exit)) ≡ writeWalkOf (quadTable (now (x .entry)) (now (y .entry)) (now (weight .entry)) (now (x0 .entry)) (now («dx_recip» .entry)) (now (k0 .entry)) (now (dk .entry)) (now («curvatures_recip» .entry)) (now («partial_curvatures» .entry)) (now («partial_splines» .entry))) (splineTable (now (curvature .entry)) (now (p0x .entry)) (now (p0y .entry)) (now (p2x .entry)) (now (p2y .entry)) (now (contour .entry))) n (output (now (words .entry)) (now («out_x» .entry)) (now («out_y» .entry)) (now («out_end» .entry))) ⌝ }
+{
+    let mut last = spline_at(curvature, p0x, p0y, p2x, p2y, contour, 0);
+    let mut place = Place { at: 0, cursor: 0 };
+    let mut k: u32 = 0;
+    let mut left = n;
+    while left > 0 {
+        let row = spline_at(curvature, p0x, p0y, p2x, p2y, contour, k as usize);
+        place = write_spline(
+            x,
+            y,
+            weight,
+            x0,
+            dx_recip,
+            k0,
+            dk,
+            curvatures_recip,
+            partial_curvatures,
+            partial_splines,
+            words,
+            out_x,
+            out_y,
+            out_end,
+            k,
+            last,
+            row,
+            place,
+        );
+        last = row;
+        k += 1;
+        left -= 1;
+    }
+}
+
+// Whether each of the outputs holds this many entries.
+fn holds(words: &[u32], out_x: &[f32], out_y: &[f32], out_end: &[u8], length: u64) -> bool
+    ensures { λ r. ⌜ r ≡ fitsOutput length (output (now (words .entry)) (now («out_x» .entry)) (now («out_y» .entry)) (now («out_end» .entry))) ⌝ }
+{
+    (length <= words.len() as u64)
+        & (length <= out_x.len() as u64)
+        & (length <= out_y.len() as u64)
+        & (length <= out_end.len() as u64)
+}
+
+// The walk over n splines, written where it fits.
+pub fn deliver(
+    x: &[f32],
+    y: &[f32],
+    weight: &[f32],
+    x0: &[f32],
+    dx_recip: &[f32],
+    k0: &[f32],
+    dk: &[f32],
+    curvatures_recip: &[f32],
+    partial_curvatures: &[f32],
+    partial_splines: &[u32],
+    curvature: &[f32],
+    p0x: &[f32],
+    p0y: &[f32],
+    p2x: &[f32],
+    p2y: &[f32],
+    contour: &[u8],
+    words: &mut [u32],
+    out_x: &mut [f32],
+    out_y: &mut [f32],
+    out_end: &mut [u8],
+    n: u32,
+) -> Delivered
+    ensures { λ r. ⌜ delivery (r .fits) (r .points) (output (now (words .exit)) (now («out_x» .exit)) (now («out_y» .exit)) (now («out_end» .exit))) ≡ deliverOf (quadTable (now (x .entry)) (now (y .entry)) (now (weight .entry)) (now (x0 .entry)) (now («dx_recip» .entry)) (now (k0 .entry)) (now (dk .entry)) (now («curvatures_recip» .entry)) (now («partial_curvatures» .entry)) (now («partial_splines» .entry))) (splineTable (now (curvature .entry)) (now (p0x .entry)) (now (p0y .entry)) (now (p2x .entry)) (now (p2y .entry)) (now (contour .entry))) n (output (now (words .entry)) (now («out_x» .entry)) (now («out_y» .entry)) (now («out_end» .entry))) ⌝ }
+{
+    let length = walk::walk_length(curvature, p0x, p0y, p2x, p2y, contour, n);
+    if !holds(&words[..], &out_x[..], &out_y[..], &out_end[..], length) {
+        return Delivered {
+            fits: false,
+            points: 0,
+        };
+    }
+    write_walk(
+        x,
+        y,
+        weight,
+        x0,
+        dx_recip,
+        k0,
+        dk,
+        curvatures_recip,
+        partial_curvatures,
+        partial_splines,
+        curvature,
+        p0x,
+        p0y,
+        p2x,
+        p2y,
+        contour,
+        words,
+        out_x,
+        out_y,
+        out_end,
+        n,
+    );
+    Delivered {
+        fits: true,
+        points: length as usize,
+    }
+}

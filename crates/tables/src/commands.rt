@@ -1,0 +1,274 @@
+// The commands of a store, taken in order: PathData::segments.
+use crate::capacity::least;
+use crate::capacity::quad_capacity;
+use crate::capacity::spline_capacity;
+use crate::rows::below;
+use crate::run::push;
+use crate::run::push_cubic;
+use answer::Answer;
+use answer::is_done;
+use columns::read_f32;
+use columns::read_u8;
+use point::Angle;
+use point::Point;
+use point::WeightedPoint;
+use primitives::Capacities;
+use primitives::Cubic;
+use primitives::Primitive;
+use primitives::Setting;
+use primitives::State;
+use store::StoreState;
+ghost use mathlib.Core.Bool.{cond};
+ghost use mathlib.Core.Path.{_≡_};
+ghost use mathlib.Core.List.{[], _∷_};
+ghost use Prim.Native.Nat.{_+_, _^_, _<_};
+ghost use lib.Dec.{ltb};
+ghost use Rattle.store.specs.Columns.{columns, usesOf, storedPointOf};
+ghost use Rattle.tables.specs.Tables.{quadTable, splineTable};
+ghost use Rattle.tables.specs.Run.{world, runOf};
+ghost use Rattle.tables.specs.Commands.{cubicFrom, commandPrimitivesOf, tablesOf};
+
+const LINE: u8 = 1;
+
+const CUBIC: u8 = 3;
+
+// No column of floats is as long: a point from here on is not there.
+const NO_POINT: usize = 0x4000_0000_0000_0000;
+
+// The Rust's `points!`.
+fn stored_point(x: &[f32], y: &[f32], weight: &[f32], i: usize) -> WeightedPoint
+    ensures { λ r. ⌜ r ≡ storedPointOf (columns (now (x .entry)) (now (y .entry)) (now (weight .entry)) []) i ⌝ }
+{
+    let point = Point {
+        x: read_f32(x, i),
+        y: read_f32(y, i),
+    };
+    WeightedPoint {
+        point,
+        weight: read_f32(weight, i),
+    }
+}
+
+// The cubic whose start is point i.
+fn cubic_from(x: &[f32], y: &[f32], weight: &[f32], i: usize) -> Cubic
+    requires { ⌜ i < 2 ^ 63 ⌝ }
+    ensures { λ r. ⌜ r ≡ cubicFrom (columns (now (x .entry)) (now (y .entry)) (now (weight .entry)) []) i ⌝ }
+{
+    let i1 = i + 1;
+    let i2 = i + 2;
+    let i3 = i + 3;
+    let p0 = stored_point(x, y, weight, i);
+    let p1 = stored_point(x, y, weight, i1);
+    let p2 = stored_point(x, y, weight, i2);
+    let p3 = stored_point(x, y, weight, i3);
+    Cubic { p0, p1, p2, p3 }
+}
+
+// A Move, a Line or a Quad, where j points are used up before it: it starts from the last of them.
+fn command_primitive(x: &[f32], y: &[f32], weight: &[f32], k: u8, j: usize) -> Primitive
+    requires { ⌜ (k < 3) × (j < 2 ^ 63) ⌝ }
+    ensures { λ r. ⌜ r ∷ [] ≡ commandPrimitivesOf (columns (now (x .entry)) (now (y .entry)) (now (weight .entry)) []) k j ⌝ }
+{
+    if k == 0 {
+        return Primitive::Contour;
+    }
+    let p0 = stored_point(x, y, weight, below(j));
+    let p1 = stored_point(x, y, weight, j);
+    if k == LINE {
+        return Primitive::Line(p0, p1);
+    }
+    let next = j + 1;
+    Primitive::Quad(p0, p1, stored_point(x, y, weight, next))
+}
+
+fn uses(k: u8) -> usize
+    ensures { λ r. ⌜ r ≡ usesOf k ⌝ }
+{
+    if k == 0 { 1 } else { k as usize }
+}
+
+// The points used up behind the command k. A number without a point stays, so that it never wraps.
+fn advance(j: usize, k: u8) -> usize
+    ensures { λ r. ⌜ r ≡ cond (ltb j (2 ^ 62)) (j + usesOf k) j ⌝ }
+{
+    if j < NO_POINT {
+        return j + uses(k);
+    }
+    j
+}
+
+// The primitives of the command k, where j points are used up before it.
+fn push_command(
+    x: &[f32],
+    y: &[f32],
+    weight: &[f32],
+    quad_x: &mut [f32],
+    quad_y: &mut [f32],
+    quad_weight: &mut [f32],
+    x0: &mut [f32],
+    dx_recip: &mut [f32],
+    k0: &mut [f32],
+    dk: &mut [f32],
+    curvatures_recip: &mut [f32],
+    partial_curvatures: &mut [f32],
+    partial_splines: &mut [u32],
+    curvature: &mut [f32],
+    p0x: &mut [f32],
+    p0y: &mut [f32],
+    p2x: &mut [f32],
+    p2y: &mut [f32],
+    contour: &mut [u8],
+    setting: Setting,
+    caps: Capacities,
+    st: State,
+    k: u8,
+    j: usize,
+) -> State
+    requires { ⌜ j < 2 ^ 63 ⌝ }
+    ensures { λ r. ⌜ world r (quadTable (now («quad_x» .exit)) (now («quad_y» .exit)) (now («quad_weight» .exit)) (now (x0 .exit)) (now («dx_recip» .exit)) (now (k0 .exit)) (now (dk .exit)) (now («curvatures_recip» .exit)) (now («partial_curvatures» .exit)) (now («partial_splines» .exit))) (splineTable (now (curvature .exit)) (now (p0x .exit)) (now (p0y .exit)) (now (p2x .exit)) (now (p2y .exit)) (now (contour .exit))) ≡ runOf setting caps (commandPrimitivesOf (columns (now (x .entry)) (now (y .entry)) (now (weight .entry)) []) k j) (world st (quadTable (now («quad_x» .entry)) (now («quad_y» .entry)) (now («quad_weight» .entry)) (now (x0 .entry)) (now («dx_recip» .entry)) (now (k0 .entry)) (now (dk .entry)) (now («curvatures_recip» .entry)) (now («partial_curvatures» .entry)) (now («partial_splines» .entry))) (splineTable (now (curvature .entry)) (now (p0x .entry)) (now (p0y .entry)) (now (p2x .entry)) (now (p2y .entry)) (now (contour .entry)))) ⌝ }
+{
+    if k < CUBIC {
+        let p = command_primitive(x, y, weight, k, j);
+        return push(
+            quad_x,
+            quad_y,
+            quad_weight,
+            x0,
+            dx_recip,
+            k0,
+            dk,
+            curvatures_recip,
+            partial_curvatures,
+            partial_splines,
+            curvature,
+            p0x,
+            p0y,
+            p2x,
+            p2y,
+            contour,
+            setting,
+            caps,
+            st,
+            p,
+        );
+    }
+    let c = cubic_from(x, y, weight, below(j));
+    push_cubic(
+        quad_x,
+        quad_y,
+        quad_weight,
+        x0,
+        dx_recip,
+        k0,
+        dk,
+        curvatures_recip,
+        partial_curvatures,
+        partial_splines,
+        curvature,
+        p0x,
+        p0y,
+        p2x,
+        p2y,
+        contour,
+        setting,
+        caps,
+        st,
+        c,
+    )
+}
+
+// The tables of a drawing: its commands are taken in order, and a refusal stops the run.
+pub fn fill(
+    x: &[f32],
+    y: &[f32],
+    weight: &[f32],
+    commands: &[u8],
+    quad_x: &mut [f32],
+    quad_y: &mut [f32],
+    quad_weight: &mut [f32],
+    x0: &mut [f32],
+    dx_recip: &mut [f32],
+    k0: &mut [f32],
+    dk: &mut [f32],
+    curvatures_recip: &mut [f32],
+    partial_curvatures: &mut [f32],
+    partial_splines: &mut [u32],
+    curvature: &mut [f32],
+    p0x: &mut [f32],
+    p0y: &mut [f32],
+    p2x: &mut [f32],
+    p2y: &mut [f32],
+    contour: &mut [u8],
+    setting: Setting,
+    store: StoreState,
+) -> State
+    ensures { λ r. ⌜ world r (quadTable (now («quad_x» .exit)) (now («quad_y» .exit)) (now («quad_weight» .exit)) (now (x0 .exit)) (now («dx_recip» .exit)) (now (k0 .exit)) (now (dk .exit)) (now («curvatures_recip» .exit)) (now («partial_curvatures» .exit)) (now («partial_splines» .exit))) (splineTable (now (curvature .exit)) (now (p0x .exit)) (now (p0y .exit)) (now (p2x .exit)) (now (p2y .exit)) (now (contour .exit))) ≡ tablesOf setting store (columns (now (x .entry)) (now (y .entry)) (now (weight .entry)) (now (commands .entry))) (quadTable (now («quad_x» .entry)) (now («quad_y» .entry)) (now («quad_weight» .entry)) (now (x0 .entry)) (now («dx_recip» .entry)) (now (k0 .entry)) (now (dk .entry)) (now («curvatures_recip» .entry)) (now («partial_curvatures» .entry)) (now («partial_splines» .entry))) (splineTable (now (curvature .entry)) (now (p0x .entry)) (now (p0y .entry)) (now (p2x .entry)) (now (p2y .entry)) (now (contour .entry))) ⌝ }
+{
+    let caps = Capacities {
+        quads: quad_capacity(
+            &quad_x[..],
+            &quad_y[..],
+            &quad_weight[..],
+            &x0[..],
+            &dx_recip[..],
+            &k0[..],
+            &dk[..],
+            &curvatures_recip[..],
+            &partial_curvatures[..],
+            &partial_splines[..],
+        ),
+        splines: spline_capacity(
+            &curvature[..],
+            &p0x[..],
+            &p0y[..],
+            &p2x[..],
+            &p2y[..],
+            &contour[..],
+        ),
+    };
+    let n = least(store.commands, commands.len());
+    let mut state = State {
+        answer: Answer::Done,
+        splines: 0,
+        quads: 0,
+        mark: true,
+        last: Angle::Missing,
+    };
+    let mut going = true;
+    let mut i = 0;
+    let mut j = 0;
+    while (i < n) & going {
+        let k = read_u8(commands, i);
+        state = push_command(
+            x,
+            y,
+            weight,
+            quad_x,
+            quad_y,
+            quad_weight,
+            x0,
+            dx_recip,
+            k0,
+            dk,
+            curvatures_recip,
+            partial_curvatures,
+            partial_splines,
+            curvature,
+            p0x,
+            p0y,
+            p2x,
+            p2y,
+            contour,
+            setting,
+            caps,
+            state,
+            k,
+            j,
+        );
+        let answer = state.answer;
+        going = is_done(answer);
+        j = advance(j, k);
+        i += 1;
+    }
+    state
+}

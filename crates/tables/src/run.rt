@@ -1,0 +1,221 @@
+// Primitives pushed into the tables: push_line, push_quad and push_cubic of path.rs, by way of the plan.
+use crate::rows::last_spline;
+use crate::rows::put_quad;
+use crate::rows::put_spline;
+use answer::is_done;
+use primitives::Capacities;
+use primitives::Cubic;
+use primitives::Edit;
+use primitives::Primitive;
+use primitives::Setting;
+use primitives::State;
+use primitives::cubic_pieces;
+use primitives::cubic_point;
+use primitives::piece;
+use primitives::plan;
+ghost use mathlib.Core.Path.{_≡_};
+ghost use mathlib.Core.List.{[], _∷_};
+ghost use Rattle.primitives.specs.Cubics.{cubicQuadsOf};
+ghost use Rattle.tables.specs.Tables.{quadTable, splineTable};
+ghost use Rattle.tables.specs.Run.{world, applyOf, runOf};
+
+const MAX_PIECES: u32 = 1024;
+
+// The few changes of an edit, in the tables.
+fn apply(
+    quad_x: &mut [f32],
+    quad_y: &mut [f32],
+    quad_weight: &mut [f32],
+    x0: &mut [f32],
+    dx_recip: &mut [f32],
+    k0: &mut [f32],
+    dk: &mut [f32],
+    curvatures_recip: &mut [f32],
+    partial_curvatures: &mut [f32],
+    partial_splines: &mut [u32],
+    curvature: &mut [f32],
+    p0x: &mut [f32],
+    p0y: &mut [f32],
+    p2x: &mut [f32],
+    p2y: &mut [f32],
+    contour: &mut [u8],
+    edit: Edit,
+) -> State
+    ensures { λ r. ⌜ world r (quadTable (now («quad_x» .exit)) (now («quad_y» .exit)) (now («quad_weight» .exit)) (now (x0 .exit)) (now («dx_recip» .exit)) (now (k0 .exit)) (now (dk .exit)) (now («curvatures_recip» .exit)) (now («partial_curvatures» .exit)) (now («partial_splines» .exit))) (splineTable (now (curvature .exit)) (now (p0x .exit)) (now (p0y .exit)) (now (p2x .exit)) (now (p2y .exit)) (now (contour .exit))) ≡ applyOf edit (quadTable (now («quad_x» .entry)) (now («quad_y» .entry)) (now («quad_weight» .entry)) (now (x0 .entry)) (now («dx_recip» .entry)) (now (k0 .entry)) (now (dk .entry)) (now («curvatures_recip» .entry)) (now («partial_curvatures» .entry)) (now («partial_splines» .entry))) (splineTable (now (curvature .entry)) (now (p0x .entry)) (now (p0y .entry)) (now (p2x .entry)) (now (p2y .entry)) (now (contour .entry))) ⌝ }
+{
+    match edit {
+        Edit::Keep(st) => st,
+        Edit::Extend(spline) => {
+            put_spline(curvature, p0x, p0y, p2x, p2y, contour, spline);
+            spline.next
+        }
+        Edit::Bend(spline, i, row) => {
+            put_quad(
+                quad_x,
+                quad_y,
+                quad_weight,
+                x0,
+                dx_recip,
+                k0,
+                dk,
+                curvatures_recip,
+                partial_curvatures,
+                partial_splines,
+                i,
+                row,
+            );
+            put_spline(curvature, p0x, p0y, p2x, p2y, contour, spline);
+            spline.next
+        }
+    }
+}
+
+// One primitive, where nothing was refused before it.
+pub fn push(
+    quad_x: &mut [f32],
+    quad_y: &mut [f32],
+    quad_weight: &mut [f32],
+    x0: &mut [f32],
+    dx_recip: &mut [f32],
+    k0: &mut [f32],
+    dk: &mut [f32],
+    curvatures_recip: &mut [f32],
+    partial_curvatures: &mut [f32],
+    partial_splines: &mut [u32],
+    curvature: &mut [f32],
+    p0x: &mut [f32],
+    p0y: &mut [f32],
+    p2x: &mut [f32],
+    p2y: &mut [f32],
+    contour: &mut [u8],
+    setting: Setting,
+    caps: Capacities,
+    st: State,
+    p: Primitive,
+) -> State
+    ensures { λ r. ⌜ world r (quadTable (now («quad_x» .exit)) (now («quad_y» .exit)) (now («quad_weight» .exit)) (now (x0 .exit)) (now («dx_recip» .exit)) (now (k0 .exit)) (now (dk .exit)) (now («curvatures_recip» .exit)) (now («partial_curvatures» .exit)) (now («partial_splines» .exit))) (splineTable (now (curvature .exit)) (now (p0x .exit)) (now (p0y .exit)) (now (p2x .exit)) (now (p2y .exit)) (now (contour .exit))) ≡ runOf setting caps (p ∷ []) (world st (quadTable (now («quad_x» .entry)) (now («quad_y» .entry)) (now («quad_weight» .entry)) (now (x0 .entry)) (now («dx_recip» .entry)) (now (k0 .entry)) (now (dk .entry)) (now («curvatures_recip» .entry)) (now («partial_curvatures» .entry)) (now («partial_splines» .entry))) (splineTable (now (curvature .entry)) (now (p0x .entry)) (now (p0y .entry)) (now (p2x .entry)) (now (p2y .entry)) (now (contour .entry)))) ⌝ }
+{
+    let answer = st.answer;
+    if !is_done(answer) {
+        return st;
+    }
+    let last = last_spline(
+        &curvature[..],
+        &p0x[..],
+        &p0y[..],
+        &p2x[..],
+        &p2y[..],
+        &contour[..],
+        st.splines,
+    );
+    let edit = plan(setting, caps, st, last, p);
+    apply(
+        quad_x,
+        quad_y,
+        quad_weight,
+        x0,
+        dx_recip,
+        k0,
+        dk,
+        curvatures_recip,
+        partial_curvatures,
+        partial_splines,
+        curvature,
+        p0x,
+        p0y,
+        p2x,
+        p2y,
+        contour,
+        edit,
+    )
+}
+
+// The pieces of a cubic, or the refusal of too many of them.
+pub fn push_cubic(
+    quad_x: &mut [f32],
+    quad_y: &mut [f32],
+    quad_weight: &mut [f32],
+    x0: &mut [f32],
+    dx_recip: &mut [f32],
+    k0: &mut [f32],
+    dk: &mut [f32],
+    curvatures_recip: &mut [f32],
+    partial_curvatures: &mut [f32],
+    partial_splines: &mut [u32],
+    curvature: &mut [f32],
+    p0x: &mut [f32],
+    p0y: &mut [f32],
+    p2x: &mut [f32],
+    p2y: &mut [f32],
+    contour: &mut [u8],
+    setting: Setting,
+    caps: Capacities,
+    st: State,
+    c: Cubic,
+) -> State
+    ensures { λ r. ⌜ world r (quadTable (now («quad_x» .exit)) (now («quad_y» .exit)) (now («quad_weight» .exit)) (now (x0 .exit)) (now («dx_recip» .exit)) (now (k0 .exit)) (now (dk .exit)) (now («curvatures_recip» .exit)) (now («partial_curvatures» .exit)) (now («partial_splines» .exit))) (splineTable (now (curvature .exit)) (now (p0x .exit)) (now (p0y .exit)) (now (p2x .exit)) (now (p2y .exit)) (now (contour .exit))) ≡ runOf setting caps (cubicQuadsOf c) (world st (quadTable (now («quad_x» .entry)) (now («quad_y» .entry)) (now («quad_weight» .entry)) (now (x0 .entry)) (now («dx_recip» .entry)) (now (k0 .entry)) (now (dk .entry)) (now («curvatures_recip» .entry)) (now («partial_curvatures» .entry)) (now («partial_splines» .entry))) (splineTable (now (curvature .entry)) (now (p0x .entry)) (now (p0y .entry)) (now (p2x .entry)) (now (p2y .entry)) (now (contour .entry)))) ⌝ }
+{
+    let n = cubic_pieces(c);
+    if n > MAX_PIECES {
+        return push(
+            quad_x,
+            quad_y,
+            quad_weight,
+            x0,
+            dx_recip,
+            k0,
+            dk,
+            curvatures_recip,
+            partial_curvatures,
+            partial_splines,
+            curvature,
+            p0x,
+            p0y,
+            p2x,
+            p2y,
+            contour,
+            setting,
+            caps,
+            st,
+            Primitive::Excess,
+        );
+    }
+    let incr = 1.0 / n as f32;
+    let mut state = st;
+    let mut start = c.p0.applied();
+    let mut i = 1;
+    let answer = st.answer;
+    let mut going = is_done(answer);
+    while (i <= n) & going {
+        let t = i as f32 * incr;
+        let end = cubic_point(c, t);
+        let quad = piece(c, start, end, t - 0.5 * incr);
+        state = push(
+            quad_x,
+            quad_y,
+            quad_weight,
+            x0,
+            dx_recip,
+            k0,
+            dk,
+            curvatures_recip,
+            partial_curvatures,
+            partial_splines,
+            curvature,
+            p0x,
+            p0y,
+            p2x,
+            p2y,
+            contour,
+            setting,
+            caps,
+            state,
+            quad,
+        );
+        let answer = state.answer;
+        going = is_done(answer);
+        start = end;
+        i += 1;
+    }
+    state
+}
