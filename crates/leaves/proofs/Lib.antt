@@ -1,8 +1,13 @@
-pub mod Against
+pub mod Shifts
+pub mod Comparisons
 pub mod Signs
 pub mod WholeUp
 pub mod FmaParts
+pub mod FmaNearest
 pub mod RootParts
+pub mod RootNearest
 pub mod LimbLaws
+pub mod Halving
 pub mod SixthParts
 pub mod SixthLargest
+pub mod Fits

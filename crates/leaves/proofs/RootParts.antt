@@ -1,16 +1,16 @@
 -- `sqrtOf` by the tests that the code makes, and from the digits of a pattern. Assumes nothing.
 use mathlib.Core.Path.{_≡_, refl, sym, ap, _∙_}
 use mathlib.Core.Bool.{Bool, true, false}
-use Prim.Native.Nat.{ℕ, zero, suc, _*_, _/_, _^_, _<_}
+use Prim.Native.Nat.{ℕ, suc, _*_, _/_, _^_, _<_}
 use native.Mathlib.Nat.{mul-right-comm, mul-div-cancel}
 use lib.IntN.{ℤ}
-use lib.Ieee.{Float, nan, inf, fin, binary32, up, down, lt, eq, div}
+use lib.Ieee.{Float, inf, fin, binary32, up, down, lt, eq, div}
 use lib.Ieee.Fits.{down-pos}
 use lib.Ieee.Exact.{HasValue}
 use Rattle.rounding.specs.Roots.{rooted}
 use Rattle.leaves.specs.Sqrt.{sqrt32, sqrtOf}
-use Rattle.leaves.proofs.Against as Against
-use Rattle.leaves.proofs.Against.{plain, positive-is, only-infinity, only-zero}
+use Rattle.leaves.proofs.Comparisons as Comparisons
+use Rattle.leaves.proofs.Comparisons.{plain, positive-is, only-infinity, only-zero}
 
 squares : (x A d L : ℕ) → 0 < d → x * L ≡ A * d → x * L * L / d ≡ A * L
 squares x A d L D e = ap (λ (y : ℕ). y * L / d) e ∙ ap (λ (y : ℕ). y / d) (mul-right-comm A d L) ∙ mul-div-cancel (A * L) D
@@ -36,4 +36,4 @@ at-zero x h = let z = only-zero x h in z .2 ∙ sym (ap (sqrtOf binary32) (z .2)
 
 pub elsewhere : (x : Float) → lt plain x ≡ false → eq x plain ≡ false → div binary32 plain plain ≡ sqrt32 x
 unfolding div sqrtOf
-elsewhere x h k = sym (Against.elsewhere (sqrtOf binary32) refl refl (λ m e. refl) x h k)
+elsewhere x h k = sym (Comparisons.elsewhere (sqrtOf binary32) refl refl (λ m e. refl) x h k)

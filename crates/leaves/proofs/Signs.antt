@@ -10,7 +10,6 @@ use lib.Dec.{T, leb, eqb}
 use lib.Ieee.{Float, nan, inf, fin, Format, binary32, up, down, top, lt, eq, ne, neg, fits, isNan, toBits}
 use lib.Ieee.Fits.{neg-fits}
 use lib.Ieee.Bits.{toBits-lt}
-use lib.Ieee.Compare.{nan-differs}
 use Rattle.leaves.specs.Small.{negativeOf, absOf, lessOf, minOf, maxOf, clampOf}
 
 -- ---- x != x is the test for a NaN

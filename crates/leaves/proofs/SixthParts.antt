@@ -1,32 +1,23 @@
 -- `root` and `sixthRootOf`: what they are, and from fewer digits. Assumes nothing.
-use mathlib.Core.Path.{_≡_, refl, sym, ap, ap₂, _∙_, subst}
-use mathlib.Core.Logic.{_⊎_, inl, inr}
-use mathlib.Core.Bool.{Bool, true, false, not, cond, _&&_, _||_, Bool·beq, true≢false}
+use mathlib.Core.Path.{_≡_, refl, sym, ap, _∙_, subst}
+use mathlib.Core.Logic.{inr}
+use mathlib.Core.Bool.{Bool, true, false, not, cond}
 use Prim.Native.Nat.{ℕ, zero, suc, _+_, _-_, _*_, _/_, _%_, _^_, _≤_, _<_, zero-le}
-use native.Mathlib.Nat.{mul-one, zero-mul, mul-pos, mul-right-comm, mul-div-cancel, pow-zero, pow-suc, mul-zero, mul-suc, mul-mul-mul-comm, mul-comm, mul-assoc, div-lt-iff-lt-mul, div-eq-of-lt-le, zero-lt-suc, pow-le-pow-left, pow-lt-pow-left, lt-of-lt-of-le, lt-of-le-of-lt, lt-of-not-le, not-le-of-lt, le-trans, le-of-eq, mul-le-mul-right, mul-lt-mul-of-pos-right}
+use native.Mathlib.Nat.{mul-right-comm, mul-div-cancel, pow-suc, mul-assoc, div-lt-iff-lt-mul, div-eq-of-lt-le, zero-lt-suc, pow-le-pow-left, lt-of-lt-of-le, lt-of-le-of-lt, lt-of-not-le, not-le-of-lt, le-trans, le-of-eq, mul-le-mul-right, mul-lt-mul-of-pos-right}
 use native.Mathlib.Omega.{arith}
-use lib.Dec.{T, leb, ltb, eqb, leb→le, nleb→lt, eqb→eq}
-use lib.IntN.{ℤ, pos}
-use borrow.Author.Tests.{lt-ltb, ltb-true}
+use lib.Dec.{T, leb, leb→le, nleb→lt}
+use lib.IntN.{ℤ}
 use lib.Pow.{pow-add, pow-pos}
-use lib.Ieee.{Float, nan, inf, fin, Format, binary32, prec, size, units, up, down, lt, eq, div}
+use lib.Ieee.{Float, inf, fin, Format, binary32, prec, size, units, up, down, lt, eq, div}
 use lib.Ieee.Digits.{size-lt}
-use lib.Ieee.Fits.{two, two-le-pos, up-pos, down-pos}
+use lib.Ieee.Fits.{two, two-le-pos, down-pos}
 use lib.Ieee.Exact.{HasValue}
-use Rattle.leaves.proofs.Against as Against
-use Rattle.leaves.proofs.Against.{plain, positive-is, only-infinity, only-zero}
+use Rattle.leaves.proofs.Comparisons as Comparisons
+use Rattle.leaves.proofs.Comparisons.{plain, positive-is, only-infinity, only-zero}
+use Rattle.rounding.proofs.Basics.{le-of-lt-one, mul-pow, pow-pow}
 use Rattle.rounding.proofs.Rounding.{size-at}
 use Rattle.leaves.specs.Sixth.{sixthIn, wholeSixth, cutTo, sixthRootOf}
 use Rattle.leaves.specs.Power.{IsSixthRoot}
-
--- ---- powers
-pub mul-pow : (a b n : ℕ) → (a * b) ^ n ≡ a ^ n * b ^ n
-mul-pow a b zero = pow-zero (a * b) ∙ sym (ap₂ (λ (x y : ℕ). x * y) (pow-zero a) (pow-zero b))
-mul-pow a b (suc n) = pow-suc (a * b) n ∙ ap (λ (x : ℕ). x * (a * b)) (mul-pow a b n) ∙ mul-mul-mul-comm (a ^ n) (b ^ n) a b ∙ sym (ap₂ (λ (x y : ℕ). x * y) (pow-suc a n) (pow-suc b n))
-
-pub pow-pow : (a k n : ℕ) → (a ^ k) ^ n ≡ a ^ (k * n)
-pow-pow a k zero = pow-zero (a ^ k) ∙ sym (ap (λ (x : ℕ). a ^ x) (mul-zero k) ∙ pow-zero a)
-pow-pow a k (suc n) = pow-suc (a ^ k) n ∙ ap (λ (x : ℕ). x * a ^ k) (pow-pow a k n) ∙ sym (pow-add a (k * n) k) ∙ ap (λ (x : ℕ). a ^ x) (sym (mul-suc k n))
 
 -- an order of sixth powers is one of the numbers
 pub sixth-lt : (a b n : ℕ) → a ^ 6 ≤ n → n < b ^ 6 → a < b
@@ -72,9 +63,6 @@ module _ (f : Format) (n s k : ℕ) (r : IsSixthRoot n s) (lo : 2 ^ (prec f - 1)
   w-ge : s * 2 ^ k ≤ w
   unfolding w N
   w-ge = le-of-lt-one (s * 2 ^ k) w (sixth-lt (s * 2 ^ k) (w + 1) N (le-trans (le-of-eq (mul-pow s (2 ^ k) 6)) (mul-le-mul-right ((2 ^ k) ^ 6) (r .0))) (whole-sixth-is N .1))
-    where
-      le-of-lt-one : (a b : ℕ) → a < b + 1 → a ≤ b
-      le-of-lt-one a b l = omega arith
 
   U : 0 < (2 ^ k) ^ 6
   U = subst (λ (x : ℕ). 0 < x) (sym (pow-pow 2 k 6)) (pow-pos (k * 6))
@@ -146,4 +134,4 @@ at-zero x h = let z = only-zero x h in sym (ap sixthRootOf (z .2))
 
 pub elsewhere : (x : Float) → lt plain x ≡ false → eq x plain ≡ false → div binary32 plain plain ≡ sixthRootOf x
 unfolding div sixthRootOf
-elsewhere x h k = sym (Against.elsewhere sixthRootOf refl refl (λ m e. refl) x h k)
+elsewhere x h k = sym (Comparisons.elsewhere sixthRootOf refl refl (λ m e. refl) x h k)

@@ -7,7 +7,7 @@ use native.Mathlib.Nat.{zero-mul, mul-one, mul-assoc, mul-comm, mul-right-comm, 
 use native.Mathlib.Omega.{arith}
 use lib.IntN.{ℤ, pos}
 use lib.Dec.{T, leb, ltb, eqb, ltb→lt, eqb→eq}
-use lib.Pow.{pow-add, pow-pos, pow-mono, pow-lt}
+use lib.Pow.{pow-add, pow-pos, pow-lt}
 use lib.Ieee.{Float, nan, inf, fin, binary32, up, down, round, le, lt, eq, fits, isNan, toBits, ofBits}
 use lib.Ieee.Fits.{and-l}
 use lib.Ieee.Exact.{HasValue}
@@ -20,7 +20,7 @@ use Rattle.rounding.proofs.Values.{cross}
 use Rattle.leaves.specs.Single.{zero32}
 use Rattle.leaves.specs.Small.{ceilOf}
 use Rattle.leaves.specs.Whole.{limit32, wholeUpOf}
-use Rattle.leaves.proofs.Against.{plain, zero-is, no}
+use Rattle.leaves.proofs.Comparisons.{plain, zero-is, no}
 
 -- ---- t / w up to a whole number
 up-bounds : (t w : ℕ) → 0 < w → (t ≤ (t + w - 1) / w * w) × ((t + w - 1) / w * w < t + w)
@@ -221,3 +221,19 @@ place-small x s t p v h l = elim l [
 pub whole-up-is : (x : Float) (a b : Bool) → le zero32 x ≡ a → le x limit32 ≡ b → cond (a && b) ((num x + den x - 1) / den x) 65537 ≡ wholeUpOf x
 unfolding wholeUpOf
 whole-up-is x a b h k = ap₂ (λ (p q : Bool). cond (p && q) ((num x + den x - 1) / den x) 65537) (sym h) (sym k)
+
+-- ---- so it is the least whole number not below x, and at most 65,536
+pub whole-up-least : (x : Float) → le zero32 x ≡ true → le x limit32 ≡ true → (num x ≤ wholeUpOf x * den x) × (wholeUpOf x * den x < num x + den x)
+whole-up-least x h k = subst (λ (r : ℕ). (num x ≤ r * den x) × (r * den x < num x + den x)) (whole-up-is x true true h k) (up-bounds (num x) (den x) (den-pos x))
+
+pub whole-up-le : (x : Float) → le zero32 x ≡ true → le x limit32 ≡ true → wholeUpOf x ≤ 65536
+whole-up-le x h k =
+    last (wholeUpOf x)
+    (lt-of-mul-lt-mul-right (den x)
+    (lt-of-lt-of-le (whole-up-least x h k .1) (le-trans (more (num x) (65536 * den x) (den x) (in-range x h k .1)) (le-of-eq (sym (add-mul 65536 1 (den x) ∙ ap (λ (y : ℕ). 65536 * den x + y) (one-mul (den x))))))))
+  where
+    more : (a b d : ℕ) → a ≤ b → a + d ≤ b + d
+    more a b d h = omega arith
+
+    last : (r : ℕ) → r < 65537 → r ≤ 65536
+    last r h = omega arith

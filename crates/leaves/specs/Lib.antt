@@ -1,5 +1,6 @@
 pub mod Single
 pub mod Fma
+pub mod Exact
 pub mod Aligned
 pub mod Sqrt
 pub mod Small

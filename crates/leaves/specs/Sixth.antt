@@ -5,7 +5,7 @@ use Prim.Native.Nat.{ℕ, zero, suc, _+_, _-_, _*_, _/_, _^_, _≤_}
 use mathlib.Core.Bool.{true, false, cond}
 use lib.Dec.{T, leb}
 use lib.IntN.{pos}
-use lib.Ieee.{Float, nan, inf, fin, Format, prec, binary32, up, down, size, units, fits}
+use lib.Ieee.{Float, nan, inf, fin, Format, prec, binary32, up, down, size, units, fits, toBits, ofBits}
 use lib.Ieee.Scale.{finite}
 use lib.Ieee.Positive.{num, den}
 
@@ -35,3 +35,7 @@ pub record Largest (q r : Float) : Type 0 where
   pub whole : T (finite r)
   pub low : num r ^ 6 * den q ≤ num q * den r ^ 6
   pub most : (x : Float) → T (fits binary32 x) → T (finite x) → num x ^ 6 * den q ≤ num q * den x ^ 6 → num x * den r ≤ num r * den x
+
+-- the next f32 above an r from 0 up: patterns are in the order of the values
+abbrev pub nextUp : Float → Float
+nextUp r = ofBits binary32 (toBits binary32 r + 1)

@@ -7,13 +7,41 @@ ghost use lib.Ieee.{binary32};
 ghost use Rattle.leaves.specs.Sixth.{wholeSixth, cutTo, sixthRootOf};
 ghost use Rattle.leaves.specs.Power.{IsSixthRoot};
 
-// The largest r with r ^ 6 at most t * 2 ^ 108, by halving.
+// The sixth power of a number of ten digits.
+fn short_power(s: u64) -> u64
+    requires { ⌜ s < 1024 ⌝ }
+    ensures { λ r. ⌜ r ≡ s ^ 6 ⌝ }
+{
+    let c = s * s * s;
+    c * c
+}
+
+// The ten leading digits of the root below, by halving over numbers that fit 64 digits.
+fn leading(t: u64) -> u64
+    requires { ⌜ t < 2 ^ 36 ⌝ }
+    ensures { λ r. ⌜ (r < 1024) × IsSixthRoot (t * 2 ^ 24) r ⌝ }
+{
+    let n = t * 0x100_0000;
+    let mut lo = 0u64;
+    let mut hi = 1024u64;
+    while hi - lo > 1 {
+        let mid = (lo + hi) / 2;
+        if short_power(mid) <= n {
+            lo = mid;
+        } else {
+            hi = mid;
+        }
+    }
+    lo
+}
+
+// The largest r with r ^ 6 at most t * 2 ^ 108, by halving from its ten leading digits on.
 fn settle(t: u64) -> u64
     requires { ⌜ t < 2 ^ 36 ⌝ }
     ensures { λ r. ⌜ IsSixthRoot (t * 2 ^ 108) r ⌝ }
 {
-    let mut lo = 0u64;
-    let mut hi = 0x100_0000u64;
+    let mut lo = leading(t) * 0x4000;
+    let mut hi = lo + 0x4000;
     while hi - lo > 1 {
         let mid = (lo + hi) / 2;
         if power::under(mid, t) {

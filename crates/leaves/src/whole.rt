@@ -37,6 +37,7 @@ pub fn ceil(x: f32) -> f32
     let b = f32::to_bits(x);
     let t = parts::digits(b);
     let p = parts::place(b);
+    // here x is whole, and rounding gives it back
     if p >= 149 {
         return parts::rounded(parts::minus(b), t, p + 1, 0);
     }

@@ -1,5 +1,16 @@
 // The program's listing: key=value lines in, points out, on slices.
+
 use answer::Answer;
+use point::Point;
+use store::Call;
+use store::StoreState;
+
+mod commands;
+mod fields;
+mod reading;
+mod writing;
+
+pub use fields::field_at;
 
 pub enum Op {
     Move,
@@ -8,4 +19,52 @@ pub enum Op {
     RatQuad,
     Cubic,
     RatCubic,
+}
+
+// What stands where an op line is due.
+pub enum OpAt {
+    Found(Op),
+    Wrong,
+}
+
+// What stands where a field is due: its key, eight digits and a line end; or something else.
+pub enum Field {
+    Value(f32),
+    Wrong,
+}
+
+// Two fields, two points or three points that are read, or the line of the first fault.
+pub enum Pair {
+    Read(f32, f32),
+    Wrong(usize),
+}
+
+pub enum TwoPoints {
+    Read(Point, Point),
+    Wrong(usize),
+}
+
+pub enum ThreePoints {
+    Read(Point, Point, Point),
+    Wrong(usize),
+}
+
+// One command: its call, with the place and line behind it; a fault's line; or the end of the text.
+pub enum Command {
+    Drawing(Call, usize, usize),
+    Fault(usize),
+    Finish,
+}
+
+// How far a listing is read: the store, and the place and line of the next command; the store at the end; or the answer and its line.
+pub enum Progress {
+    Going(StoreState, usize, usize),
+    Finished(StoreState),
+    Stopped(Answer, usize),
+}
+
+// How many bytes are written; or that the output is too short for them, and none is.
+pub enum Listed {
+    Bytes(usize),
+    Short,
 }

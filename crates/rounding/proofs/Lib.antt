@@ -1,3 +1,4 @@
+pub mod Basics
 pub mod Halves
 pub mod Rounding
 pub mod Packing
@@ -6,4 +7,9 @@ pub mod Values
 pub mod Sums
 pub mod Lifts
 pub mod Roots
-pub mod Near
+pub mod RootTest
+pub mod Signed
+pub mod Grid
+pub mod Closest
+pub mod Nearest
+pub mod RootNearest

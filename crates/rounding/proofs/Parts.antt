@@ -1,20 +1,21 @@
 -- Laws of `sig` and `place`: what a pattern's parts are worth, their bounds, and how code has them by shifts and masks. Assumes nothing.
 use mathlib.Core.Path.{_≡_, refl, sym, ap, ap₂, _∙_, subst}
 use mathlib.Core.Logic.{_⊎_, inl, inr}
-use Prim.Native.Nat.{ℕ, zero, suc, _+_, _-_, _*_, _/_, _%_, _^_, _≤_, _<_, zero-le}
-use native.Mathlib.Nat.{pow-suc, zero-add, mul-comm, mul-pos, zero-lt-suc, mod-lt, div-lt-iff-lt-mul, le-add-right}
+use Prim.Native.Nat.{ℕ, zero, suc, _+_, _-_, _*_, _/_, _%_, _^_, _≤_, _<_}
+use native.Mathlib.Nat.{zero-add, mul-comm, mul-pos, zero-lt-suc, mod-lt, div-lt-iff-lt-mul, le-add-right}
 use native.Mathlib.Omega.{arith}
-use mathlib.Core.Bool.{Bool, true, false, not, cond}
+use mathlib.Core.Bool.{Bool, true, false, cond}
 use lib.Dec.{T, leb, eqb, eqb·suc-zero}
 use lib.Pow as Pow
 use lib.Pow.{pow-pos}
 use lib.Bits.{bitAnd, and-mask}
 use borrow.Author.Tests.{eq-eqb, ne-eqb}
-use lib.Ieee.{Float, nan, inf, fin, Format, prec, emax, low, odd, fits, hid, ones, top, toBits, ofBits, ofFields}
+use lib.Ieee.{Float, nan, inf, Format, prec, emax, low, odd, fits, hid, ones, top, toBits, ofBits, ofFields}
 use lib.Ieee.Fits.{two, two-le-pos}
 use lib.Ieee.Bits.{ofBits-toBits}
 use lib.Ieee.Exact.{HasValue, odd-sign}
 use lib.Ieee.Scale.{finite}
+use Rattle.rounding.proofs.Basics.{top-digit}
 use Rattle.rounding.specs.Parts.{field, sig, place}
 
 abbrev lead : Format → ℕ → ℕ
@@ -53,15 +54,9 @@ decode f v F h =
     subst (λ (w : Float). HasValue w (leb (top f) n) (sig f n * 2 ^ place f n) (2 ^ low f)) e (pattern-value f n (subst (λ (w : Float). T (finite w)) (sym e) h))
 
 -- ---- bounds
-two-hid : (p : ℕ) → 0 < p → 2 ^ p ≡ 2 * 2 ^ (p - 1)
-two-hid p P = ap (λ (x : ℕ). 2 ^ x) (up-one p P) ∙ pow-suc 2 (p - 1) ∙ mul-comm (2 ^ (p - 1)) 2
-  where
-    up-one : (p : ℕ) → 0 < p → p ≡ suc (p - 1)
-    up-one p P = omega arith
-
 pub sig-lt : (f : Format) (n : ℕ) → sig f n < 2 ^ prec f
 unfolding sig
-sig-lt f n = go (eqb (field f n) 0) (hid f) (n % hid f) (2 ^ prec f) (mod-lt n (pow-pos (prec f - 1))) (two-hid (prec f) (two-le-pos (prec f) (two f)))
+sig-lt f n = go (eqb (field f n) 0) (hid f) (n % hid f) (2 ^ prec f) (mod-lt n (pow-pos (prec f - 1))) (top-digit (prec f) (two-le-pos (prec f) (two f)) ∙ mul-comm (2 ^ (prec f - 1)) 2)
   where
     no : (h t w : ℕ) → t < h → w ≡ 2 * h → 0 + t < w
     no h t w l e = omega arith

@@ -2,16 +2,17 @@
 use mathlib.Core.Path.{_≡_, refl, sym, ap, ap₂, _∙_, subst}
 use mathlib.Core.Logic.{_⊎_, inl, inr}
 use Prim.Native.Nat.{ℕ, zero, suc, _+_, _-_, _*_, _/_, _%_, _^_, _≤_, _<_, zero-le, compare, Ordering, Ordering·lt, Ordering·eq, Ordering·gt}
-use native.Mathlib.Nat.{div-add-mod', mod-lt, mul-assoc, mul-comm, mul-left-comm, mul-mul-mul-comm, mul-pos, pow-suc, mul-le-mul, mul-lt-mul-of-pos-right, div-div-eq-div-mul, div-lt-iff-lt-mul, div-eq-of-lt-le, lt-of-lt-of-le, lt-of-le-of-lt, lt-of-not-le, not-le-of-lt, le-of-lt, le-trans, le-of-eq, le-refl, mul-le-mul-right, add-mul, mul-add, one-mul, mul-one, zero-lt-suc, eq-or-lt-of-le, pow-le-pow-left}
+use native.Mathlib.Nat.{mod-lt, mul-assoc, mul-mul-mul-comm, mul-pos, pow-suc, mul-le-mul, mul-lt-mul-of-pos-right, div-div-eq-div-mul, div-lt-iff-lt-mul, div-eq-of-lt-le, lt-of-lt-of-le, lt-of-le-of-lt, lt-of-not-le, not-le-of-lt, le-trans, le-of-eq, mul-le-mul-right, zero-lt-suc, eq-or-lt-of-le, pow-le-pow-left}
 use native.Mathlib.Omega.{arith}
 use mathlib.Core.Bool.{Bool, true, false, not, cond}
 use lib.Dec.{T, leb, leb→le, nleb→lt}
-use lib.Pow.{pow-add, pow-pos, pow-mono}
-use lib.Ieee.{Float, Format, prec, low, size, nearest, units}
+use lib.Pow.{pow-pos}
+use lib.Ieee.{Format, prec, low, size, nearest, units}
 use lib.Ieee.Digits.{size-lt}
 use lib.Ieee.Fits.{two, two-le-pos}
 use Rattle.rounding.specs.Halves.{halve}
 use Rattle.rounding.specs.Roots.{rootIn, root, rooted}
+use Rattle.rounding.proofs.Basics.{le-of-lt-one, half-lt, half-ge, top-digit}
 use Rattle.rounding.proofs.Halves.{halve-even, halve-tie, halve-over, Cmp, cmp}
 use Rattle.rounding.proofs.Rounding.{size-at}
 
@@ -145,9 +146,6 @@ module _ (f : Format) (n h j : ℕ) (r : IsRoot n h) (lo : 2 ^ prec f ≤ h) (hi
   w-ge : h * 2 ^ j ≤ w
   unfolding w N
   w-ge = le-of-lt-one (h * 2 ^ j) w (square-lt (h * 2 ^ j) (w + 1) N (le-trans (le-of-eq (grow h)) (mul-le-mul-right (2 ^ j * 2 ^ j) (r .0))) (root-is N .1))
-    where
-      le-of-lt-one : (a b : ℕ) → a < b + 1 → a ≤ b
-      le-of-lt-one a b l = omega arith
 
   w-lt : w < (h + 1) * 2 ^ j
   unfolding w N
@@ -156,22 +154,10 @@ module _ (f : Format) (n h j : ℕ) (r : IsRoot n h) (lo : 2 ^ prec f ≤ h) (hi
   w-div : w / 2 ^ suc j ≡ h / 2
   w-div = ap (λ (x : ℕ). w / x) (pow-suc 2 j) ∙ sym (div-div-eq-div-mul w (2 ^ j) 2) ∙ ap (λ (x : ℕ). x / 2) (div-eq-of-lt-le (2 ^ j) w-ge w-lt)
 
-  top-is : 2 ^ prec f ≡ 2 ^ (prec f - 1) * 2
-  top-is = ap (λ (x : ℕ). 2 ^ x) (up (prec f) (two-le-pos (prec f) (two f))) ∙ pow-suc 2 (prec f - 1)
-    where
-      up : (p : ℕ) → 0 < p → p ≡ suc (p - 1)
-      up p P = omega arith
-
   k-is : size w - prec f ≡ suc j
   k-is =
-      size-at (prec f) w (suc j) (two-le-pos (prec f) (two f)) (subst (λ (x : ℕ). x < 2 ^ prec f) (sym w-div) (below h (2 ^ prec f) (subst (λ (x : ℕ). h < x) (pow-suc 2 (prec f)) hi)))
-      (inr (subst (λ (x : ℕ). 2 ^ (prec f - 1) ≤ x) (sym w-div) (above h (2 ^ (prec f - 1)) (2 ^ prec f) top-is lo)))
-    where
-      below : (h b : ℕ) → h < b * 2 → h / 2 < b
-      below h b l = omega arith
-
-      above : (h b c : ℕ) → c ≡ b * 2 → c ≤ h → b ≤ h / 2
-      above h b c e l = omega arith
+      size-at (prec f) w (suc j) (two-le-pos (prec f) (two f)) (subst (λ (x : ℕ). x < 2 ^ prec f) (sym w-div) (half-lt h (2 ^ prec f) (subst (λ (x : ℕ). h < x) (pow-suc 2 (prec f)) hi)))
+      (inr (subst (λ (x : ℕ). 2 ^ (prec f - 1) ≤ x) (sym w-div) (half-ge h (2 ^ (prec f - 1)) (2 ^ prec f) (top-digit (prec f) (two-le-pos (prec f) (two f))) lo)))
 
   mid-is : (q : ℕ) → (2 * q + 1) * 2 ^ suc j * ((2 * q + 1) * 2 ^ suc j) ≡ (2 * q + 1) * (2 * q + 1) * (2 ^ j * 2 ^ j * 4)
   mid-is q = mul-mul-mul-comm (2 * q + 1) (2 ^ suc j) (2 * q + 1) (2 ^ suc j) ∙ ap (λ (x : ℕ). (2 * q + 1) * (2 * q + 1) * x) (ap (λ (x : ℕ). x * x) (pow-suc 2 j) ∙ mul-mul-mul-comm (2 ^ j) 2 (2 ^ j) 2)

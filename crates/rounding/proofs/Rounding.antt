@@ -1,19 +1,19 @@
 -- The rounding fact: `round` from a number of halves of the last digit that stays, and whether anything lies above them. Assumes nothing.
-use mathlib.Core.Path.{_≡_, refl, sym, ap, ap₂, _∙_, subst}
+use mathlib.Core.Path.{_≡_, sym, ap, ap₂, _∙_, subst}
 use mathlib.Core.Logic.{_⊎_, inl, inr}
-use Prim.Native.Nat.{ℕ, zero, suc, _+_, _-_, _*_, _/_, _%_, _^_, _≤_, _<_, zero-le, _∣_}
-use native.Mathlib.Nat.{div-add-mod', mod-lt, mul-assoc, mul-comm, mul-left-comm, mul-right-comm, mul-pos, pow-suc, mul-div-mul-right, div-div-eq-div-mul, div-lt-iff-lt-mul, le-div-iff-mul-le, lt-of-lt-of-le, lt-of-not-le, not-le-of-lt, le-antisymm, mul-le-mul-right, zero-lt-suc, zero-mul, eq-zero-or-pos, lt-irrefl, mul-lt-mul-of-pos-right, add-mul, add-sub-of-le, le-trans, lt-of-le-of-lt, le-add-right, mod-mod-of-dvd, dvd-mul-right, zero-mod}
+use Prim.Native.Nat.{ℕ, suc, _+_, _-_, _*_, _/_, _%_, _^_, _≤_, _<_, zero-le, _∣_}
+use native.Mathlib.Nat.{div-add-mod', mod-lt, mul-assoc, mul-comm, mul-right-comm, mul-pos, pow-suc, mul-div-mul-right, div-div-eq-div-mul, div-lt-iff-lt-mul, le-div-iff-mul-le, lt-of-lt-of-le, lt-of-not-le, not-le-of-lt, le-antisymm, zero-lt-suc, zero-mul, eq-zero-or-pos, lt-irrefl, mul-lt-mul-of-pos-right, add-mul, add-sub-of-le, le-trans, lt-of-le-of-lt, le-add-right, mod-mod-of-dvd, dvd-mul-right, zero-mod}
 use native.Mathlib.Omega.{arith}
-use mathlib.Core.Bool.{Bool, true, false, not}
-use lib.Dec.{T}
-use lib.Arith.{digits-div, digits-mod}
+use mathlib.Core.Bool.{Bool}
+use lib.Arith.{digits-mod}
 use lib.Pow.{pow-add, pow-pos, pow-mono, shr-shr}
-use lib.Ieee.{Float, Format, prec, emax, low, size, units, round}
+use lib.Ieee.{Format, prec, low, size, units, round}
 use lib.Ieee.Digits.{size-lt, size-le, size-reaches}
 use lib.Ieee.Fits.{round-is, two, two-le-pos, kept-lt}
 use lib.Ieee.Nearest.{closest}
-use lib.Ieee.Order.{drop, kept}
+use lib.Ieee.Order.{drop}
 use Rattle.rounding.specs.Halves.{halve}
+use Rattle.rounding.proofs.Basics.{half-lt, half-ge, top-digit, less-back}
 use Rattle.rounding.proofs.Halves.{closest-halves, halve-sticky}
 
 -- ---- how many digits are dropped
@@ -40,18 +40,6 @@ drop-at p n den k P hi lo =
     size-at p (n / den) k P (subst (λ (x : ℕ). x < 2 ^ p) (sym e) hi) (subst (λ (x : ℕ). (k ≡ 0) ⊎ (2 ^ (p - 1) ≤ x)) (sym e) lo)
 
 -- ---- `round`, by halves of what it keeps
-half-lt : (h b : ℕ) → h < b * 2 → h / 2 < b
-half-lt h b l = omega arith
-
-half-ge : (h b c : ℕ) → c ≡ b * 2 → c ≤ h → b ≤ h / 2
-half-ge h b c e l = omega arith
-
-top-digit : (p : ℕ) → 0 < p → 2 ^ p ≡ 2 ^ (p - 1) * 2
-top-digit p P = ap (λ (x : ℕ). 2 ^ x) (up p P) ∙ pow-suc 2 (p - 1)
-  where
-    up : (p : ℕ) → 0 < p → p ≡ suc (p - 1)
-    up p P = omega arith
-
 pub round-halves : (f : Format) (s : Bool) (num den k : ℕ) → 0 < den
     → num * 2 ^ low f * 2 / (den * 2 ^ k) < 2 ^ suc (prec f)
     → (k ≡ 0) ⊎ (2 ^ prec f ≤ num * 2 ^ low f * 2 / (den * 2 ^ k))
@@ -136,9 +124,6 @@ coarser N a b h = elim (eq-zero-or-pos (N % 2 ^ (a + b))) [
 
 not-zero : (a : ℕ) → 0 < a → a ≡ 0 → ⊥
 not-zero a h e = omega arith
-
-less-back : (a b : ℕ) → 2 ^ a < 2 ^ b → a < b
-less-back a b h = lt-of-not-le (λ (g : b ≤ a). lt-irrefl (2 ^ a) (lt-of-lt-of-le h (pow-mono g)))
 
 reach : (t p y k : ℕ) → t + p < suc p + (y + k) → t ≤ y + k
 reach t p y k h = omega arith

@@ -2,25 +2,18 @@
 -- Assumes nothing.
 use mathlib.Core.Path.{_≡_, refl, sym, ap, ap₂, _∙_, subst}
 use mathlib.Core.Logic.{_⊎_, inl, inr}
-use Prim.Native.Nat.{ℕ, zero, suc, _+_, _-_, _*_, _/_, _%_, _^_, _≤_, _<_, zero-le}
-use native.Mathlib.Nat.{mul-comm, mul-assoc, mul-sub, add-mul, add-comm, mul-lt-mul-of-pos-right, lt-of-mul-lt-mul-right, lt-irrefl, le-of-lt, le-trans, add-sub-of-le, eq-zero-or-pos, sub-self, le-of-eq, suc-mul, mul-le-mul-right, sub-add-cancel, lt-of-lt-of-le, lt-of-le-of-lt, le-of-suc-le-suc, lt-of-not-le, pow-suc, mul-left-comm}
+use Prim.Native.Nat.{ℕ, suc, _+_, _-_, _*_, _/_, _%_, _^_, _≤_, _<_, zero-le}
+use native.Mathlib.Nat.{mul-comm, mul-assoc, mul-sub, add-mul, add-comm, mul-lt-mul-of-pos-right, lt-of-mul-lt-mul-right, lt-irrefl, le-of-lt, le-trans, add-sub-of-le, le-of-eq, suc-mul, mul-le-mul-right, sub-add-cancel, lt-of-lt-of-le, lt-of-le-of-lt, le-of-suc-le-suc, lt-of-not-le, pow-suc, mul-left-comm}
 use native.Mathlib.Omega.{arith}
 use mathlib.Core.Bool.{Bool, true, false, not, _&&_, Bool·beq, cond}
-use lib.Dec.{T, leb, leb→le, nleb→lt, ltb, ltb→lt, lt→ltb, nltb→le, T-not}
-use lib.Arith.{digits-div, digits-mod, le→nltb}
+use lib.Dec.{T, ltb, ltb→lt, lt→ltb, nltb→le}
+use lib.Arith.{digits-div, digits-mod}
 use lib.Pow.{pow-add, pow-pos}
 use lib.Ieee.{Float, Format, prec, low, round, sum}
 use lib.Ieee.Scale.{round-same}
-use lib.Ieee.Bits.{is-true, is-false}
 use Rattle.rounding.specs.Alike.{Between, Alike}
+use Rattle.rounding.proofs.Basics.{le-or-lt}
 use Rattle.rounding.proofs.Rounding.{sticky, coarser}
-
-le-or-lt : (a b : ℕ) → (a ≤ b) ⊎ (b < a)
-le-or-lt a b = go (leb a b) (leb→le a b) (nleb→lt a b)
-  where
-    go : (t : Bool) → (T t → a ≤ b) → (T (not t) → b < a) → (a ≤ b) ⊎ (b < a)
-    go true h k = inl (h tt)
-    go false h k = inr (k tt)
 
 same-test : (a b : Bool) → (T a → T b) → (T b → T a) → a ≡ b
 same-test true true p q = refl

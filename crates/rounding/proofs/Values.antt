@@ -1,7 +1,7 @@
 -- What a finite float is worth: as a fraction, and as a whole number of the format's smallest values. Assumes nothing.
 use mathlib.Core.Path.{_≡_}
 use mathlib.Core.Bool.{Bool}
-use Prim.Native.Nat.{ℕ, _+_, _*_, _^_, _≤_, _<_}
+use Prim.Native.Nat.{ℕ, _+_, _*_, _^_, _<_}
 use native.Mathlib.Nat.{lt-of-lt-of-le, le-trans, le-of-eq, mul-le-mul-left, mul-lt-mul-of-pos-right}
 use mathlib.Core.Path.{sym}
 use lib.Dec.{T, leb}

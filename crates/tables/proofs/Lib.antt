@@ -6,3 +6,7 @@ pub mod Runs
 pub mod Lengths
 pub mod Cuts
 pub mod Taken
+pub mod Spans
+pub mod Sound
+pub mod Flags
+pub mod Moves

@@ -15,7 +15,7 @@ use lib.Ieee.Bits.{is-true}
 use lib.Ieee.Exact.{HasValue, round-exact}
 use lib.Ieee.Back.{round-whole}
 use lib.Ieee.Order.{round-mono, le-of-values}
-use lib.Ieee.Positive.{num, den, positive, den-pos, own-value, value→cross, positive-of-value, values-of-le, between}
+use lib.Ieee.Positive.{num, den, positive, den-pos, own-value, value→cross, positive-of-value, values-of-le, between, above, above-of-le}
 use lib.Ieee.Scale.{finite, round-same}
 use Rattle.leaves.specs.Single.{_⊕_, _⊘_, whole32, zero32, half32, one32}
 use Rattle.leaves.specs.Whole.{limit32, wholeUpOf}
@@ -105,6 +105,10 @@ module _ (s c : Float) (S : T (natural s)) (most : num s ≤ 65536 * den s) (B :
       subst (λ (z : Float). T (le (whole32 (suc p)) z)) (sym (add-is s c S (positive-natural c (B .real))))
       (round-mono binary32 (suc p) 1 (num s * den c + num c * den s) (den s * den c) (zero-lt-suc 0) (mul-pos (den-pos s) (den-pos c))
       (exact-reach p (num s) (den s) (num c) (den c) h (le-of-lt (B .over))))
+
+  -- so it is a number
+  pub sum-number : s ⊕ c ≡ nan → ⊥
+  sum-number e = subst (λ (z : Float). T (above z)) e (above-of-le (whole32 1) (s ⊕ c) (whole-positive 1 (lit≤ tt) (zero-lt-suc 0)) (above-whole 0 zero-le (le-trans (le-of-eq (zero-mul (den s))) zero-le)))
 
   few : (p : ℕ) → p * den s ≤ num s → p ≤ 65536
   few p h = le-of-mul-le-mul-right (le-trans h most) (den-pos s)

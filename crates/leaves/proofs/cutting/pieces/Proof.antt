@@ -1,5 +1,5 @@
 -- `leaves::cutting::pieces` meets its contract. Assumes nothing.
-use mathlib.Core.Path.{_≡_, refl, sym, ap, ap₂, _∙_}
+use mathlib.Core.Path.{_≡_, ap, ap₂, _∙_}
 use Prim.Native.Nat.{ℕ, max}
 use native.Mathlib.Omega.{arith}
 use borrow.Author.Needs.{needs}

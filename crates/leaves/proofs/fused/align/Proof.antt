@@ -1,16 +1,15 @@
 -- `leaves::fused::align` meets its contract. What `jam` loses stands so low that it only says which way to round. Assumes nothing.
-use mathlib.Core.Path.{_≡_, refl, sym, ap, ap₂, _∙_, subst}
+use mathlib.Core.Path.{_≡_, refl, sym, ap, _∙_, subst}
 use mathlib.Core.Logic.{_⊎_, inl, inr}
 use mathlib.Core.Bool.{Bool}
-use Prim.Native.Nat.{ℕ, suc, _+_, _-_, _*_, _/_, _%_, _^_, _≤_, _<_, zero-le}
+use Prim.Native.Nat.{ℕ, suc, _+_, _-_, _*_, _/_, _%_, _^_, _≤_, _<_}
 use native.Mathlib.Nat.{mul-assoc, lt-of-lt-of-le, le-of-suc-le-suc, div-le-self}
 use native.Mathlib.Omega.{arith}
 use borrow.Author.Needs.{needs}
 use lib.Pow.{pow-add, pow-mono, shr-lt}
-use lib.Ieee.{Float, binary32, sum}
+use lib.Ieee.{binary32, sum}
 use Rattle.rounding.specs.Alike.{Alike}
 use Rattle.rounding.proofs.Sums.{alike-scale, deep, sum-jam, sum-comm}
-use Rattle.leaves.specs.Aligned.{Aligns}
 use Rattle.leaves.proofs.fused.align.Statement.{statement}
 use Rattle.leaves.proofs.fused.align.Tie as tie
 

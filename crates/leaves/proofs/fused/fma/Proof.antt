@@ -1,13 +1,11 @@
 -- `leaves::fused::fma` meets its contract. Assumes nothing.
-use mathlib.Core.Path.{_≡_, refl, sym, ap, ap₂, _∙_, subst}
-use mathlib.Core.Bool.{Bool, true, false}
+use mathlib.Core.Path.{_≡_, sym, _∙_}
+use mathlib.Core.Bool.{true}
 use borrow.Author.Needs.{needs}
 use borrow.Author.Tests.{not-true, not-false}
-use lib.Dec.{T}
-use lib.Ieee.{Float, binary32, fits}
 use lib.Ieee.Scale.{finite}
 use Rattle.leaves.proofs.FmaParts.{fma-bits, first-not, second-not, third-not}
-use Rattle.leaves.proofs.Against.{finite-no-nan}
+use Rattle.leaves.proofs.Comparisons.{held, finite-no-nan}
 use Rattle.leaves.proofs.fused.fma.Statement.{statement}
 use Rattle.leaves.proofs.fused.fma.Tie as tie
 
@@ -56,9 +54,6 @@ float-to-bits-fma-bits-3 c = finite-no-nan (c .before .before .before .before .b
 
 fma-bits-requires : tie.Need-fma-bits-requires
 fma-bits-requires c κs = search needs
-
-held : (x : Float) → fits binary32 x ≡ true → T (fits binary32 x)
-held x e = subst T (sym e) tt
 
 returns-4 : tie.Need-returns-4
 returns-4 c =

@@ -2,14 +2,14 @@
 use mathlib.Core.Path.{_≡_, refl, sym, ap, ap₂, _∙_, subst}
 use mathlib.Core.Logic.{_⊎_, inl, inr}
 use mathlib.Core.Bool.{Bool, true, false, cond}
-use Prim.Native.Nat.{ℕ, suc, _+_, _-_, _*_, _/_, _%_, _^_, _≤_, _<_, zero-le}
+use Prim.Native.Nat.{ℕ, _+_, _-_, _*_, _%_, _^_, _≤_, _<_}
 use native.Mathlib.Nat.{mul-assoc, mul-comm, mul-left-comm, mul-lt-mul-of-pos-right, mul-le-mul-left, mul-le-mul-right, mul-mod-left, mod-eq-of-lt, lt-of-lt-of-le, lt-of-le-of-lt, le-trans, le-of-lt, le-of-eq, mul-one, one-mul, zero-mul, mul-zero, eq-zero-or-pos}
 use native.Mathlib.Omega.{arith}
 use borrow.Author.Needs.{needs}
 use borrow.Author.Tests.{eq-eqb}
 use lib.Dec.{T, eqb, leb, eqb→eq, lit≤, lit<}
 use lib.Pow.{pow-add, pow-pos}
-use lib.Ieee.{Float, binary32, sum, unlike}
+use lib.Ieee.{binary32, sum, unlike}
 use Rattle.rounding.specs.Parts.{sig, place}
 use Rattle.rounding.proofs.Parts.{sig-lt, place-le, leads}
 use Rattle.leaves.specs.Aligned.{fmaBits, Aligns}

@@ -1,14 +1,14 @@
 -- `leaves::fused::total` meets its contract: the branches of `sum`. Assumes nothing.
-use mathlib.Core.Path.{_≡_, refl, sym, ap, ap₂, _∙_, subst}
+use mathlib.Core.Path.{_≡_, refl, sym, ap, ap₂, _∙_}
 use mathlib.Core.Bool.{Bool, true, false, _&&_, Bool·beq, cond}
-use Prim.Native.Nat.{ℕ, suc, _+_, _-_, _*_, _/_, _%_, _^_, _≤_, _<_, zero-le}
+use Prim.Native.Nat.{ℕ, _+_, _-_, _*_, _^_, _≤_, _<_}
 use native.Mathlib.Nat.{add-mul, mul-comm, mul-sub, mul-lt-mul-of-pos-right, mul-le-mul-right, zero-mul, sub-eq-zero-of-le}
 use native.Mathlib.Omega.{arith}
 use borrow.Author.Needs.{needs}
 use borrow.Author.Tests.{lt-ltb, le-ltb}
 use lib.Dec.{ltb}
 use lib.Pow.{pow-pos}
-use lib.Ieee.{Float, binary32, round, sum}
+use lib.Ieee.{binary32, round, sum}
 use Rattle.leaves.proofs.fused.total.Statement.{statement}
 use Rattle.leaves.proofs.fused.total.Tie as tie
 

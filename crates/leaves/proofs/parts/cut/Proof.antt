@@ -1,19 +1,16 @@
 -- `leaves::parts::cut` meets its contract. Assumes nothing.
-use mathlib.Core.Path.{_≡_, refl, sym, ap, ap₂, _∙_, subst}
+use mathlib.Core.Path.{_≡_, sym, ap, _∙_}
 use mathlib.Core.Logic.{_⊎_, inl, inr, ⊎-elim}
-use Prim.Native.Nat.{ℕ, suc, _+_, _-_, _*_, _/_, _%_, _^_, _≤_, _<_, zero-le}
-use native.Mathlib.Nat.{div-mul-le-self, mod-eq-of-lt, mod-eq-sub-div-mul, lt-of-le-of-lt, le-trans, le-of-eq}
+use Prim.Native.Nat.{ℕ, suc, _-_, _*_, _/_, _%_, _^_, _≤_, _<_}
+use native.Mathlib.Nat.{div-mul-le-self, mod-eq-sub-div-mul, le-trans, le-of-eq}
 use native.Mathlib.Omega.{arith}
 use borrow.Author.Needs.{needs}
-use lib.Ieee.{Float, binary32, units}
+use lib.Ieee.{binary32, units}
 use Rattle.rounding.specs.Halves.{halve}
 use Rattle.rounding.proofs.Halves.{halve-le, halve-ge}
+use Rattle.leaves.proofs.Shifts.{back-is}
 use Rattle.leaves.proofs.parts.cut.Statement.{statement}
 use Rattle.leaves.proofs.parts.cut.Tie as tie
-
--- `h << d` wraps nothing
-back-is : (x w : ℕ) → x < 2 ^ 64 → x / w * w % 2 ^ 64 ≡ x / w * w
-back-is x w X = mod-eq-of-lt (lt-of-le-of-lt (div-mul-le-self x w) X)
 
 rest-is : (x w : ℕ) → x < 2 ^ 64 → x - x / w * w % 2 ^ 64 ≡ x % w
 rest-is x w X = ap (λ (y : ℕ). x - y) (back-is x w X) ∙ sym (mod-eq-sub-div-mul x w)

@@ -1,6 +1,6 @@
 -- `leaves::parts::finite` meets its contract. Assumes nothing.
-use mathlib.Core.Path.{_≡_, refl, sym, ap, _∙_, subst}
-use mathlib.Core.Bool.{Bool, true, false, true≢false}
+use mathlib.Core.Path.{_≡_, refl, sym, ap, _∙_}
+use mathlib.Core.Bool.{true, false, true≢false}
 use lib.Ieee.{Float, nan, inf, fin, binary32, lt, neg, ofBits, nanBits}
 use lib.Ieee.Scale.{finite}
 use Rattle.leaves.proofs.parts.finite.Statement.{statement}

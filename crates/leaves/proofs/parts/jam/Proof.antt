@@ -1,12 +1,13 @@
 -- `leaves::parts::jam` meets its contract: where something is lost, the result is odd, so it and x lie between the same two multiples of 2 ^ (d + 1). Assumes nothing.
-use mathlib.Core.Path.{_≡_, refl, sym, ap, ap₂, _∙_, subst}
-use mathlib.Core.Logic.{_⊎_, inl, inr}
+use mathlib.Core.Path.{_≡_, refl, sym, ap, ap₂, _∙_}
+use mathlib.Core.Logic.{inl, inr}
 use Prim.Native.Nat.{ℕ, suc, _+_, _-_, _*_, _/_, _%_, _^_, _≤_, _<_, zero-le}
-use native.Mathlib.Nat.{zero-mul, one-mul, mul-assoc, mul-comm, mul-left-comm, add-mul, pow-suc, div-mul-le-self, div-le-self, div-add-mod', mod-lt, mod-eq-of-lt, lt-of-lt-of-le, lt-of-le-of-lt, le-trans, le-refl, le-add-left}
+use native.Mathlib.Nat.{zero-mul, one-mul, mul-assoc, mul-comm, mul-left-comm, add-mul, pow-suc, div-mul-le-self, div-le-self, div-add-mod', mod-lt, lt-of-lt-of-le, le-refl, le-add-left}
 use native.Mathlib.Omega.{arith}
 use borrow.Author.Needs.{needs}
 use lib.Pow.{pow-pos, pow-mono}
 use Rattle.rounding.specs.Alike.{Alike}
+use Rattle.leaves.proofs.Shifts.{back-is}
 use Rattle.leaves.proofs.parts.jam.Statement.{statement}
 use Rattle.leaves.proofs.parts.jam.Tie as tie
 
@@ -44,10 +45,6 @@ tiny x d X D h = (
 
     up : (x w p : ℕ) → x < w → x < 2 * p + 2 * w
     up x w p h = omega arith
-
--- ---- `q << d` wraps nothing
-back-is : (x w : ℕ) → x < 2 ^ 64 → x / w * w % 2 ^ 64 ≡ x / w * w
-back-is x w X = mod-eq-of-lt (lt-of-le-of-lt (div-mul-le-self x w) X)
 
 module _ (x d : ℕ) (X : x < 2 ^ 64) where
   exact : x / 2 ^ d * 2 ^ d % 2 ^ 64 ≡ x → Alike (suc d) x (x / 2 ^ d * 2 ^ d) × (x / 2 ^ d ≤ x / 2 ^ d + 1)

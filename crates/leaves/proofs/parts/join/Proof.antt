@@ -1,14 +1,14 @@
 -- `leaves::parts::join` meets its contract: the pattern is the sign's and k * 2 ^ 23 + q, or an infinity's. Assumes nothing.
-use mathlib.Core.Path.{_≡_, refl, sym, ap, ap₂, _∙_, subst}
+use mathlib.Core.Path.{_≡_, sym, ap, _∙_, subst}
 use mathlib.Core.Logic.{_⊎_, inl, inr, ⊎-elim}
 use mathlib.Core.Bool.{Bool, true, false, not, cond}
-use Prim.Native.Nat.{ℕ, suc, _+_, _-_, _*_, _/_, _%_, _^_, _≤_, _<_, zero-le}
+use Prim.Native.Nat.{ℕ, _+_, _-_, _*_, _%_, _≤_, _<_}
 use native.Mathlib.Nat.{zero-add, le-of-eq}
 use native.Mathlib.Omega.{arith}
 use borrow.Author.Needs.{needs}
 use borrow.Author.Tests.{le-ltb}
 use lib.Dec.{T, ltb}
-use lib.Ieee.{Float, binary32, units, ofBits, nanBits}
+use lib.Ieee.{binary32, units, ofBits, nanBits}
 use lib.Ieee.Bits.{nanBits-above}
 use Rattle.rounding.proofs.Packing.{units-finite, units-infinite}
 use Rattle.leaves.proofs.parts.join.Statement.{statement}

@@ -1,6 +1,5 @@
 -- `leaves::parts::lift` meets its contract. Assumes nothing.
-use mathlib.Core.Path.{_≡_, refl}
-use Prim.Native.Nat.{ℕ, _≤_, _<_}
+use mathlib.Core.Path.{refl}
 use native.Mathlib.Omega.{arith}
 use Rattle.rounding.proofs.Lifts.{lifted}
 use Rattle.leaves.proofs.parts.lift.Statement.{statement}

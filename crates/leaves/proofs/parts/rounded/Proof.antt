@@ -1,14 +1,14 @@
 -- `leaves::parts::rounded` meets its contract. m is shifted to 62 digits; then either 24 of them stay, or as many as reach down to the smallest value. Assumes nothing.
-use mathlib.Core.Path.{_≡_, refl, sym, ap, ap₂, _∙_, subst}
-use mathlib.Core.Logic.{_⊎_, inl, inr}
+use mathlib.Core.Path.{_≡_, refl, sym, ap, _∙_, subst}
+use mathlib.Core.Logic.{inl, inr}
 use mathlib.Core.Bool.{Bool}
-use Prim.Native.Nat.{ℕ, suc, _+_, _-_, _*_, _/_, _%_, _^_, _≤_, _<_, zero-le}
+use Prim.Native.Nat.{ℕ, _+_, _-_, _*_, _/_, _%_, _^_, _≤_, _<_, zero-le}
 use native.Mathlib.Nat.{le-div-iff-mul-le, div-eq-of-lt, mod-eq-of-lt, lt-of-lt-of-le, zero-mul, zero-div, add-zero}
 use native.Mathlib.Omega.{arith}
 use borrow.Author.Needs.{needs}
 use lib.Dec.{lit≤, lit<}
 use lib.Pow.{pow-pos, pow-mono, shr-lt}
-use lib.Ieee.{Float, binary32, units, round}
+use lib.Ieee.{binary32, units, round}
 use Rattle.rounding.specs.Halves.{halve}
 use Rattle.rounding.proofs.Halves.{halve-even}
 use Rattle.rounding.proofs.Rounding.{round-at}

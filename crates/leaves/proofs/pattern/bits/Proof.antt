@@ -1,10 +1,8 @@
 -- `leaves::pattern::bits` meets its contract. Assumes nothing.
-use mathlib.Core.Path.{_≡_, refl, sym, ap, ap₂, _∙_, subst}
+use mathlib.Core.Path.{_≡_, refl, sym, ap, _∙_}
 use mathlib.Core.Bool.{Bool, true, false}
-use borrow.Author.Needs.{needs}
 use lib.Ieee.{Float, binary32, isNan, toBits}
 use mathlib.Core.Bool.{cond}
-use Prim.Native.Nat.{ℕ}
 use Rattle.leaves.specs.Bits.{bitsOf}
 use Rattle.leaves.proofs.Signs.{nan-test, no-nan}
 use Rattle.leaves.proofs.pattern.bits.Statement.{statement}

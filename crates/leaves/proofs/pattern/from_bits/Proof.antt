@@ -1,15 +1,14 @@
 -- `leaves::pattern::from_bits` meets its contract. Assumes nothing.
-use mathlib.Core.Path.{_≡_, refl, sym, ap, ap₂, _∙_, subst}
-use mathlib.Core.Bool.{Bool, true, false}
-use borrow.Author.Needs.{needs}
-use Prim.Native.Nat.{ℕ, _%_, _<_}
+use mathlib.Core.Path.{_≡_, refl, sym, ap₂, _∙_, subst}
+use mathlib.Core.Bool.{Bool}
+use Prim.Native.Nat.{ℕ, _%_}
 use mathlib.Core.Bool.{not}
-use lib.Dec.{T, ltb}
+use lib.Dec.{T}
 use borrow.Author.Tests.{lt-ltb, le-ltb}
-use lib.Ieee.{Float, nan, binary32, div, isNan, nanBits, ofBits}
+use lib.Ieee.{Float, nan, binary32, div, ofBits}
 use lib.Ieee.Bits.{nanBits-is, nanBits-above}
 use Rattle.leaves.specs.Bits.{floatOf}
-use Rattle.leaves.proofs.Against.{plain, zero-is}
+use Rattle.leaves.proofs.Comparisons.{plain, zero-is}
 use Rattle.leaves.proofs.Signs.{is-nan}
 use Rattle.leaves.proofs.pattern.from_bits.Statement.{statement}
 use Rattle.leaves.proofs.pattern.from_bits.Tie as tie

@@ -1,8 +1,8 @@
 -- `leaves::power::sixth_power` meets its contract: the n-th power is s ^ n. Assumes nothing.
 use mathlib.Core.Path.{_≡_, _∙_}
-use Prim.Native.Nat.{ℕ, suc, _*_, _^_, _≤_, _<_}
+use Prim.Native.Nat.{_^_, _≤_}
 use lib.Dec.{lit≤}
-use Rattle.leaves.specs.Power.{Limbs, whole}
+use Rattle.leaves.specs.Power.{whole}
 use Rattle.leaves.proofs.LimbLaws.{first, first-limbs, next, room}
 use Rattle.leaves.proofs.power.sixth_power.Statement.{statement}
 use Rattle.leaves.proofs.power.sixth_power.Tie as tie

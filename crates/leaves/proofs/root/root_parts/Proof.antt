@@ -1,6 +1,6 @@
 -- `leaves::root::root_parts` meets its contract. n has 47 or 48 digits, so the nearest whole number to its root has the 24 that stay. Assumes nothing.
 use mathlib.Core.Path.{_≡_, refl, sym, ap, _∙_, subst}
-use mathlib.Core.Logic.{_⊎_, inl, inr}
+use mathlib.Core.Logic.{_⊎_, inr}
 use mathlib.Core.Bool.{false}
 use Prim.Native.Nat.{ℕ, zero, suc, _+_, _-_, _*_, _/_, _%_, _^_, _≤_, _<_}
 use native.Mathlib.Nat.{mul-assoc, mul-one, lt-of-lt-of-le, mod-eq-of-lt}
@@ -8,9 +8,9 @@ use native.Mathlib.Omega.{arith}
 use borrow.Author.Needs.{needs}
 use lib.Dec.{lit<, lit≤}
 use lib.Pow.{pow-add}
-use lib.Ieee.{Float, binary32, units}
+use lib.Ieee.{binary32, units}
 use Rattle.rounding.specs.Roots.{rooted, IsNear}
-use Rattle.rounding.proofs.Near.{near-ge, near-le, rooted-near}
+use Rattle.rounding.proofs.RootTest.{near-ge, near-le, rooted-near}
 use Rattle.leaves.proofs.root.root_parts.Statement.{statement}
 use Rattle.leaves.proofs.root.root_parts.Tie as tie
 

@@ -1,11 +1,9 @@
 -- `leaves::root::settle` meets its contract. The first loop ends with n ≤ r * r + r, which the second keeps; the second's test is the rest. The measures: how far r is from its bound, and r. Assumes nothing.
-use mathlib.Core.Path.{_≡_, refl, sym, subst}
+use mathlib.Core.Path.{_≡_, subst}
 use Prim.Native.Nat.{ℕ, zero, suc, _+_, _-_, _*_, _<_, _≤_}
-use native.Mathlib.Nat.{mul-le-mul, le-of-lt, lt-of-le-of-lt}
+use native.Mathlib.Nat.{mul-le-mul, le-of-lt}
 use native.Mathlib.Omega.{arith}
-use Rattle.rounding.proofs.Roots.{square-lt}
-use Rattle.rounding.specs.Roots.{IsNear}
-use Rattle.rounding.proofs.Near.{square-suc}
+use Rattle.rounding.proofs.RootTest.{square-suc, under}
 use Rattle.leaves.proofs.root.settle.Statement.{statement}
 use Rattle.leaves.proofs.root.settle.Tie as tie
 
@@ -23,13 +21,6 @@ abbrev μ-loop2 : tie.MeasureT-loop2
 
 square : (r : ℕ) → r < 268435456 → r * r ≤ 72057594037927936
 square r h = mul-le-mul (le-of-lt h) (le-of-lt h)
-
--- up: r * r + r < n
-up : (n r : ℕ) → n < 281474976710656 → r * r + r < n → r < 16777216
-up n r hi h = square-lt r 16777216 n (first (r * r) h) hi
-  where
-    first : (a : ℕ) → a + r < n → a ≤ n
-    first a h = omega arith
 
 -- down: n + r ≤ r * r
 some : (r : ℕ) {a : ℕ} → a ≤ r * r → 0 < a → 1 ≤ r
@@ -64,7 +55,7 @@ loop-less : tie.Need-loop-less Inv-loop μ-loop Inv-loop2 μ-loop2
 loop-less c = omega arith
 
 loop-again : tie.Need-loop-again Inv-loop μ-loop Inv-loop2 μ-loop2
-loop-again c = omega (arith, up (c .before .before .args .n) (c .before .loop .r) (c .before .before .pre .1 .0) (c .loop-test .taken))
+loop-again c = omega (arith, under (c .before .before .args .n) (c .before .loop .r) (c .before .before .pre .1 .0) (c .loop-test .taken))
 
 loop2-holds : tie.Need-loop2-holds Inv-loop μ-loop Inv-loop2 μ-loop2
 loop2-holds c = (c .before .loop .inv, c .loop-test .left)

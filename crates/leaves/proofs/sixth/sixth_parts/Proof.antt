@@ -1,13 +1,11 @@
 -- `leaves::sixth::sixth_parts` meets its contract. m * 2 ^ l * 2 ^ 108 has 139 to 144 digits, so its root has 24. Assumes nothing.
-use mathlib.Core.Path.{_≡_, sym, ap, _∙_, subst}
+use mathlib.Core.Path.{_∙_, subst}
 use mathlib.Core.Logic.{inr}
-use mathlib.Core.Bool.{false}
-use Prim.Native.Nat.{ℕ, _+_, _-_, _*_, _/_, _%_, _^_, _≤_, _<_}
+use Prim.Native.Nat.{ℕ, _+_, _-_, _*_, _/_, _^_, _≤_, _<_}
 use native.Mathlib.Nat.{mod-eq-of-lt, lt-of-lt-of-le, le-of-lt}
 use native.Mathlib.Omega.{arith}
 use borrow.Author.Needs.{needs}
 use lib.Dec.{lit≤}
-use lib.Ieee.{binary32, units}
 use Rattle.leaves.specs.Power.{IsSixthRoot}
 use Rattle.leaves.proofs.SixthParts.{digits-lt, digits-ge, parts-value}
 use Rattle.leaves.proofs.sixth.sixth_parts.Statement.{statement}

@@ -1,16 +1,16 @@
 -- `leaves::sixth::sixth_root` meets its contract. Assumes nothing.
-use mathlib.Core.Path.{_≡_, refl, sym, ap, ap₂, _∙_, subst}
-use mathlib.Core.Bool.{Bool, true, false}
-use Prim.Native.Nat.{ℕ, _*_, _^_, _<_, _≤_}
+use mathlib.Core.Path.{_≡_, sym, ap₂, _∙_}
+use mathlib.Core.Bool.{true, false}
+use Prim.Native.Nat.{ℕ, _*_, _^_, _<_}
 use native.Mathlib.Nat.{lt-of-lt-of-le, lt-of-le-of-lt, le-of-eq}
 use native.Mathlib.Omega.{arith}
 use borrow.Author.Needs.{needs}
-use lib.Dec.{T, leb}
-use lib.Ieee.{Float, binary32, inf, lt, eq, div, fits, nanBits, ofBits, toBits}
+use lib.Dec.{leb}
+use lib.Ieee.{Float, binary32, lt, div, nanBits, toBits}
 use Rattle.rounding.specs.Parts.{sig, place}
 use Rattle.rounding.proofs.Parts.{sig-lt, place-le}
 use Rattle.leaves.specs.Sixth.{wholeSixth, cutTo}
-use Rattle.leaves.proofs.Against.{plain, zero-is, above, under, level, held, above-no-nan, sig-pos, bits-value}
+use Rattle.leaves.proofs.Comparisons.{plain, zero-is, above, under, level, held, above-no-nan, sig-pos, bits-value}
 use Rattle.leaves.proofs.SixthParts.{root-value, at-infinity, at-zero, elsewhere}
 use Rattle.leaves.proofs.sixth.sixth_root.Statement.{statement}
 use Rattle.leaves.proofs.sixth.sixth_root.Tie as tie

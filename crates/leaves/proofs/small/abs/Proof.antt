@@ -1,6 +1,6 @@
 -- `leaves::small::abs` meets its contract. Assumes nothing.
-use mathlib.Core.Path.{_≡_, refl, sym, ap, ap₂, _∙_, subst}
-use mathlib.Core.Bool.{Bool, true, false}
+use mathlib.Core.Path.{sym, _∙_}
+use mathlib.Core.Bool.{true, false}
 use borrow.Author.Needs.{needs}
 use Rattle.leaves.proofs.Signs.{abs-is}
 use Rattle.leaves.proofs.small.abs.Statement.{statement}

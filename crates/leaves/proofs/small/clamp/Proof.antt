@@ -1,8 +1,7 @@
 -- `leaves::small::clamp` meets its contract. Assumes nothing.
-use mathlib.Core.Path.{_≡_, refl, sym, ap, ap₂, _∙_, subst}
-use mathlib.Core.Bool.{Bool, true, false}
-use borrow.Author.Needs.{needs}
-use lib.Ieee.{Float, lt}
+use mathlib.Core.Path.{refl}
+use mathlib.Core.Bool.{true, false}
+use lib.Ieee.{lt}
 use Rattle.leaves.proofs.Signs.{clamp-is}
 use Rattle.leaves.proofs.small.clamp.Statement.{statement}
 use Rattle.leaves.proofs.small.clamp.Tie as tie

@@ -1,8 +1,8 @@
 -- `leaves::small::less` meets its contract. Assumes nothing.
-use mathlib.Core.Path.{_≡_, refl, sym, ap, ap₂, _∙_, subst}
+use mathlib.Core.Path.{refl, ap₂, _∙_}
 use mathlib.Core.Bool.{Bool, true, false, not, _&&_}
 use borrow.Author.Needs.{needs}
-use lib.Ieee.{Float, eq}
+use lib.Ieee.{eq}
 use Rattle.leaves.proofs.Signs.{less-is}
 use Rattle.leaves.proofs.small.less.Statement.{statement}
 use Rattle.leaves.proofs.small.less.Tie as tie

@@ -1,8 +1,7 @@
 -- `leaves::small::min` meets its contract. Assumes nothing.
-use mathlib.Core.Path.{_≡_, refl, sym, ap, ap₂, _∙_, subst}
-use mathlib.Core.Bool.{Bool, true, false}
+use mathlib.Core.Path.{refl, sym, _∙_}
+use mathlib.Core.Bool.{true, false}
 use borrow.Author.Needs.{needs}
-use lib.Ieee.{Float}
 use Rattle.leaves.specs.Small.{lessOf}
 use Rattle.leaves.proofs.Signs.{min-is}
 use Rattle.leaves.proofs.small.min.Statement.{statement}

@@ -1,8 +1,8 @@
 -- `leaves::small::negative` meets its contract. Assumes nothing.
-use mathlib.Core.Path.{_≡_, refl, sym, ap, ap₂, _∙_, subst}
-use mathlib.Core.Bool.{Bool, true, false}
+use mathlib.Core.Path.{refl, sym, _∙_}
+use mathlib.Core.Bool.{false}
 use borrow.Author.Needs.{needs}
-use Rattle.leaves.proofs.Against.{held}
+use Rattle.leaves.proofs.Comparisons.{held}
 use Rattle.leaves.proofs.Signs.{nan-test, no-nan, sign-of, unsigned-nan}
 use Rattle.leaves.proofs.small.negative.Statement.{statement}
 use Rattle.leaves.proofs.small.negative.Tie as tie

@@ -1,18 +1,18 @@
 -- `leaves::whole::ceil` meets its contract. Assumes nothing.
-use mathlib.Core.Path.{_≡_, refl, sym, ap, ap₂, _∙_, subst}
-use mathlib.Core.Bool.{Bool, true, false}
-use Prim.Native.Nat.{ℕ, suc, _+_, _-_, _*_, _/_, _%_, _^_, _<_, _≤_}
+use mathlib.Core.Path.{_≡_, sym, _∙_}
+use mathlib.Core.Bool.{true, false}
+use Prim.Native.Nat.{ℕ, _+_, _-_, _/_, _^_, _<_, _≤_}
 use native.Mathlib.Omega.{arith}
 use borrow.Author.Needs.{needs}
 use native.Mathlib.Nat.{lt-of-le-of-lt, lt-of-lt-of-le, le-of-eq, add-sub-of-le, div-le-self}
 use borrow.Author.Tests.{not-true, not-false}
-use lib.Dec.{T, lit<, lit≤}
-use lib.Ieee.{Float, binary32, fits, toBits}
+use lib.Dec.{lit<, lit≤}
+use lib.Ieee.{binary32, toBits}
 use lib.Ieee.Scale.{finite}
 use lib.Pow.{pow-pos}
 use Rattle.rounding.specs.Parts.{sig, place}
 use Rattle.rounding.proofs.Parts.{sig-lt, place-le}
-use Rattle.leaves.proofs.Against.{held, yes, finite-no-nan}
+use Rattle.leaves.proofs.Comparisons.{held, yes, finite-no-nan}
 use Rattle.leaves.proofs.WholeUp.{pattern-value, not-finite, ceil-below, ceil-above, ceil-whole, up-le}
 use Rattle.leaves.proofs.whole.ceil.Statement.{statement}
 use Rattle.leaves.proofs.whole.ceil.Tie as tie

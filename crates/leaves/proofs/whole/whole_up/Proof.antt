@@ -1,20 +1,18 @@
 -- `leaves::whole::whole_up` meets its contract. Assumes nothing.
-use mathlib.Core.Path.{_≡_, refl, sym, ap, ap₂, _∙_, subst}
-use mathlib.Core.Bool.{Bool, true, false}
-use Prim.Native.Nat.{ℕ, suc, _+_, _-_, _*_, _/_, _%_, _^_, _<_, _≤_}
+use mathlib.Core.Path.{_≡_, refl, sym, _∙_}
+use mathlib.Core.Bool.{true, false}
+use Prim.Native.Nat.{ℕ, _+_, _-_, _/_, _^_, _≤_}
 use native.Mathlib.Omega.{arith}
 use borrow.Author.Needs.{needs}
-use mathlib.Core.Logic.{_⊎_, inl, inr}
 use native.Mathlib.Nat.{lt-of-le-of-lt, lt-of-lt-of-le, le-of-eq}
 use lib.Dec.{T, leb, lit≤}
 use lib.Pow.{pow-pos}
-use lib.Ieee.{Float, binary32, fits, isNan, le, toBits}
-use lib.Ieee.Exact.{HasValue}
+use lib.Ieee.{Float, binary32, fits, le, toBits}
 use Rattle.rounding.specs.Parts.{sig, place}
 use Rattle.rounding.proofs.Parts.{sig-lt, leads, decode}
 use Rattle.leaves.specs.Single.{zero32}
 use Rattle.leaves.specs.Whole.{limit32, wholeUpOf}
-use Rattle.leaves.proofs.Against.{held}
+use Rattle.leaves.proofs.Comparisons.{held}
 use Rattle.leaves.proofs.WholeUp.{no-nan-of, in-range, place-small, pattern-value, digits-up, whole-up-is, up-le}
 use Rattle.leaves.proofs.whole.whole_up.Statement.{statement}
 use Rattle.leaves.proofs.whole.whole_up.Tie as tie

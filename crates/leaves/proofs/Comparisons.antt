@@ -1,6 +1,6 @@
 -- A float tested against 0 and infinity, as the square root and the sixth root test it: which floats each branch has. Assumes nothing.
 use mathlib.Core.Path.{_≡_, refl, sym, ap, ap₂, _∙_, subst}
-use mathlib.Core.Logic.{_⊎_, inl, inr}
+use mathlib.Core.Logic.{inl, inr}
 use mathlib.Core.Bool.{Bool, true, false, not, _&&_, _||_, Bool·beq, true≢false}
 use Prim.Native.Nat.{ℕ, zero, suc, _*_, _^_, _<_}
 use native.Mathlib.Nat.{mul-pos, mul-one, zero-mul, zero-lt-suc, eq-zero-or-pos}
@@ -9,7 +9,7 @@ use lib.IntN.{ℤ, pos}
 use lib.Dec.{T, leb, ltb, eqb, eqb→eq}
 use lib.Pow.{pow-pos}
 use lib.Ieee.{Float, nan, inf, fin, binary32, up, down, lt, eq, fits, isNan, toBits, ofBits}
-use lib.Ieee.Fits.{up-pos, down-pos}
+use lib.Ieee.Fits.{up-pos}
 use lib.Ieee.Exact.{HasValue}
 use lib.Ieee.Scale.{finite}
 use borrow.Author.Tests.{lt-ltb, ltb-true}

@@ -1,13 +1,12 @@
--- The whole number nearest to the square root of n, by the one test that it passes: r * r - r < n ≤ r * r + r, which says that the root is nearer to r than a half.
--- And binary32's square root from it: where n has 47 or 48 digits, r has the 24 that stay. Assumes nothing.
-use mathlib.Core.Path.{_≡_, refl, sym, ap, ap₂, _∙_, subst}
-use mathlib.Core.Logic.{_⊎_, inl, inr}
+-- The one test of a guessed root, `IsNear`: a whole number that passes it is the one nearest to the root, and where n has 47 or 48 digits it has the 24 that
+-- binary32 keeps. Assumes nothing.
+use mathlib.Core.Path.{_≡_, sym, ap, _∙_, subst}
 use mathlib.Core.Bool.{Bool, true, false, not}
-use Prim.Native.Nat.{ℕ, zero, suc, _+_, _-_, _*_, _/_, _%_, _^_, _≤_, _<_, zero-le}
-use native.Mathlib.Nat.{mul-assoc, mul-comm, mul-mul-mul-comm, pow-suc, add-mul, mul-add, one-mul, mul-one, le-trans, le-of-eq, lt-of-le-of-lt}
+use Prim.Native.Nat.{ℕ, zero, suc, _+_, _-_, _*_, _^_, _≤_, _<_, zero-le}
+use native.Mathlib.Nat.{mul-assoc, mul-comm, mul-mul-mul-comm, pow-suc, add-mul, mul-add}
 use native.Mathlib.Omega.{arith}
 use lib.Dec.{T, leb, leb→le, nleb→lt}
-use lib.Ieee.{Float, binary32, units}
+use lib.Ieee.{binary32, units}
 use Rattle.rounding.specs.Halves.{halve}
 use Rattle.rounding.specs.Roots.{rooted, IsNear}
 use Rattle.rounding.proofs.Halves.{halve-even, halve-over}
@@ -39,7 +38,7 @@ one-less n t h = last (t * t) ((t + 1) * (t + 1)) (square-suc t) h
     last : (a b : ℕ) → b ≡ a + t + t + 1 → b < n + (t + 1) → a + t < n
     last a b e h = omega arith
 
-under : (n t : ℕ) → n < 281474976710656 → t * t + t < n → t < 16777216
+pub under : (n t : ℕ) → n < 281474976710656 → t * t + t < n → t < 16777216
 under n t hi h = square-lt t 16777216 n (first (t * t) h) hi
   where
     first : (a : ℕ) → a + t < n → a ≤ n

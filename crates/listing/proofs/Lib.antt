@@ -1,0 +1,5 @@
+pub mod FieldLaws
+pub mod PointLaws
+pub mod CommandLaws
+pub mod StepLaws
+pub mod WritingLaws

@@ -1,0 +1,387 @@
+-- Laws of the quad cursor over sound tables, within one spline whose quads are those from lo to l. It never passes l, since no step p reaches the spline's sum. Started at
+-- lo it stands at each step p on the one quad that p falls on: the first whose sum is p or more; going on by one is enough, since each sum reaches the next whole number
+-- above the one before. Assumes nothing.
+use mathlib.Core.Path.{_≡_, refl, sym, ap, ap₂, _∙_, subst, subst₂}
+use mathlib.Core.Logic.{_⊎_, inl, inr}
+use mathlib.Core.Bool.{Bool, true, false, not, cond}
+use mathlib.Core.List.{List, [], _∷_, _++_, List·Memᴰ, List·Memᴰ·head, List·Memᴰ·tail}
+use Prim.Native.Nat.{ℕ, zero, suc, _+_, _-_, _*_, _/_, _%_, _≤_, _<_, zero-le}
+use native.Mathlib.Nat.{le-trans, le-of-eq, le-refl, le-of-lt, lt-of-lt-of-le, lt-of-le-of-lt, lt-irrefl, eq-or-lt-of-le, le-of-suc-le-suc, not-suc-le-zero, zero-lt-suc, mul-le-mul-right, one-mul, zero-mul, suc-mul, div-mul-le-self, div-lt-iff-lt-mul}
+use native.Mathlib.Numerals.{add-one}
+use native.Mathlib.Decide.{decLt}
+use native.Mathlib.Omega.{arith}
+use lib.Dec.{T, ltb, ltb→lt, nltb→le, lit≤}
+use lib.Ieee.{Float, nan, lt}
+use lib.Ieee.Positive.{num, den, den-pos}
+use lib.ListN.{getD}
+use Rattle.leaves.specs.Single.{whole32}
+use Rattle.command.specs.declared.PointCommand.the-variants.{Incr}
+use Rattle.tables.specs.Tables.{QuadTable}
+use Rattle.tables.proofs.RunningSums.{Sum, Reaches, Up, lt-whole, below-up, up-below, up-two, up-limit}
+use Rattle.tables.proofs.Spans.{sumAt, ownerAt, Span, LastOf}
+use Rattle.walk.specs.Walk.{Item, item, cursorAt, stepsFrom, cursorFrom}
+use Rattle.promises.proofs.Cutting.{All}
+
+-- p is at most x
+abbrev pub AtMost : ℕ → Float → Type 0
+AtMost p x = p * den x ≤ num x
+
+-- x is below p
+abbrev pub Below : Float → ℕ → Type 0
+Below x p = num x < p * den x
+
+-- ---- where the cursor goes at step p
+cursor-goes : (q : QuadTable) (p c : ℕ) → Sum (sumAt q c) → p ≤ 65537 → (Below (sumAt q c) p × (cursorAt q p c ≡ suc c)) ⊎ (AtMost p (sumAt q c) × (cursorAt q p c ≡ c))
+unfolding cursorAt
+cursor-goes q p c S h = go (ltb (num x) (p * den x)) (lt-whole x p S h) (ltb→lt (num x) (p * den x)) (nltb→le (num x) (p * den x))
+  where
+    x : Float
+    x = sumAt q c
+
+    go : (b : Bool) → lt x (whole32 p) ≡ b → (T b → Below x p) → (T (not b) → AtMost p x) → (Below x p × (cond (lt x (whole32 p)) (c + 1) c ≡ suc c)) ⊎ (AtMost p x × (cond (lt x (whole32 p)) (c + 1) c ≡ c))
+    go true e f g = inl (f tt, ap (λ (b : Bool). cond b (c + 1) c) e ∙ add-one c)
+    go false e f g = inr (g tt, ap (λ (b : Bool). cond b (c + 1) c) e)
+
+-- it goes on by one at most
+cursor-step : (q : QuadTable) (p c : ℕ) → cursorAt q p c ≤ suc c
+unfolding cursorAt
+cursor-step q p c = go (lt (sumAt q c) (whole32 p))
+  where
+    go : (b : Bool) → cond b (c + 1) c ≤ suc c
+    go true = le-of-eq (add-one c)
+    go false = le-of-lt (le-refl (suc c))
+
+-- ---- 3e's half: up to the last quad l, whose sum no step of the spline reaches
+module _ (q : QuadTable) (l m : ℕ) (S : Sum (sumAt q l)) (U : Up (sumAt q l) m) where
+  small : (p : ℕ) → p < m → p ≤ 65537
+  small p h = le-trans (le-of-lt h) (le-trans (up-limit (sumAt q l) m S U) (lit≤ tt))
+
+  cursor-under : (p c : ℕ) → c ≤ l → p < m → cursorAt q p c ≤ l
+  cursor-under p c h k = elim (eq-or-lt-of-le h) [
+    | inl e ↦ subst (λ (x : ℕ). cursorAt q p x ≤ l) (sym e) (at-last (cursor-goes q p l S (small p k)))
+    | inr g ↦ le-trans (cursor-step q p c) g
+  ]
+    where
+      at-last : (Below (sumAt q l) p × (cursorAt q p l ≡ suc l)) ⊎ (AtMost p (sumAt q l) × (cursorAt q p l ≡ l)) → cursorAt q p l ≤ l
+      at-last (inl z) = absurd (lt-irrefl (num (sumAt q l)) (lt-of-lt-of-le (z .0) (le-of-lt (up-below (sumAt q l) m p U k))))
+      at-last (inr z) = le-of-eq (z .1)
+
+  pub cursor-from-under : (n p c : ℕ) → c ≤ l → p + n ≤ m → cursorFrom q n p c ≤ l
+  unfolding cursorFrom
+  cursor-from-under zero p c h k = h
+  cursor-from-under (suc n) p c h k = cursor-from-under n (p + 1) (cursorAt q p c) (cursor-under p c h (first p n m k)) (rest p n m k)
+    where
+      first : (p n m : ℕ) → p + suc n ≤ m → p < m
+      first p n m k = omega arith
+
+      rest : (p n m : ℕ) → p + suc n ≤ m → p + 1 + n ≤ m
+      rest p n m k = omega arith
+
+  pub steps-under : (size : Float) (n p c : ℕ) → c ≤ l → p + n ≤ m → All (λ (i : Item). i .quad ≤ l) (stepsFrom q size n p c)
+  unfolding stepsFrom
+  steps-under size zero p c h k = tt
+  steps-under size (suc n) p c h k =
+      let g = cursor-under p c h (first p n m k) in
+      (g, steps-under size n (p + 1) (cursorAt q p c) g (rest p n m k))
+    where
+      first : (p n m : ℕ) → p + suc n ≤ m → p < m
+      first p n m k = omega arith
+
+      rest : (p n m : ℕ) → p + suc n ≤ m → p + 1 + n ≤ m
+      rest p n m k = omega arith
+
+-- ---- 3f's half: the quads from lo to l of one spline
+module _ (q : QuadTable) (total : Float) (lo l j m : ℕ) (R : Span q total lo (suc l) j) (inside : lo ≤ l) (S : Sum (sumAt q l)) (U : Up (sumAt q l) m) where
+  sum-of : (i : ℕ) → lo ≤ i → i ≤ l → Sum (sumAt q i)
+  sum-of i h k = R .sums i h (le-suc i l k)
+    where
+      le-suc : (i l : ℕ) → i ≤ l → i < suc l
+      le-suc i l h = omega arith
+
+  reach : (i : ℕ) → lo ≤ i → i < l → Reaches (sumAt q i) (sumAt q (suc i))
+  reach i h k = R .grows i h (le-suc i l k)
+    where
+      le-suc : (i l : ℕ) → i < l → suc i < suc l
+      le-suc i l h = omega arith
+
+  -- step p falls on quad i: p is at most its sum, and above the one before
+  pub record Falls (p i : ℕ) : Type 0 where
+    pub low : lo ≤ i
+    pub high : i ≤ l
+    pub upto : AtMost p (sumAt q i)
+    pub above : (b : ℕ) → suc b ≡ i → lo ≤ b → Below (sumAt q b) p
+
+  weaker : (p : ℕ) (x : Float) → AtMost (suc p) x → AtMost p x
+  weaker p x h = le-trans (less (p * den x) (den x) (suc p * den x) (suc-mul p (den x))) h
+    where
+      less : (a d b : ℕ) → b ≡ a + d → a ≤ b
+      less a d b e = omega arith
+
+  -- a whole number at most a sum is at most the later ones
+  carry : (p i d : ℕ) → lo ≤ i → i + d ≤ l → AtMost p (sumAt q i) → AtMost p (sumAt q (i + d))
+  carry p i zero h k a = subst (λ (x : ℕ). AtMost p (sumAt q x)) (plain i) a
+    where
+      plain : (i : ℕ) → i ≡ i + 0
+      plain i = omega arith
+  carry p i (suc d) h k a =
+      subst (λ (x : ℕ). AtMost p (sumAt q x)) (shift i d) (carry p (suc i) d (le-trans h (next i)) (le-trans (le-of-eq (shift i d)) k) (weaker p (sumAt q (suc i)) (reach i h (below i d l k) p a)))
+    where
+      shift : (i d : ℕ) → suc i + d ≡ i + suc d
+      shift i d = omega arith
+
+      next : (i : ℕ) → i ≤ suc i
+      next i = omega arith
+
+      below : (i d l : ℕ) → i + suc d ≤ l → i < l
+      below i d l k = omega arith
+
+  not-less : (p i i' : ℕ) → Falls p i → Falls p i' → i < i' → ⊥
+  not-less p i i' F G h =
+      lt-irrefl (num (sumAt q (i' - 1)))
+      (lt-of-lt-of-le (G .above (i' - 1) (back i i' h) (le-trans (F .low) (last i i' h)))
+      (subst (λ (x : ℕ). AtMost p (sumAt q x)) (join i i' h) (carry p i (i' - 1 - i) (F .low) (le-trans (le-of-eq (join i i' h)) (le-trans (pred i') (G .high))) (F .upto))))
+    where
+      back : (i i' : ℕ) → i < i' → suc (i' - 1) ≡ i'
+      back i i' h = omega arith
+
+      last : (i i' : ℕ) → i < i' → i ≤ i' - 1
+      last i i' h = omega arith
+
+      join : (i i' : ℕ) → i < i' → i + (i' - 1 - i) ≡ i' - 1
+      join i i' h = omega arith
+
+      pred : (i : ℕ) → i - 1 ≤ i
+      pred i = omega arith
+
+  -- on one quad alone
+  pub falls-once : (p i i' : ℕ) → Falls p i → Falls p i' → i ≡ i'
+  falls-once p i i' F G = equal i i' (not-less p i i' F G) (not-less p i' i G F)
+    where
+      equal : (i i' : ℕ) → (i < i' → ⊥) → (i' < i → ⊥) → i ≡ i'
+      equal i i' h k = omega arith
+
+  -- ---- the cursor stands where the step falls
+  under-limit : (p : ℕ) → p < m → p ≤ 65537
+  under-limit p h = le-trans (le-of-lt h) (le-trans (up-limit (sumAt q l) m S U) (lit≤ tt))
+
+  clash : (x : Float) (p : ℕ) → Below x p → AtMost p x → ⊥
+  clash x p h k = lt-irrefl (num x) (lt-of-lt-of-le h k)
+
+  pub first-falls : Falls 1 (cursorAt q 1 lo)
+  first-falls = go (cursor-goes q 1 lo (sum-of lo (le-refl lo) inside) (lit≤ tt))
+    where
+      over : AtMost 1 (sumAt q lo)
+      over = le-trans (le-of-eq (one-mul (den (sumAt q lo)))) (le-of-lt (sum-of lo (le-refl lo) inside .over))
+
+      no : (b lo : ℕ) → suc b ≡ lo → lo ≤ b → ⊥
+      no b lo e h = omega arith
+
+      go : (Below (sumAt q lo) 1 × (cursorAt q 1 lo ≡ suc lo)) ⊎ (AtMost 1 (sumAt q lo) × (cursorAt q 1 lo ≡ lo)) → Falls 1 (cursorAt q 1 lo)
+      go (inl z) = absurd (clash (sumAt q lo) 1 (z .0) over)
+      go (inr z) = subst (Falls 1) (sym (z .1)) (record { low = le-refl lo; high = inside; upto = over; above = λ b e h. absurd (no b lo e h) })
+
+  next-falls : (p i : ℕ) → Falls p i → suc p < m → Falls (suc p) (cursorAt q (suc p) i)
+  next-falls p i F k = go (cursor-goes q (suc p) i (sum-of i (F .low) (F .high)) (under-limit (suc p) k))
+    where
+      go : (Below (sumAt q i) (suc p) × (cursorAt q (suc p) i ≡ suc i)) ⊎ (AtMost (suc p) (sumAt q i) × (cursorAt q (suc p) i ≡ i)) → Falls (suc p) (cursorAt q (suc p) i)
+      go (inr z) =
+          subst (Falls (suc p)) (sym (z .1))
+          (record { low = F .low; high = F .high; upto = z .0; above = λ b e h. lt-of-lt-of-le (F .above b e h) (mul-le-mul-right (den (sumAt q b)) (up p)) })
+        where
+          up : (p : ℕ) → p ≤ suc p
+          up p = omega arith
+      go (inl z) = elim (eq-or-lt-of-le (F .high)) [
+        | inl e ↦ absurd (clash (sumAt q l) (suc p) (subst (λ (x : ℕ). Below (sumAt q x) (suc p)) e (z .0)) (le-of-lt (up-below (sumAt q l) m (suc p) U k)))
+        | inr g ↦
+            subst (Falls (suc p)) (sym (z .1))
+            (record {
+              low = le-trans (F .low) (le-of-lt (le-refl (suc i)));
+              high = g;
+              upto = reach i (F .low) g p (F .upto);
+              above = λ b e h. subst (λ (x : ℕ). Below (sumAt q x) (suc p)) (sym (same b i e)) (z .0);
+            })
+      ]
+        where
+          same : (b i : ℕ) → suc b ≡ suc i → b ≡ i
+          same b i e = omega arith
+
+  -- ---- n steps from step p on, at a cursor from which p falls
+  ready-next : (n p c : ℕ) → (0 < suc n → Falls p (cursorAt q p c)) → p + suc n ≤ m → 0 < n → Falls (p + 1) (cursorAt q (p + 1) (cursorAt q p c))
+  ready-next n p c F k h = subst (λ (x : ℕ). Falls x (cursorAt q x (cursorAt q p c))) (sym (add-one p)) (next-falls p (cursorAt q p c) (F (zero-lt-suc n)) (more p n m k h))
+    where
+      more : (p n m : ℕ) → p + suc n ≤ m → 0 < n → suc p < m
+      more p n m k h = omega arith
+
+  shifted : (p n m : ℕ) → p + suc n ≤ m → p + 1 + n ≤ m
+  shifted p n m k = omega arith
+
+  pub record StepAt (size : Float) (steps : List Item) (p : ℕ) : Type 0 where
+    pub quad : ℕ
+    pub falls : Falls p quad
+    pub member : List·Memᴰ (item (Incr size) p quad) steps
+
+  pub step-at : (size : Float) (n p c : ℕ) → (0 < n → Falls p (cursorAt q p c)) → p + n ≤ m → (x : ℕ) → p ≤ x → x < p + n → StepAt size (stepsFrom q size n p c) x
+  unfolding stepsFrom
+  step-at size zero p c F k x h g = absurd (no p x h g)
+    where
+      no : (p x : ℕ) → p ≤ x → x < p + 0 → ⊥
+      no p x h g = omega arith
+  step-at size (suc n) p c F k x h g = elim (eq-or-lt-of-le h) [
+    | inl e ↦ subst (StepAt size (stepsFrom q size (suc n) p c)) e (record { quad = cursorAt q p c; falls = F (zero-lt-suc n); member = List·Memᴰ·head refl })
+    | inr u ↦
+        let z = step-at size n (p + 1) (cursorAt q p c) (ready-next n p c F k) (shifted p n m k) x (le-trans (le-of-eq (add-one p)) u) (lt-of-lt-of-le g (le-of-eq (sum p n))) in
+        record { quad = z .quad; falls = z .falls; member = List·Memᴰ·tail (z .member) }
+  ]
+    where
+      sum : (p n : ℕ) → p + suc n ≡ p + 1 + n
+      sum p n = omega arith
+
+  pub steps-inside : (size : Float) (n p c : ℕ) → (0 < n → Falls p (cursorAt q p c)) → p + n ≤ m → All (λ (i : Item). (lo ≤ i .quad) × (i .quad ≤ l)) (stepsFrom q size n p c)
+  unfolding stepsFrom
+  steps-inside size zero p c F k = tt
+  steps-inside size (suc n) p c F k =
+      let z = F (zero-lt-suc n) in
+      ((z .low, z .high), steps-inside size n (p + 1) (cursorAt q p c) (ready-next n p c F k) (shifted p n m k))
+
+  cursor-falls : (n p c : ℕ) → (0 < suc n → Falls p (cursorAt q p c)) → p + suc n ≤ m → Falls (p + n) (cursorFrom q (suc n) p c)
+  unfolding cursorFrom
+  cursor-falls zero p c F k = subst (λ (x : ℕ). Falls x (cursorAt q p c)) (plain p) (F (zero-lt-suc 0))
+    where
+      plain : (p : ℕ) → p ≡ p + 0
+      plain p = omega arith
+  cursor-falls (suc n) p c F k =
+      subst (λ (x : ℕ). Falls x (cursorFrom q (suc n) (p + 1) (cursorAt q p c))) (sum p n) (cursor-falls n (p + 1) (cursorAt q p c) (λ h. ready-next (suc n) p c F k h) (shifted p (suc n) m k))
+    where
+      sum : (p n : ℕ) → p + 1 + n ≡ p + suc n
+      sum p n = omega arith
+
+  -- ---- where a whole number lies strictly between the last two sums, some step falls on each quad, and the last one on the last
+  module _ (spread : (b : ℕ) → suc b ≡ l → lo ≤ b → (p : ℕ) × Below (sumAt q b) p × (p * den (sumAt q l) < num (sumAt q l))) where
+    last-falls : Falls (m - 1) l
+    last-falls =
+        record {
+          low = inside;
+          high = le-refl l;
+          upto = le-of-lt (up-below (sumAt q l) m (m - 1) U (pred m (up-two (sumAt q l) m S U)));
+          above = λ b e h.
+              let z = spread b e h in
+              lt-of-lt-of-le (z .1) (mul-le-mul-right (den (sumAt q b)) (under (z .0) m (below-up (sumAt q l) m (z .0) U (z .2))));
+        }
+      where
+        pred : (m : ℕ) → 2 ≤ m → m - 1 < m
+        pred m h = omega arith
+
+        under : (p m : ℕ) → p < m → p ≤ m - 1
+        under p m h = omega arith
+
+    pub cursor-ends : cursorFrom q (m - 1) 1 lo ≡ l
+    cursor-ends =
+        let h = up-two (sumAt q l) m S U in
+        falls-once (m - 1) (cursorFrom q (m - 1) 1 lo) l
+        (subst₂ (λ (x y : ℕ). Falls x (cursorFrom q y 1 lo)) (one m h) (two m h) (cursor-falls (m - 2) 1 lo (λ k. first-falls) (le-of-eq (three m h))))
+        last-falls
+      where
+        one : (m : ℕ) → 2 ≤ m → 1 + (m - 2) ≡ m - 1
+        one m h = omega arith
+
+        two : (m : ℕ) → 2 ≤ m → suc (m - 2) ≡ m - 1
+        two m h = omega arith
+
+        three : (m : ℕ) → 2 ≤ m → 1 + suc (m - 2) ≡ m
+        three m h = omega arith
+
+    pub record Reached (i : ℕ) : Type 0 where
+      pub step : ℕ
+      pub least : 1 ≤ step
+      pub most : step < m
+      pub falls : Falls step i
+
+    -- before the last quad: the next whole number above the sum before it, which is below the spline's sum
+    reached-inner : (b : ℕ) → lo ≤ b → suc b < l → Reached (suc b)
+    reached-inner b h k =
+        let x = sumAt q b in
+        let p = suc (num x / den x) in
+        let u : AtMost p (sumAt q (suc b)) = reach b h (le-of-lt k) (num x / den x) (div-mul-le-self (num x) (den x)) in
+        let t : AtMost (suc p) (sumAt q l) = subst (λ (y : ℕ). AtMost (suc p) (sumAt q y)) (join b l k) (carry (suc p) (suc (suc b)) (l - suc (suc b)) (le-trans h (two b)) (le-of-eq (join b l k)) (reach (suc b) (le-trans h (next b)) k p u)) in
+        record {
+          step = p;
+          least = zero-lt-suc (num x / den x);
+          most = below-up (sumAt q l) m p U (strict (sumAt q l) p t);
+          falls =
+              record {
+                low = le-trans h (next b);
+                high = le-of-lt k;
+                upto = u;
+                above = λ c e g. subst (λ (y : ℕ). Below (sumAt q y) p) (sym (same c b e)) (div-lt-iff-lt-mul (den-pos x) .0 (le-refl p));
+              };
+        }
+      where
+        two : (b : ℕ) → b ≤ suc (suc b)
+        two b = omega arith
+
+        next : (b : ℕ) → b ≤ suc b
+        next b = omega arith
+
+        join : (b l : ℕ) → suc b < l → suc (suc b) + (l - suc (suc b)) ≡ l
+        join b l h = omega arith
+
+        same : (c b : ℕ) → suc c ≡ suc b → c ≡ b
+        same c b e = omega arith
+
+        strict : (x : Float) (p : ℕ) → AtMost (suc p) x → p * den x < num x
+        strict x p h = less (p * den x) (den x) (suc p * den x) (num x) (den-pos x) (suc-mul p (den x)) h
+          where
+            less : (a d b n : ℕ) → 0 < d → b ≡ a + d → b ≤ n → a < n
+            less a d b n D e h = omega arith
+
+    reached-last : (b : ℕ) → lo ≤ b → suc b ≡ l → Reached (suc b)
+    reached-last b h e =
+        let z = spread b e h in
+        record {
+          step = z .0;
+          least = some (z .0) (den (sumAt q b)) (num (sumAt q b)) (z .1);
+          most = below-up (sumAt q l) m (z .0) U (z .2);
+          falls =
+              subst (Falls (z .0)) (sym e)
+              (record { low = inside; high = le-refl l; upto = le-of-lt (z .2); above = λ c f g. subst (λ (y : ℕ). Below (sumAt q y) (z .0)) (same b c l e f) (z .1) });
+        }
+      where
+        same : (b c l : ℕ) → suc b ≡ l → suc c ≡ l → b ≡ c
+        same b c l e f = omega arith
+
+        some : (p d n : ℕ) → n < p * d → 1 ≤ p
+        some zero d n h = absurd (not-suc-le-zero (lt-of-lt-of-le h (le-of-eq (zero-mul d))))
+        some (suc p) d n h = zero-lt-suc p
+
+    pub reached : (i : ℕ) → lo ≤ i → i ≤ l → Reached i
+    reached i h k = elim (eq-or-lt-of-le h) [
+      | inl e ↦ subst Reached e first
+      | inr g ↦ subst Reached (back lo i g) (later (i - 1) (under lo i g) (le-trans (le-of-eq (back lo i g)) k))
+    ]
+      where
+        back : (lo i : ℕ) → lo < i → suc (i - 1) ≡ i
+        back lo i h = omega arith
+
+        under : (lo i : ℕ) → lo < i → lo ≤ i - 1
+        under lo i h = omega arith
+
+        later : (b : ℕ) → lo ≤ b → suc b ≤ l → Reached (suc b)
+        later b h k = elim (eq-or-lt-of-le k) [ inl e ↦ reached-last b h e | inr g ↦ reached-inner b h g ]
+
+        first : Reached lo
+        first =
+            record {
+              step = 1;
+              least = le-refl 1;
+              most = up-two (sumAt q l) m S U;
+              falls =
+                  record {
+                    low = le-refl lo;
+                    high = inside;
+                    upto = le-trans (le-of-eq (one-mul (den (sumAt q lo)))) (le-of-lt (sum-of lo (le-refl lo) inside .over));
+                    above = λ b e g. absurd (no b lo e g);
+                  };
+            }
+          where
+            no : (b lo : ℕ) → suc b ≡ lo → lo ≤ b → ⊥
+            no b lo e h = omega arith

@@ -1,0 +1,68 @@
+-- An accepted drawing passes the test for 3, its run ends with Done, and its walk fits: so its words are the walk's, packed. Assumes nothing.
+use mathlib.Core.Path.{_≡_, refl, sym, ap, ap₂, _∙_, subst}
+use mathlib.Core.Logic.{_⊎_, inl, inr}
+use mathlib.Core.Bool.{Bool, true, false, true≢false}
+use mathlib.Core.List.{List, _++_, map}
+use Prim.Native.Nat.{ℕ, zero, suc, _+_, _≤_, _<_}
+use native.Mathlib.Omega.{arith}
+use lib.Dec.{T, eqb, eqb→eq}
+use lib.ListN.{length, take, drop, length-map}
+use lib.Seq.{take-at}
+use lib.Ieee.Bits.{is-true}
+use Rattle.answer.specs.declared.Answer.{Answer}
+use Rattle.answer.specs.declared.Answer.the-variants.{Done, BadCoordinate, BadWeight, Unusable, StoreFull, TooManyPieces, QuadsFull, SplinesFull, SumTooLarge, OutputShort, BadText, InputTooLong}
+use Rattle.answer.specs.Number.{numberOf, isDone}
+use Rattle.store.specs.Drawable.{drawableOf}
+use Rattle.tables.specs.Run.{World}
+use Rattle.tables.specs.Commands.{tablesOf}
+use Rattle.walk.specs.Walk.{Item, walkOf, wordOf, wordsOf}
+use Rattle.flatten.specs.Flatten.{Output, Flattening, flattened, flattening, over, fitsOutput, writeOutput, walked, tabled, flattenDrawable, flattenOf}
+use Rattle.promises.specs.Accepted.{Job, flatteningOf, Accepted, wordsIn}
+
+-- the tables of a job's run
+abbrev pub worldOf : Job → World
+worldOf job = tablesOf (job .setting) (job .state) (job .columns) (job .quads) (job .splines)
+
+abbrev pub itemsIn : World → List Item
+itemsIn w = walkOf (w .quads) (w .splines) (w .state .splines)
+
+-- what an accepted drawing leaves
+abbrev pub finishedOf : Job → Flattening
+finishedOf job = walked true (worldOf job) (itemsIn (worldOf job)) (job .output)
+
+pub record Passed (job : Job) : Type 0 where
+  pub drawable : drawableOf (job .state) (job .columns) ≡ true
+  pub done : isDone (worldOf job .state .answer) ≡ true
+  pub result : flatteningOf job ≡ finishedOf job
+
+not-three : Unusable ≡ Done → ⊥
+not-three e = let z : _≡_ {A = ℕ} 3 0 = ap numberOf e in omega arith
+
+not-nine : OutputShort ≡ Done → ⊥
+not-nine e = let z : _≡_ {A = ℕ} 9 0 = ap numberOf e in omega arith
+
+pub passed : (job : Job) → Accepted job → Passed job
+unfolding flattenOf flattenDrawable tabled walked
+passed job h = by-drawable (drawableOf (job .state) (job .columns)) refl h
+  where
+    w : World
+    w = worldOf job
+
+    by-room : (b : Bool) → walked b w (itemsIn w) (job .output) .result .answer ≡ Done → walked b w (itemsIn w) (job .output) ≡ finishedOf job
+    by-room true h = refl
+    by-room false h = absurd (not-nine h)
+
+    by-done : (b : Bool) → isDone (w .state .answer) ≡ b → tabled b w (job .output) .result .answer ≡ Done → (isDone (w .state .answer) ≡ true) × (tabled b w (job .output) ≡ finishedOf job)
+    by-done true e h = (e, by-room (fitsOutput (length (itemsIn w)) (job .output)) h)
+    by-done false e h = absurd (true≢false (sym (ap isDone h) ∙ e))
+
+    by-drawable : (b : Bool) → drawableOf (job .state) (job .columns) ≡ b → flattenDrawable b (job .setting) (job .state) (job .columns) (job .quads) (job .splines) (job .output) .result .answer ≡ Done → Passed job
+    by-drawable true e h =
+        let z = by-done (isDone (w .state .answer)) refl h in
+        record { drawable = e; done = z .0; result = ap (λ (b : Bool). flattenDrawable b (job .setting) (job .state) (job .columns) (job .quads) (job .splines) (job .output)) e ∙ z .1 }
+    by-drawable false e h = absurd (not-three h)
+
+-- its words are the walk's
+pub words-are : (job : Job) → wordsIn (finishedOf job) ≡ wordsOf (itemsIn (worldOf job))
+unfolding walked writeOutput over wordsOf
+words-are job = take-at (wordsOf (itemsIn (worldOf job))) _ (length (itemsIn (worldOf job))) (length-map (itemsIn (worldOf job)) wordOf)

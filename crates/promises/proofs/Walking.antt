@@ -1,0 +1,187 @@
+-- Laws of the walk: cut after each End it falls into the items of each spline in turn, whose commands are Start, steps and End as 01 says, whatever the cursor is; and over
+-- sound tables every command of it can be packed. Assumes nothing.
+use mathlib.Core.Path.{_≡_, refl, sym, ap, ap₂, _∙_, subst}
+use mathlib.Core.Logic.{_⊎_, inl, inr}
+use mathlib.Core.Bool.{Bool, true, false, cond}
+use mathlib.Core.List.{List, [], _∷_, _++_, map, append-assoc}
+use Prim.Native.Nat.{ℕ, zero, suc, _+_, _-_, _≤_, _<_}
+use native.Mathlib.Nat.{le-trans, le-of-eq, lt-of-lt-of-le, le-of-suc-le-suc, not-suc-le-zero, zero-lt-suc}
+use native.Mathlib.Omega.{arith}
+use lib.Dec.{T}
+use lib.ListN.{length, getD, replicate}
+use lib.Ieee.{Float, binary32, div, fits}
+use lib.Ieee.Fits.{div-fits}
+use lib.Ieee.Positive.{positive, positive-finite}
+use lib.Ieee.Scale.{finite}
+use Rattle.leaves.specs.Single.{_⊘_, whole32, zero32}
+use Rattle.leaves.specs.Whole.{wholeUpOf}
+use Rattle.command.specs.declared.PointCommand.{PointCommand}
+use Rattle.command.specs.declared.PointCommand.the-variants.{Start, Incr, End}
+use Rattle.command.specs.Packing.{indexLimit}
+use Rattle.command.proofs.Laws.{Packs}
+use Rattle.primitives.specs.declared.Capacities.{Capacities}
+use Rattle.tables.specs.Tables.{QuadTable, SplineTable, splineAt}
+use Rattle.tables.specs.Run.{World}
+use Rattle.tables.proofs.RunningSums.{Sum, no-steps, up-bounds, size-real}
+use Rattle.tables.proofs.Spans.{Span, LastOf, span-total}
+use Rattle.tables.proofs.Sound.{Sound}
+use Rattle.walk.specs.Walk.{Item, item, subdivisionsOf, stepSizeOf, startsOf, cursorAt, stepsFrom, cursorFrom, cursorAfter, splineItemsOf, walkFrom}
+use Rattle.promises.specs.Words.{isEnd, cutAfter}
+use Rattle.promises.specs.Accepted.{stepsOf, pieceOf}
+use Rattle.promises.proofs.Cutting.{All, all-append, cut-piece}
+
+abbrev pub commandOf : Item → PointCommand
+commandOf i = i .command
+
+abbrev pub endsItem : Item → Bool
+endsItem i = isEnd (i .command)
+
+-- ---- the items of a spline
+module _ (q : QuadTable) (s : SplineTable) where
+  startItems : ℕ → List Item
+  startItems k = cond (startsOf s k) (item (Start k) 0 0 ∷ []) []
+
+  stepItems : ℕ → ℕ → List Item
+  stepItems k cursor = stepsFrom q (stepSizeOf s k) (stepsOf s k) 1 cursor
+
+  endItem : ℕ → Item
+  endItem k = item (End k (splineAt s k .contour)) 0 0
+
+  start-no-end : (k : ℕ) → All (λ (i : Item). endsItem i ≡ false) (startItems k)
+  unfolding startItems
+  start-no-end k = go (startsOf s k)
+    where
+      go : (b : Bool) → All (λ (i : Item). endsItem i ≡ false) (cond b (item (Start k) 0 0 ∷ []) [])
+      go true = (refl, tt)
+      go false = tt
+
+  steps-no-end : (size : Float) (n p cursor : ℕ) → All (λ (i : Item). endsItem i ≡ false) (stepsFrom q size n p cursor)
+  unfolding stepsFrom
+  steps-no-end size zero p cursor = tt
+  steps-no-end size (suc n) p cursor = (refl, steps-no-end size n (p + 1) (cursorAt q p cursor))
+
+  items-are : (k cursor : ℕ) → splineItemsOf q s k cursor ≡ (startItems k ++ stepItems k cursor) ++ (endItem k ∷ [])
+  unfolding splineItemsOf startItems stepItems endItem
+  items-are k cursor = sym (append-assoc (startItems k) (stepItems k cursor) (endItem k ∷ []))
+
+  cut-spline : (k cursor : ℕ) (rest : List Item) → cutAfter endsItem (splineItemsOf q s k cursor ++ rest) ≡ splineItemsOf q s k cursor ∷ cutAfter endsItem rest
+  unfolding stepItems endItem
+  cut-spline k cursor rest =
+      ap (λ (x : List Item). cutAfter endsItem (x ++ rest)) (items-are k cursor)
+      ∙ ap (cutAfter endsItem) (append-assoc (startItems k ++ stepItems k cursor) (endItem k ∷ []) rest)
+      ∙ cut-piece endsItem (startItems k ++ stepItems k cursor) rest (endItem k)
+      (all-append (λ (i : Item). endsItem i ≡ false) (startItems k) (stepItems k cursor) (start-no-end k) (steps-no-end (stepSizeOf s k) (stepsOf s k) 1 cursor)) refl
+      ∙ ap (λ (x : List Item). x ∷ cutAfter endsItem rest) (sym (items-are k cursor))
+
+  -- ---- n splines from k on
+  pub pieces-count : (n k cursor : ℕ) → length (cutAfter endsItem (walkFrom q s n k cursor)) ≡ n
+  unfolding walkFrom cutAfter
+  pieces-count zero k cursor = refl
+  pieces-count (suc n) k cursor =
+      ap length (cut-spline k cursor (walkFrom q s n (k + 1) (cursorAfter q s k cursor))) ∙ ap suc (pieces-count n (k + 1) (cursorAfter q s k cursor))
+
+  -- piece i is spline k + i's, with a cursor for which holds what is true at first and kept by each spline
+  pub record Piece (inv : ℕ → ℕ → Type 0) (pieces : List (List Item)) (i k : ℕ) : Type 0 where
+    pub cursor : ℕ
+    pub is : getD pieces i [] ≡ splineItemsOf q s k cursor
+    pub holds : inv k cursor
+
+  pub piece-at : (inv : ℕ → ℕ → Type 0) (n k cursor : ℕ) → inv k cursor → ((j c : ℕ) → j < k + n → inv j c → inv (suc j) (cursorAfter q s j c)) → (i : ℕ) → i < n
+      → Piece inv (cutAfter endsItem (walkFrom q s n k cursor)) i (k + i)
+  unfolding walkFrom
+  piece-at inv zero k cursor h step i l = absurd (not-suc-le-zero l)
+  piece-at inv (suc n) k cursor h step zero l =
+      record {
+        cursor = cursor;
+        is = ap (λ (x : List (List Item)). getD x 0 []) (cut-spline k cursor (walkFrom q s n (k + 1) (cursorAfter q s k cursor))) ∙ ap (λ (x : ℕ). splineItemsOf q s x cursor) (plain k);
+        holds = subst (λ (x : ℕ). inv x cursor) (plain k) h;
+      }
+    where
+      plain : (k : ℕ) → k ≡ k + 0
+      plain k = omega arith
+  piece-at inv (suc n) k cursor h step (suc i) l =
+      let c = cursorAfter q s k cursor in
+      let z = piece-at inv n (k + 1) c (subst (λ (x : ℕ). inv x c) (one k) (step k cursor (far k n) h)) (λ j d m. step j d (lt-of-lt-of-le m (le-of-eq (shift k n)))) i (le-of-suc-le-suc l) in
+      record {
+        cursor = z .cursor;
+        is = ap (λ (x : List (List Item)). getD x (suc i) []) (cut-spline k cursor (walkFrom q s n (k + 1) c)) ∙ z .is ∙ ap (λ (x : ℕ). splineItemsOf q s x (z .cursor)) (shift k i);
+        holds = subst (λ (x : ℕ). inv x (z .cursor)) (shift k i) (z .holds);
+      }
+    where
+      one : (k : ℕ) → suc k ≡ k + 1
+      one k = omega arith
+
+      far : (k n : ℕ) → k < k + suc n
+      far k n = omega arith
+
+      shift : (k n : ℕ) → k + 1 + n ≡ k + suc n
+      shift k n = omega arith
+
+  -- ---- the commands of a spline
+  steps-commands : (size : Float) (n p cursor : ℕ) → map commandOf (stepsFrom q size n p cursor) ≡ replicate n (Incr size)
+  unfolding stepsFrom
+  steps-commands size zero p cursor = refl
+  steps-commands size (suc n) p cursor = ap (λ (x : List PointCommand). Incr size ∷ x) (steps-commands size n (p + 1) (cursorAt q p cursor))
+
+  map-append : (s t : List Item) → map commandOf (s ++ t) ≡ map commandOf s ++ map commandOf t
+  map-append [] t = refl
+  map-append (a ∷ s) t = ap (λ (x : List PointCommand). a .command ∷ x) (map-append s t)
+
+  pub piece-commands : (k cursor : ℕ) → map commandOf (splineItemsOf q s k cursor) ≡ pieceOf s k
+  unfolding splineItemsOf pieceOf
+  piece-commands k cursor =
+      map-append (cond (startsOf s k) (item (Start k) 0 0 ∷ []) []) _
+      ∙ ap₂ (λ (x y : List PointCommand). x ++ y) (start (startsOf s k))
+      (map-append (stepsFrom q (stepSizeOf s k) (stepsOf s k) 1 cursor) _ ∙ ap (λ (x : List PointCommand). x ++ (End k (splineAt s k .contour) ∷ [])) (steps-commands (stepSizeOf s k) (stepsOf s k) 1 cursor))
+    where
+      start : (b : Bool) → map commandOf (cond b (item (Start k) 0 0 ∷ []) []) ≡ cond b (Start k ∷ []) []
+      start true = refl
+      start false = refl
+
+-- ---- over sound tables every command can be packed
+abbrev pub Packed : Item → Type 0
+Packed i = Packs (i .command)
+
+module _ (caps : Capacities) (w : World) (S : Sound caps w) (limit : caps .splines ≤ indexLimit) where
+  step-packs : (k : ℕ) → k < w .state .splines → 0 < stepsOf (w .splines) k → Packs (Incr (stepSizeOf (w .splines) k))
+  unfolding subdivisionsOf stepSizeOf
+  step-packs k h p = elim (span-total (w .quads) _ _ _ k (S .span k h)) [
+    | inl z ↦ absurd (no-step (wholeUpOf (splineAt (w .splines) k .curvature)) (ap wholeUpOf (z .1) ∙ no-steps) p)
+    | inr z ↦
+        let c = splineAt (w .splines) k .curvature in
+        (div-fits binary32 c (whole32 (wholeUpOf c)), positive-finite (c ⊘ whole32 (wholeUpOf c)) (size-real c (wholeUpOf c) (z .sum) (up-bounds c (z .sum))))
+  ]
+    where
+      no-step : (m : ℕ) → m ≡ 0 → 0 < m - 1 → ⊥
+      no-step m e h = omega arith
+
+  steps-packed : (size : Float) (n p cursor : ℕ) → (0 < n → Packs (Incr size)) → All Packed (stepsFrom (w .quads) size n p cursor)
+  unfolding stepsFrom
+  steps-packed size zero p cursor h = tt
+  steps-packed size (suc n) p cursor h = (h (zero-lt-suc n), steps-packed size n (p + 1) (cursorAt (w .quads) p cursor) (λ k. h (zero-lt-suc n)))
+
+  index : (k : ℕ) → k < w .state .splines → k < indexLimit
+  index k h = lt-of-lt-of-le h (le-trans (S .room .splines) limit)
+
+  spline-packed : (k cursor : ℕ) → k < w .state .splines → All Packed (splineItemsOf (w .quads) (w .splines) k cursor)
+  unfolding splineItemsOf
+  spline-packed k cursor h =
+      all-append Packed (cond (startsOf (w .splines) k) (item (Start k) 0 0 ∷ []) []) _ (start (startsOf (w .splines) k))
+      (all-append Packed (stepsFrom (w .quads) (stepSizeOf (w .splines) k) (stepsOf (w .splines) k) 1 cursor) _ (steps-packed (stepSizeOf (w .splines) k) (stepsOf (w .splines) k) 1 cursor (step-packs k h)) (index k h, tt))
+    where
+      start : (b : Bool) → All Packed (cond b (item (Start k) 0 0 ∷ []) [])
+      start true = (index k h, tt)
+      start false = tt
+
+  pub walk-packed : (n k cursor : ℕ) → k + n ≤ w .state .splines → All Packed (walkFrom (w .quads) (w .splines) n k cursor)
+  unfolding walkFrom
+  walk-packed zero k cursor h = tt
+  walk-packed (suc n) k cursor h =
+      all-append Packed (splineItemsOf (w .quads) (w .splines) k cursor) _ (spline-packed k cursor (le-trans (far k n) h))
+      (walk-packed n (k + 1) (cursorAfter (w .quads) (w .splines) k cursor) (le-trans (le-of-eq (shift k n)) h))
+    where
+      far : (k n : ℕ) → k < k + suc n
+      far k n = omega arith
+
+      shift : (k n : ℕ) → k + 1 + n ≡ k + suc n
+      shift k n = omega arith

@@ -1,0 +1,147 @@
+-- Whole numbers with signs: how far two of them lie apart, and their sum as `sum` has it. Assumes nothing.
+use mathlib.Core.Path.{_≡_, refl, sym, ap, ap₂, _∙_}
+use mathlib.Core.Bool.{Bool, true, false, not, _&&_, Bool·beq, cond}
+use Prim.Native.Nat.{ℕ, zero, suc, _+_, _-_, _*_, _≤_, _<_}
+use native.Mathlib.Nat.{add-comm, add-mul, mul-sub, mul-comm, zero-mul}
+use native.Mathlib.Omega.{arith}
+use lib.Dec.{T, ltb, ltb→lt, nltb→le}
+use borrow.Author.Tests.{lt-ltb, le-ltb}
+use lib.IntN.{ℤ, pos, negsuc, negℤ, natAbs, _+ℤ_, _-ℤ_, _*ℤ_, negℤ-negℤ, negℤ-+ℤ, +ℤ-comm}
+use lib.Ieee.{Format, round, sum}
+use Rattle.rounding.specs.Nearest.{signed}
+
+-- how far a and b lie apart, and the same of ±a and ±b
+abbrev pub gap : ℕ → ℕ → ℕ
+gap a b = a - b + (b - a)
+
+unfoldable pub apart : Bool → ℕ → Bool → ℕ → ℕ
+apart s a t b = cond (Bool·beq s t) (gap a b) (a + b)
+
+-- ---- a difference of two naturals
+less-is : (a b : ℕ) → a < b → pos a +ℤ negℤ (pos b) ≡ negℤ (pos (b - a))
+less-is a zero h = absurd (no a h)
+  where
+    no : (a : ℕ) → a < 0 → ⊥
+    no a h = omega arith
+less-is a (suc b) h =
+    ap (λ (t : Bool). cond t (negsuc (suc b - suc a)) (pos (a - suc b))) (lt-ltb a (suc b) h) ∙ ap (λ (n : ℕ). negℤ (pos n)) (one a b h)
+  where
+    one : (a b : ℕ) → a < suc b → suc (suc b - suc a) ≡ suc b - a
+    one a b h = omega arith
+
+more-is : (a b : ℕ) → b ≤ a → pos a +ℤ negℤ (pos b) ≡ pos (a - b)
+more-is a zero h = ap pos (none a)
+  where
+    none : (a : ℕ) → a + 0 ≡ a - 0
+    none a = omega arith
+more-is a (suc b) h = ap (λ (t : Bool). cond t (negsuc (suc b - suc a)) (pos (a - suc b))) (le-ltb a (suc b) h)
+
+abs-neg : (n : ℕ) → natAbs (negℤ (pos n)) ≡ n
+abs-neg zero = refl
+abs-neg (suc n) = refl
+
+by-order : {X : Type 0} (a b : ℕ) → (a < b → X) → (b ≤ a → X) → X
+by-order {X} a b h k = go (ltb a b) (ltb→lt a b) (nltb→le a b)
+  where
+    go : (t : Bool) → (T t → a < b) → (T (not t) → b ≤ a) → X
+    go true p q = h (p tt)
+    go false p q = k (q tt)
+
+difference : (a b : ℕ) → natAbs (pos a +ℤ negℤ (pos b)) ≡ gap a b
+difference a b = by-order a b (λ h. ap natAbs (less-is a b h) ∙ abs-neg (b - a) ∙ below a b h) (λ h. ap natAbs (more-is a b h) ∙ above a b h)
+  where
+    below : (a b : ℕ) → a < b → b - a ≡ a - b + (b - a)
+    below a b h = omega arith
+
+    above : (a b : ℕ) → b ≤ a → a - b ≡ a - b + (b - a)
+    above a b h = omega arith
+
+-- ---- ±a less ±b, times b, and scaled
+pub apart-is : (s : Bool) (a : ℕ) (t : Bool) (b : ℕ) → natAbs (signed s a -ℤ signed t b) ≡ apart s a t b
+unfolding apart
+apart-is false a false b = difference a b
+apart-is false a true b = ap (λ (k : ℤ). natAbs (pos a +ℤ k)) (negℤ-negℤ (pos b))
+apart-is true a false b = ap natAbs (sym (negℤ-+ℤ (pos a) (pos b))) ∙ abs-neg (a + b)
+apart-is true a true b =
+    ap (λ (k : ℤ). natAbs (negℤ (pos a) +ℤ k)) (negℤ-negℤ (pos b)) ∙ ap natAbs (+ℤ-comm (negℤ (pos a)) (pos b)) ∙ difference b a ∙ add-comm (b - a) (a - b)
+
+pub signed-times : (s : Bool) (a b : ℕ) → signed s a *ℤ pos b ≡ signed s (a * b)
+signed-times false a b = refl
+signed-times true zero b = ap pos (zero-mul b) ∙ ap (λ (n : ℕ). negℤ (pos n)) (sym (zero-mul b))
+signed-times true (suc a) b = refl
+
+pub gap-scale : (a b k : ℕ) → gap (a * k) (b * k) ≡ gap a b * k
+gap-scale a b k =
+    ap₂ (λ (x y : ℕ). x + y) (take a b) (take b a) ∙ sym (add-mul (a - b) (b - a) k)
+  where
+    take : (a b : ℕ) → a * k - b * k ≡ (a - b) * k
+    take a b = ap₂ (λ (x y : ℕ). x - y) (mul-comm a k) (mul-comm b k) ∙ sym (mul-sub k a b) ∙ mul-comm k (a - b)
+
+pub apart-scale : (s : Bool) (a : ℕ) (t : Bool) (b k : ℕ) → apart s (a * k) t (b * k) ≡ apart s a t b * k
+unfolding apart
+apart-scale s a t b k = go (Bool·beq s t)
+  where
+    go : (e : Bool) → cond e (gap (a * k) (b * k)) (a * k + b * k) ≡ cond e (gap a b) (a + b) * k
+    go true = gap-scale a b k
+    go false = sym (add-mul a b k)
+
+-- ---- `sum` rounds the sum: its sign and its size
+unfoldable pub sumSign : Bool → ℕ → Bool → ℕ → Bool
+sumSign s a t b = cond (Bool·beq s t) s (cond (ltb a b) t (s && ltb b a))
+
+unfoldable pub sumSize : Bool → ℕ → Bool → ℕ → ℕ
+sumSize s a t b = cond (Bool·beq s t) (a + b) (cond (ltb a b) (b - a) (a - b))
+
+pub sum-rounds : (f : Format) (s : Bool) (a : ℕ) (t : Bool) (b c : ℕ) → sum f s a t b c ≡ round f (sumSign s a t b) (sumSize s a t b) c
+unfolding sum sumSign sumSize
+sum-rounds f s a t b c = go (Bool·beq s t) (ltb a b)
+  where
+    go : (e l : Bool) → cond e (round f s (a + b) c) (cond l (round f t (b - a) c) (round f (s && ltb b a) (a - b) c)) ≡ round f (cond e s (cond l t (s && ltb b a))) (cond e (a + b) (cond l (b - a) (a - b))) c
+    go true l = refl
+    go false true = refl
+    go false false = refl
+
+pub sum-signed : (s : Bool) (a : ℕ) (t : Bool) (b : ℕ) → signed (sumSign s a t b) (sumSize s a t b) ≡ signed s a +ℤ signed t b
+unfolding sumSign sumSize
+sum-signed false a false b = refl
+sum-signed true a true b = negℤ-+ℤ (pos a) (pos b)
+sum-signed false a true b = by-order a b low high
+  where
+    low : a < b → signed (cond (ltb a b) true false) (cond (ltb a b) (b - a) (a - b)) ≡ pos a +ℤ negℤ (pos b)
+    low h = ap (λ (l : Bool). signed (cond l true false) (cond l (b - a) (a - b))) (lt-ltb a b h) ∙ sym (less-is a b h)
+
+    high : b ≤ a → signed (cond (ltb a b) true false) (cond (ltb a b) (b - a) (a - b)) ≡ pos a +ℤ negℤ (pos b)
+    high h = ap (λ (l : Bool). signed (cond l true false) (cond l (b - a) (a - b))) (le-ltb a b h) ∙ sym (more-is a b h)
+sum-signed true a false b = by-order a b low high ∙ sym (+ℤ-comm (negℤ (pos a)) (pos b))
+  where
+    low : a < b → signed (cond (ltb a b) false (ltb b a)) (cond (ltb a b) (b - a) (a - b)) ≡ pos b +ℤ negℤ (pos a)
+    low h = ap (λ (l : Bool). signed (cond l false (ltb b a)) (cond l (b - a) (a - b))) (lt-ltb a b h) ∙ sym (more-is b a (less h))
+      where
+        less : a < b → a ≤ b
+        less h = omega arith
+
+    one-way : b < a → signed (ltb b a) (a - b) ≡ pos b +ℤ negℤ (pos a)
+    one-way h = ap (λ (l : Bool). signed l (a - b)) (lt-ltb b a h) ∙ sym (less-is b a h)
+
+    level : a ≤ b → b ≤ a → signed (ltb b a) (a - b) ≡ pos b +ℤ negℤ (pos a)
+    level h k = ap₂ (λ (l : Bool) (n : ℕ). signed l n) (le-ltb b a h) (same h k) ∙ sym (more-is b a h)
+      where
+        same : a ≤ b → b ≤ a → a - b ≡ b - a
+        same h k = omega arith
+
+    high : b ≤ a → signed (cond (ltb a b) false (ltb b a)) (cond (ltb a b) (b - a) (a - b)) ≡ pos b +ℤ negℤ (pos a)
+    high h = ap (λ (l : Bool). signed (cond l false (ltb b a)) (cond l (b - a) (a - b))) (le-ltb a b h) ∙ by-order b a one-way (λ k. level k h)
+
+-- a sum that is exactly zero is -0 only where both are negative
+pub zero-sign : (s : Bool) (a : ℕ) (t : Bool) (b : ℕ) → sumSize s a t b ≡ 0 → sumSign s a t b ≡ s && t
+unfolding sumSign sumSize
+zero-sign false a false b h = refl
+zero-sign true a true b h = refl
+zero-sign false a true b h = by-order a b (λ l. absurd (some l (sym (ap (λ (c : Bool). cond c (b - a) (a - b)) (lt-ltb a b l)) ∙ h))) (λ l. ap (λ (c : Bool). cond c true false) (le-ltb a b l))
+  where
+    some : a < b → b - a ≡ 0 → ⊥
+    some l e = omega arith
+zero-sign true a false b h = by-order a b (λ l. ap (λ (c : Bool). cond c false (ltb b a)) (lt-ltb a b l)) (λ l. ap (λ (c : Bool). cond c false (ltb b a)) (le-ltb a b l) ∙ le-ltb b a (least l (sym (ap (λ (c : Bool). cond c (b - a) (a - b)) (le-ltb a b l)) ∙ h)))
+  where
+    least : b ≤ a → a - b ≡ 0 → a ≤ b
+    least l e = omega arith

@@ -1,0 +1,30 @@
+-- What "nearest, ties to even" means: 01, head. Values are compared as fractions of whole numbers, with signs. Assumes nothing.
+use mathlib.Core.Path.{_≡_}
+use mathlib.Core.Bool.{Bool, cond}
+use Prim.Native.Nat.{ℕ, _*_, _%_, _≤_}
+use lib.IntN.{ℤ, pos, negℤ, natAbs, _-ℤ_, _*ℤ_}
+use lib.Dec.{T}
+use lib.Ieee.{Float, nan, inf, fin, Format, up, fits, toBits}
+use lib.Ieee.Scale.{finite}
+use lib.Ieee.Positive.{den}
+
+-- a, or -a where s is true
+abbrev pub signed : Bool → ℕ → ℤ
+signed s a = cond s (negℤ (pos a)) (pos a)
+
+-- a finite x is signedNum x / den x
+abbrev pub signedNum : Float → ℤ
+signedNum nan = pos 0
+signedNum (inf s) = pos 0
+signedNum (fin s m e) = signed s (m * up e)
+
+-- how far a finite x lies from E / D, counted in 1 / (D * den x)
+abbrev pub farFrom : Float → ℤ → ℕ → ℕ
+farFrom x E D = natAbs (signedNum x *ℤ pos D -ℤ E *ℤ pos (den x))
+
+-- r is a finite value of the format f such that no other lies nearer to E / D; and where another lies as near, r is the one whose significand is even, and so its pattern
+pub record NearestTo (f : Format) (E : ℤ) (D : ℕ) (r : Float) : Type 0 where
+  pub held : T (fits f r)
+  pub whole : T (finite r)
+  pub closest : (x : Float) → T (fits f x) → T (finite x) → farFrom r E D * den x ≤ farFrom x E D * den r
+  pub even : (x : Float) → T (fits f x) → T (finite x) → farFrom r E D * den x ≡ farFrom x E D * den r → (signedNum x *ℤ pos (den r) ≡ signedNum r *ℤ pos (den x) → ⊥) → toBits f r % 2 ≡ 0

@@ -1,0 +1,337 @@
+-- What holds of the tables at every moment of a run, in both settings, whatever the tables held before: the quads up to the count belong to the splines up to the count,
+-- spline by spline and in order, each spline as `Span` says.
+-- The plan: `cut j` is the number of quads before spline j. A push keeps every spline but the last one, which is opened or joined; `put` says so once for a spline t that
+-- stands where the next one is opened, or is the last. `sound-push` is that for each form of a push, and `sound-run` goes through a list. Assumes nothing.
+use mathlib.Core.Path.{_≡_, refl, sym, ap, ap₂, _∙_, subst, subst₂}
+use mathlib.Core.Logic.{_⊎_, inl, inr, _≢_}
+use mathlib.Core.List.{List, [], _∷_}
+use mathlib.Core.Bool.{Bool, true, false, cond, true≢false}
+use Prim.Native.Nat.{ℕ, zero, suc, _+_, _-_, _*_, _/_, _≤_, _<_, zero-le, min}
+use native.Mathlib.Nat.{le-trans, le-of-eq, le-refl, le-of-lt, lt-of-lt-of-le, lt-of-le-of-lt, lt-irrefl, eq-or-lt-of-le, le-of-suc-le-suc, min-le-left, min-le-right, not-le-of-lt}
+use native.Mathlib.Numerals.{add-one}
+use native.Mathlib.Omega.{arith}
+use lib.Dec.{T, leb, eqb, leb→le, le→leb, eqb·suc-zero}
+use lib.Ieee.{Float, nan, le}
+use lib.Ieee.Bits.{is-true, is-false}
+use lib.Ieee.Positive.{num, den}
+use lib.Arith.{lt→nleb}
+use lib.ListN.{length, getD, set, length-set}
+use lib.Seq.{getD-set-same, getD-set-other}
+use Rattle.leaves.specs.Single.{_⊕_, zero32}
+use Rattle.leaves.specs.Whole.{limit32}
+use Rattle.answer.specs.Number.{isDone}
+use Rattle.primitives.specs.declared.Setting.{Setting}
+use Rattle.primitives.specs.declared.Capacities.{Capacities}
+use Rattle.primitives.specs.declared.Primitive.{Primitive}
+use Rattle.primitives.specs.declared.SplineRow.{SplineRow}
+use Rattle.primitives.specs.declared.State.{State}
+use Rattle.primitives.specs.declared.Edit.the-variants.{Extend, Bend}
+use Rattle.point.specs.declared.Point.{Point}
+use Rattle.point.specs.declared.Angle.{Angle}
+use Rattle.command.specs.Packing.{indexLimit}
+use Rattle.primitives.specs.declared.SplineEdit.{SplineEdit}
+use Rattle.primitives.specs.declared.QuadRow.{QuadRow}
+use Rattle.primitives.specs.Splines.{sumBefore, splineEditOf}
+use Rattle.primitives.specs.Plan.{refusedOf, markedOf}
+use Rattle.tables.specs.Tables.{QuadTable, SplineTable, quadCapacityOf, splineCapacityOf, capacitiesOf, putQuad, clearFlag, putSpline, splineAt, noSpline, lastSplineOf}
+use Rattle.tables.specs.Run.{World, world, applyOf, pushOf, runOf, startState}
+use Rattle.tables.proofs.RunningSums.{Bent, Sum, natural, zero-natural, zero-num, positive-natural}
+use Rattle.tables.proofs.Pushes.{lastOf, isMark, Allowed, splineEdit, Pushed, kept, marked, lined, bent, pushed}
+use Rattle.tables.proofs.Spans.{sumAt, ownerAt, Span, Agree, LastOf, span-none, span-agree, span-more, span-total}
+
+-- the counts are within the capacities, and these within the columns that the laws read
+pub record Room (caps : Capacities) (w : World) : Type 0 where
+  pub quads : w .state .quads ≤ caps .quads
+  pub splines : w .state .splines ≤ caps .splines
+  pub sums : caps .quads ≤ length (w .quads .partial-curvatures)
+  pub owners : caps .quads ≤ length (w .quads .partial-splines)
+  pub totals : caps .splines ≤ length (w .splines .curvature)
+  pub flags : caps .splines ≤ length (w .splines .contour)
+
+pub record Sound (caps : Capacities) (w : World) : Type 0 where
+  pub cut : ℕ → ℕ
+  pub first : cut 0 ≡ 0
+  pub all : cut (w .state .splines) ≡ w .state .quads
+  pub span : (j : ℕ) → j < w .state .splines → Span (w .quads) (splineAt (w .splines) j .curvature) (cut j) (cut (suc j)) j
+  pub room : Room caps w
+  pub waits : w .state .mark ≡ false → 0 < w .state .splines
+
+-- ---- the numbers of quads before the splines grow
+module _ (caps : Capacities) (w : World) (S : Sound caps w) where
+  cut-up : (d j : ℕ) → j + d ≡ w .state .splines → S .cut j ≤ S .cut (w .state .splines)
+  cut-up zero j e = le-of-eq (ap (S .cut) (at j (w .state .splines) e))
+    where
+      at : (j n : ℕ) → j + 0 ≡ n → j ≡ n
+      at j n e = omega arith
+  cut-up (suc d) j e =
+      le-trans (S .span j (less j d (w .state .splines) e) .ordered) (cut-up d (suc j) (more j d (w .state .splines) e))
+    where
+      less : (j d n : ℕ) → j + suc d ≡ n → j < n
+      less j d n e = omega arith
+
+      more : (j d n : ℕ) → j + suc d ≡ n → suc j + d ≡ n
+      more j d n e = omega arith
+
+  pub cut-le : (j : ℕ) → j ≤ w .state .splines → S .cut j ≤ w .state .quads
+  cut-le j h = le-trans (cut-up (w .state .splines - j) j (add-back j (w .state .splines) h)) (le-of-eq (S .all))
+    where
+      add-back : (j n : ℕ) → j ≤ n → j + (n - j) ≡ n
+      add-back j n h = omega arith
+
+-- ---- the cut with a new top: up to t as before, then k
+abbrev pub topped : (ℕ → ℕ) → ℕ → ℕ → ℕ → ℕ
+topped cut t k j = cond (leb j t) (cut j) k
+
+topped-low : (cut : ℕ → ℕ) (t k j : ℕ) → j ≤ t → topped cut t k j ≡ cut j
+topped-low cut t k j h = ap (λ (b : Bool). cond b (cut j) k) (is-true (leb j t) (le→leb j t h))
+
+topped-high : (cut : ℕ → ℕ) (t k j : ℕ) → t < j → topped cut t k j ≡ k
+topped-high cut t k j h = ap (λ (b : Bool). cond b (cut j) k) (is-false (leb j t) (lt→nleb j t h))
+
+-- ---- a spline t is written, and the quads are then those of q'
+other : (j t : ℕ) → j < t → j ≢ t
+other j t h e = omega arith
+
+module _ (s : SplineTable) (edit : SplineEdit) where
+  pub total-same : edit .at < length (s .curvature) → splineAt (putSpline s edit) (edit .at) .curvature ≡ edit .row .curvature
+  unfolding putSpline splineAt
+  total-same h = getD-set-same (s .curvature) (edit .at) (edit .row .curvature) nan h
+
+  pub total-other : (j : ℕ) → j ≢ edit .at → splineAt (putSpline s edit) j .curvature ≡ splineAt s j .curvature
+  unfolding putSpline splineAt
+  total-other j h = getD-set-other (s .curvature) (edit .at) j (edit .row .curvature) nan h
+
+  pub totals-length : length (putSpline s edit .curvature) ≡ length (s .curvature)
+  unfolding putSpline
+  totals-length = length-set (s .curvature) (edit .at) (edit .row .curvature)
+
+  pub flags-length : length (putSpline s edit .contour) ≡ length (s .contour)
+  unfolding putSpline clearFlag
+  flags-length = length-set (clearFlag (edit .clears) (s .contour) (edit .at)) (edit .at) _ ∙ go (edit .clears)
+    where
+      go : (b : Bool) → length (clearFlag b (s .contour) (edit .at)) ≡ length (s .contour)
+      go true = length-set (s .contour) (edit .at - 1) _
+      go false = refl
+
+-- ---- the last spline, where there is one
+pub last-is : (w : World) → 0 < w .state .splines → lastOf w ≡ splineAt (w .splines) (w .state .splines - 1)
+unfolding lastSplineOf
+last-is w h = go (w .state .splines) h
+  where
+    go : (n : ℕ) → 0 < n → cond (eqb n 0) noSpline (splineAt (w .splines) (n - 1)) ≡ splineAt (w .splines) (n - 1)
+    go zero h = absurd (lt-irrefl 0 h)
+    go (suc n) h = ap (λ (b : Bool). cond b noSpline (splineAt (w .splines) (suc n - 1))) (eqb·suc-zero n)
+
+pub pred-suc : (n : ℕ) → 0 < n → suc (n - 1) ≡ n
+pred-suc n h = omega arith
+
+pred-le : (n : ℕ) → n - 1 ≤ n
+pred-le n = omega arith
+
+pub pred-lt : (n : ℕ) → 0 < n → n - 1 < n
+pred-lt n h = omega arith
+
+-- ---- a quad k is written
+agree-self : (q : QuadTable) (k : ℕ) → Agree q q k
+agree-self q k = record { sum = λ i h. refl; owner = λ i h. refl }
+
+module _ (q : QuadTable) (k : ℕ) (row : QuadRow) where
+  agree-put : Agree q (putQuad q k row) k
+  unfolding putQuad
+  agree-put = record { sum = λ i h. getD-set-other (q .partial-curvatures) k i (row .«partial_curvature») nan (other i k h); owner = λ i h. getD-set-other (q .partial-splines) k i (row .spline) 0 (other i k h) }
+
+  put-sum : k < length (q .partial-curvatures) → sumAt (putQuad q k row) k ≡ row .«partial_curvature»
+  unfolding putQuad
+  put-sum h = getD-set-same (q .partial-curvatures) k (row .«partial_curvature») nan h
+
+  put-owner : k < length (q .partial-splines) → ownerAt (putQuad q k row) k ≡ row .spline
+  unfolding putQuad
+  put-owner h = getD-set-same (q .partial-splines) k (row .spline) 0 h
+
+  put-sums-length : length (putQuad q k row .partial-curvatures) ≡ length (q .partial-curvatures)
+  unfolding putQuad
+  put-sums-length = length-set (q .partial-curvatures) k (row .«partial_curvature»)
+
+  put-owners-length : length (putQuad q k row .partial-splines) ≡ length (q .partial-splines)
+  unfolding putQuad
+  put-owners-length = length-set (q .partial-splines) k (row .spline)
+
+module _ (caps : Capacities) (w : World) (S : Sound caps w) where
+  put : (edit : SplineEdit) (q' : QuadTable) (t k' : ℕ) (total : Float) → t ≤ w .state .splines → t < caps .splines → k' ≤ caps .quads
+      → edit .at ≡ t → edit .row .curvature ≡ total → edit .next .splines ≡ suc t → edit .next .quads ≡ k'
+      → Agree (w .quads) q' (w .state .quads) → length (q' .partial-curvatures) ≡ length (w .quads .partial-curvatures) → length (q' .partial-splines) ≡ length (w .quads .partial-splines)
+      → Span q' total (S .cut t) k' t
+      → Sound caps (world (edit .next) q' (putSpline (w .splines) edit))
+  put edit q' t k' total T≤ T< K at row next quads A l₁ l₂ R =
+      let s = w .splines in
+      let W = world (edit .next) q' (putSpline s edit) in
+      record {
+        cut = topped (S .cut) t k';
+        first = topped-low (S .cut) t k' 0 zero-le ∙ S .first;
+        all = ap (topped (S .cut) t k') next ∙ topped-high (S .cut) t k' (suc t) (le-refl (suc t)) ∙ sym quads;
+        span = λ j h. elim (eq-or-lt-of-le (le-of-suc-le-suc (lt-of-lt-of-le h (le-of-eq next)))) [
+          | inl e ↦
+              subst (λ (x : ℕ). Span q' (splineAt (putSpline s edit) x .curvature) (topped (S .cut) t k' x) (topped (S .cut) t k' (suc x)) x) (sym e)
+              (subst₂ (λ (x y : ℕ). Span q' (splineAt (putSpline s edit) t .curvature) x y t) (sym (topped-low (S .cut) t k' t (le-refl t))) (sym (topped-high (S .cut) t k' (suc t) (le-refl (suc t))))
+              (subst (λ (x : Float). Span q' x (S .cut t) k' t) (sym (new-total at row)) R))
+          | inr l ↦
+              subst₂ (λ (x y : ℕ). Span q' (splineAt (putSpline s edit) j .curvature) x y j) (sym (topped-low (S .cut) t k' j (le-of-lt l))) (sym (topped-low (S .cut) t k' (suc j) l))
+              (span-agree (w .quads) q' (splineAt s j .curvature) (splineAt (putSpline s edit) j .curvature) (S .cut j) (S .cut (suc j)) j
+              (below (S .cut (suc j)) (cut-le caps w S (suc j) (le-trans l T≤)))
+              (total-other s edit j (λ e. other j t l (e ∙ at)))
+              (S .span j (lt-of-lt-of-le l T≤)))
+        ];
+        room =
+            record {
+              quads = le-trans (le-of-eq quads) K;
+              splines = le-trans (le-of-eq next) T<;
+              sums = le-trans (S .room .sums) (le-of-eq (sym l₁));
+              owners = le-trans (S .room .owners) (le-of-eq (sym l₂));
+              totals = le-trans (S .room .totals) (le-of-eq (sym (totals-length s edit)));
+              flags = le-trans (S .room .flags) (le-of-eq (sym (flags-length s edit)));
+            };
+        waits = λ e. lt-of-lt-of-le (pos t) (le-of-eq (sym next));
+      }
+    where
+      pos : (t : ℕ) → 0 < suc t
+      pos t = omega arith
+
+      new-total : edit .at ≡ t → edit .row .curvature ≡ total → splineAt (putSpline (w .splines) edit) t .curvature ≡ total
+      new-total at row =
+          subst (λ (x : ℕ). splineAt (putSpline (w .splines) edit) x .curvature ≡ edit .row .curvature) at
+          (total-same (w .splines) edit (lt-of-le-of-lt (le-of-eq at) (lt-of-lt-of-le T< (S .room .totals)))) ∙ row
+
+      below : (hi : ℕ) → hi ≤ w .state .quads → Agree (w .quads) q' hi
+      below hi h = record { sum = λ i l. A .sum i (lt-of-lt-of-le l h); owner = λ i l. A .owner i (lt-of-lt-of-le l h) }
+
+  -- ---- the spline that is opened or joined, as it was
+  before-open : Span (w .quads) zero32 (S .cut (w .state .splines)) (w .state .quads) (w .state .splines)
+  before-open = subst (λ (x : ℕ). Span (w .quads) zero32 (S .cut (w .state .splines)) x (w .state .splines)) (S .all) (span-none (w .quads) (S .cut (w .state .splines)) (w .state .splines))
+
+  before-join : 0 < w .state .splines → Span (w .quads) (lastOf w .curvature) (S .cut (w .state .splines - 1)) (w .state .quads) (w .state .splines - 1)
+  before-join h =
+      let n = w .state .splines in
+      let p = pred-suc n h in
+      subst₂ (λ (x : Float) (y : ℕ). Span (w .quads) x (S .cut (n - 1)) y (n - 1)) (sym (ap (λ (r : SplineRow). r .curvature) (last-is w h))) (ap (S .cut) p ∙ S .all)
+      (S .span (n - 1) (le-of-eq p))
+
+  -- the sum that a spline has before one more quad: zero, or a running sum
+  pub sum-before : (opens : Bool) → (opens ≡ false → w .state .mark ≡ false) → T (natural (sumBefore opens (lastOf w))) × (num (sumBefore opens (lastOf w)) ≤ 65536 * den (sumBefore opens (lastOf w)))
+  unfolding sumBefore
+  sum-before true h = (zero-natural, le-trans (le-of-eq zero-num) zero-le)
+  sum-before false h = elim (span-total (w .quads) (lastOf w .curvature) _ _ _ (before-join (S .waits (h refl)))) [
+    | inl z ↦ subst (λ (x : Float). T (natural x) × (num x ≤ 65536 * den x)) (sym (z .1)) (zero-natural, le-trans (le-of-eq zero-num) zero-le)
+    | inr z ↦ (positive-natural (lastOf w .curvature) (z .sum .real), z .sum .most)
+  ]
+
+  sound-lined : (opens : Bool) (start end : Point) (angle : Angle) → Allowed caps w opens
+      → Sound caps (applyOf (Extend (splineEdit w opens start end (sumBefore opens (lastOf w)) (w .state .quads) angle)) (w .quads) (w .splines))
+  unfolding applyOf splineEditOf sumBefore
+  sound-lined true start end angle A =
+      let n = w .state .splines in
+      put (splineEdit w true start end zero32 (w .state .quads) angle) (w .quads) n (w .state .quads) zero32 (le-refl n) (A .room refl) (S .room .quads) refl refl (add-one n) refl
+      (agree-self (w .quads) (w .state .quads)) refl refl before-open
+  sound-lined false start end angle A =
+      let n = w .state .splines in
+      let N = S .waits (A .joins refl) in
+      put (splineEdit w false start end (lastOf w .curvature) (w .state .quads) angle) (w .quads) (n - 1) (w .state .quads) (lastOf w .curvature) (pred-le n) (lt-of-lt-of-le (pred-lt n N) (S .room .splines)) (S .room .quads) refl refl (sym (pred-suc n N)) refl
+      (agree-self (w .quads) (w .state .quads)) refl refl (before-join N)
+
+  sound-bent : (opens : Bool) (start end : Point) (angle : Angle) (c : Float) (row : QuadRow) → Allowed caps w opens → Bent c → w .state .quads < caps .quads → T (le (sumBefore opens (lastOf w) ⊕ c) limit32)
+      → row .«partial_curvature» ≡ sumBefore opens (lastOf w) ⊕ c
+      → row .spline ≡ splineEdit w opens start end (sumBefore opens (lastOf w) ⊕ c) (w .state .quads + 1) angle .at
+      → Sound caps (applyOf (Bend (splineEdit w opens start end (sumBefore opens (lastOf w) ⊕ c) (w .state .quads + 1) angle) (w .state .quads) row) (w .quads) (w .splines))
+  unfolding applyOf splineEditOf sumBefore
+  sound-bent true start end angle c row A B K fit e o =
+      let n = w .state .splines in
+      let k = w .state .quads in
+      let q = w .quads in
+      put (splineEdit w true start end (zero32 ⊕ c) (k + 1) angle) (putQuad q k row) n (suc k) (zero32 ⊕ c) (le-refl n) (A .room refl) K refl refl (add-one n) (add-one k)
+      (agree-put q k row) (put-sums-length q k row) (put-owners-length q k row)
+      (span-more q (putQuad q k row) zero32 c (S .cut n) k n before-open (agree-put q k row) B fit (put-sum q k row (lt-of-lt-of-le K (S .room .sums)) ∙ e) (put-owner q k row (lt-of-lt-of-le K (S .room .owners)) ∙ o))
+  sound-bent false start end angle c row A B K fit e o =
+      let n = w .state .splines in
+      let k = w .state .quads in
+      let q = w .quads in
+      let N = S .waits (A .joins refl) in
+      put (splineEdit w false start end (lastOf w .curvature ⊕ c) (k + 1) angle) (putQuad q k row) (n - 1) (suc k) (lastOf w .curvature ⊕ c) (pred-le n) (lt-of-lt-of-le (pred-lt n N) (S .room .splines)) K refl refl (sym (pred-suc n N)) (add-one k)
+      (agree-put q k row) (put-sums-length q k row) (put-owners-length q k row)
+      (span-more q (putQuad q k row) (lastOf w .curvature) c (S .cut (n - 1)) k (n - 1) (before-join N) (agree-put q k row) B fit (put-sum q k row (lt-of-lt-of-le K (S .room .sums)) ∙ e) (put-owner q k row (lt-of-lt-of-le K (S .room .owners)) ∙ o))
+
+  same-tables : (st : State) → st .splines ≡ w .state .splines → st .quads ≡ w .state .quads → (st .mark ≡ false → w .state .mark ≡ false) → Sound caps (world st (w .quads) (w .splines))
+  same-tables st e f m =
+      record {
+        cut = S .cut;
+        first = S .first;
+        all = ap (S .cut) e ∙ S .all ∙ sym f;
+        span = λ j h. S .span j (lt-of-lt-of-le h (le-of-eq e));
+        room =
+            record {
+              quads = le-trans (le-of-eq f) (S .room .quads);
+              splines = le-trans (le-of-eq e) (S .room .splines);
+              sums = S .room .sums;
+              owners = S .room .owners;
+              totals = S .room .totals;
+              flags = S .room .flags;
+            };
+        waits = λ h. lt-of-lt-of-le (S .waits (m h)) (le-of-eq (sym e));
+      }
+
+  pub sound-push : {b : Bool} {w' : World} → Pushed caps w b w' → Sound caps w'
+  unfolding refusedOf markedOf
+  sound-push (kept answer) = same-tables (refusedOf (w .state) answer) refl refl (λ h. h)
+  sound-push marked = same-tables (markedOf (w .state)) refl refl (λ h. absurd (true≢false h))
+  sound-push (lined opens start end angle A) = sound-lined opens start end angle A
+  sound-push (bent opens start end angle c row A B K fit e o) = sound-bent opens start end angle c row A B K fit e o
+
+-- ---- a run
+pub sound-run : (setting : Setting) (caps : Capacities) (ps : List Primitive) (w : World) → Sound caps w → Sound caps (runOf setting caps ps w)
+unfolding runOf
+sound-run setting caps [] w S = S
+sound-run setting caps (p ∷ ps) w S = sound-run setting caps ps (cond (isDone (w .state .answer)) (pushOf setting caps p w) w) (go (isDone (w .state .answer)))
+  where
+    go : (b : Bool) → Sound caps (cond b (pushOf setting caps p w) w)
+    go true = sound-push caps w S (pushed setting caps w p)
+    go false = S
+
+-- ---- where it starts, with any tables
+skip : (a b c : ℕ) → b ≤ c → min a b ≤ c
+skip a b c h = omega arith
+
+module _ (q : QuadTable) (s : SplineTable) where
+  quads-room : (quadCapacityOf q ≤ length (q .partial-curvatures)) × (quadCapacityOf q ≤ length (q .partial-splines))
+  unfolding quadCapacityOf
+  quads-room = (
+    skip _ _ _ (skip _ _ _ (skip _ _ _ (skip _ _ _ (skip _ _ _ (skip _ _ _ (skip _ _ _ (skip _ _ _ (min-le-left _ _)))))))),
+    skip _ _ _ (skip _ _ _ (skip _ _ _ (skip _ _ _ (skip _ _ _ (skip _ _ _ (skip _ _ _ (skip _ _ _ (min-le-right _ _)))))))),
+  )
+
+  pub splines-room : (splineCapacityOf s ≤ length (s .curvature)) × (splineCapacityOf s ≤ length (s .contour)) × (splineCapacityOf s ≤ indexLimit)
+  unfolding splineCapacityOf
+  splines-room = (skip _ _ _ (min-le-left _ _), skip _ _ _ (skip _ _ _ (skip _ _ _ (skip _ _ _ (skip _ _ _ (min-le-right _ _))))), min-le-left _ _)
+
+  pub sound-start : Sound (capacitiesOf q s) (world startState q s)
+  unfolding capacitiesOf
+  sound-start =
+      record {
+        cut = λ j. 0;
+        first = refl;
+        all = refl;
+        span = λ j h. absurd (not-below j h);
+        room =
+            record {
+              quads = zero-le;
+              splines = zero-le;
+              sums = quads-room .0;
+              owners = quads-room .1;
+              totals = splines-room .0;
+              flags = splines-room .1;
+            };
+        waits = λ h. absurd (true≢false h);
+      }
+    where
+      not-below : (j : ℕ) → j < 0 → ⊥
+      not-below j h = omega arith
+
+pub sound : (setting : Setting) (ps : List Primitive) (q : QuadTable) (s : SplineTable) → Sound (capacitiesOf q s) (runOf setting (capacitiesOf q s) ps (world startState q s))
+sound setting ps q s = sound-run setting (capacitiesOf q s) ps (world startState q s) (sound-start q s)
