@@ -18,9 +18,12 @@ pub told : {answer : Answer} {st : StoreState} {c : Columns} {o : Outcome} {r : 
 unfolding replyOf
 told {st = st} {c = c} e h = ap (λ (n : ℕ). reply n st c) e ∙ ap replyOf h
 
-pub flat-told : {f : Flattened} {q : QuadTable} {s : SplineTable} {o : Output} {setting setting' : Setting} {st : StoreState} {c : Columns} {q' : QuadTable} {s' : SplineTable} {o' : Output} {r : ℕ}
-    → setting ≡ setting' → r ≡ numberOf (f .answer) → flattening f q s o ≡ flattenOf setting st c q' s' o'
-    → flatReply r (f .splines) (f .quads) (f .points) q s o ≡ flatReplyOf (flattenOf setting' st c q' s' o')
+pub flat-told : {f : Flattened} {q : QuadTable} {s : SplineTable} {o : Output} {g : Flattening} {r : ℕ} → r ≡ numberOf (f .answer) → flattening f q s o ≡ g
+    → flatReply r (f .splines) (f .quads) (f .points) q s o ≡ flatReplyOf g
 unfolding flatReplyOf
-flat-told {f} {q} {s} {o} {st = st} {c = c} {q' = q'} {s' = s'} {o' = o'} e n h =
-    ap (λ (k : ℕ). flatReply k (f .splines) (f .quads) (f .points) q s o) n ∙ ap flatReplyOf h ∙ ap (λ (k : Setting). flatReplyOf (flattenOf k st c q' s' o')) e
+flat-told {f} {q} {s} {o} n h = ap (λ (k : ℕ). flatReply k (f .splines) (f .quads) (f .points) q s o) n ∙ ap flatReplyOf h
+
+-- the setting that was chosen is the one that the number means
+pub chosen : {g h : Setting} (st : StoreState) (c : Columns) (q : QuadTable) (s : SplineTable) (o : Output) → g ≡ h
+    → flatReplyOf (flattenOf g st c q s o) ≡ flatReplyOf (flattenOf h st c q s o)
+chosen st c q s o e = ap (λ (k : Setting). flatReplyOf (flattenOf k st c q s o)) e

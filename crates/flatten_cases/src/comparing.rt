@@ -134,7 +134,13 @@ pub fn splines_are(
     good
 }
 
-pub fn outputs_are(words: &[u32; 1024], x: &[f32; 1024], y: &[f32; 1024], end: &[u8; 1024], n: u32) -> bool {
+pub fn outputs_are(
+    words: &[u32; 1024],
+    x: &[f32; 1024],
+    y: &[f32; 1024],
+    end: &[u8; 1024],
+    n: u32,
+) -> bool {
     let mut good = true;
     let mut i = 0u32;
     while i < n {

@@ -45,7 +45,8 @@ fn setting_of(number: u32) -> Setting {
 fn is_expected(r: flatten::Flattened, expected: Expected) -> bool {
     let answer = r.answer;
     let done = answer::is_done(answer);
-    done & (r.quads == expected.quads as usize)
+    done
+        & (r.quads == expected.quads as usize)
         & (r.splines == expected.splines as usize)
         & (r.points == expected.words as usize)
 }
@@ -259,5 +260,8 @@ fn main() {
     io::print_decimal(STDOUT_FILENO, right as u64);
     io::write_all(STDOUT_FILENO, b" of ");
     io::print_decimal(STDOUT_FILENO, n as u64);
-    io::write_all(STDOUT_FILENO, b" drawings are as the original Rust flattens them\n");
+    io::write_all(
+        STDOUT_FILENO,
+        b" drawings are as the original Rust flattens them\n",
+    );
 }

@@ -60,7 +60,7 @@ pub fn any_flat(rng: &mut Rng, most: usize) -> Flat {
         },
     };
     // one thing wrong, now and then
-    if rng.one_in(10) && !columns.x.is_empty() && !columns.commands.is_empty() {
+    if rng.one_in(10) && !columns.x.is_empty() && !columns.commands.is_empty() && columns.y.len() == columns.x.len() && columns.weight.len() == columns.x.len() {
         let i = rng.below(columns.x.len() as u64) as usize;
         let bad = rng.pick(&[f32::NAN, f32::INFINITY, 4_194_304.5, 65.0, 0.0, 4_194_304.0, 64.0, 1.0 / 64.0, -4_194_304.0, -1.0]);
         match rng.below(8) {
