@@ -153,7 +153,7 @@ fn main() {
     for drawing in &directed {
         t.tell(compared.drawing(drawing, &mut lent));
     }
-    for _ in 0..number(3, "KERMEZHUL_LIBRARY_DRAWINGS", 100_000) {
+    for _ in 0..number(3, "KERMEZHUL_LIBRARY_DRAWINGS", 30_000) {
         let k = kind(&mut rng);
         let drawing = random(&mut rng, k);
         if rng.one_in(8) && drawing.len() > 2 {
