@@ -41,6 +41,25 @@ uint32_t kermezhul_rat_cubic_to(KERMEZHUL_DRAWING, float x1, float y1, float x2,
 /* Closes the contour with a line where it is open. */
 uint32_t kermezhul_build(KERMEZHUL_DRAWING);
 
+/* Flattens the drawing as it stands, closed or not. setting: 0 for the screen, any other number for the knife. Of the drawing nothing is changed.
+ *
+ * The work tables: quad_x, quad_y and quad_weight take three numbers for each quad, the other columns of the quad table one; the spline table has six
+ * columns. A table's capacity is its shortest column. words, out_x, out_y and out_end take one entry for each point; out_end is 1 at a contour's last point.
+ *
+ * On 0 `splines`, `quads` and `length` say how much is held, and the first `length` words and outputs are written. On 3 nothing is written and all three are
+ * 0. On 5 to 9 no word and no output is written, `length` is 0, and the tables hold what `splines` and `quads` say. Entries past the counts never change. */
+uint32_t kermezhul_flatten(
+    uint32_t setting, size_t points, size_t used, size_t opening,
+    const float *x, size_t x_len, const float *y, size_t y_len, const float *weight, size_t weight_len, const uint8_t *commands, size_t commands_len,
+    float *quad_x, size_t quad_x_len, float *quad_y, size_t quad_y_len, float *quad_weight, size_t quad_weight_len,
+    float *x0, size_t x0_len, float *dx_recip, size_t dx_recip_len, float *k0, size_t k0_len, float *dk, size_t dk_len,
+    float *curvatures_recip, size_t curvatures_recip_len, float *partial_curvatures, size_t partial_curvatures_len,
+    uint32_t *partial_splines, size_t partial_splines_len,
+    float *curvature, size_t curvature_len, float *p0x, size_t p0x_len, float *p0y, size_t p0y_len, float *p2x, size_t p2x_len, float *p2y, size_t p2y_len,
+    uint8_t *contour, size_t contour_len,
+    uint32_t *words, size_t words_len, float *out_x, size_t out_x_len, float *out_y, size_t out_y_len, uint8_t *out_end, size_t out_end_len,
+    size_t *splines, size_t *quads, size_t *length);
+
 /* The float leaves, for tests: each is correctly rounded, or as named in the documents. All NaNs count as one. */
 float kermezhul_fma(float a, float b, float c);
 float kermezhul_sqrt(float a);

@@ -1,8 +1,37 @@
 //! The library's side: its flattening over lent columns, and its leaves beside the processor's own operations.
 
 use super::{black_box, median, seconds, PAIRS};
-use against_rust::rng::Rng;
+use against_rust::{
+    flat_case::Flat,
+    hostile::by_library,
+    model::{Columns, Output, QuadTable, Setting, SplineTable, State},
+    rng::Rng,
+    seen::Store,
+};
 use kermezhul::leaves;
+
+/// A drawing and the columns lent for it, which are not cleared between runs.
+pub struct Drawing(Flat);
+
+impl Drawing {
+    pub fn new(store: &Store, points: usize) -> Self {
+        Drawing(Flat {
+            setting: Setting::Screen,
+            st: State { points: store.x.len(), commands: store.commands.len(), opening: store.opening },
+            columns: Columns { x: store.x.clone(), y: store.y.clone(), weight: store.weight.clone(), commands: store.commands.clone() },
+            quads: QuadTable::with_room(points),
+            splines: SplineTable::with_room(points),
+            output: Output::with_room(points),
+        })
+    }
+
+    /// How many points there are; it must not be refused.
+    pub fn flatten(&mut self) -> usize {
+        let f = by_library(&mut self.0);
+        assert_eq!(f.answer, 0);
+        f.points
+    }
+}
 
 /// The processor's operations, one at a time: called as the library's are, so that neither side is inlined or done for many numbers at once.
 #[inline(never)]

@@ -76,15 +76,17 @@ fn main() {
         let mut rust = screen::Repeated::new(&store);
         let points = rust.flatten();
         let times = (400_000 / points).max(1);
-        #[cfg(feature = "flatten")]
+        #[cfg(feature = "library")]
         let mut ours = library::Drawing::new(&store, points);
+        #[cfg(feature = "library")]
+        assert_eq!(ours.flatten(), points);
         let (mut a, mut b, mut ratio) = (Vec::new(), Vec::new(), Vec::new());
         for _ in 0..PAIRS {
             let r = seconds(times, || {
                 black_box(rust.flatten());
             });
             a.push(r);
-            #[cfg(feature = "flatten")]
+            #[cfg(feature = "library")]
             {
                 let o = seconds(times, || {
                     black_box(ours.flatten());

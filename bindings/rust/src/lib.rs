@@ -13,6 +13,8 @@
 //! let (answer, state) = columns.draw(state, Call::Line(10.0, 0.0));
 //! assert_eq!((answer, state), (0, State { points: 2, commands: 2, opening: 0 }));
 //! ```
+//!
+//! `examples/draw.rs` flattens such a drawing.
 
 /// What stands beside a drawing's columns: how many points and commands are in use, and which point opened the contour.
 #[derive(Clone, Copy, Debug, Default, PartialEq, Eq)]
@@ -64,6 +66,66 @@ mod raw {
         kermezhul_rat_quad_to(x1, y1, x2, y2, w);
         kermezhul_rat_cubic_to(x1, y1, x2, y2, x3, y3, w1, w2);
         kermezhul_build();
+    }
+
+    extern "C" {
+        pub fn kermezhul_flatten(
+            setting: u32,
+            points: usize,
+            used: usize,
+            opening: usize,
+            x: *const f32,
+            x_len: usize,
+            y: *const f32,
+            y_len: usize,
+            weight: *const f32,
+            weight_len: usize,
+            commands: *const u8,
+            commands_len: usize,
+            quad_x: *mut f32,
+            quad_x_len: usize,
+            quad_y: *mut f32,
+            quad_y_len: usize,
+            quad_weight: *mut f32,
+            quad_weight_len: usize,
+            x0: *mut f32,
+            x0_len: usize,
+            dx_recip: *mut f32,
+            dx_recip_len: usize,
+            k0: *mut f32,
+            k0_len: usize,
+            dk: *mut f32,
+            dk_len: usize,
+            curvatures_recip: *mut f32,
+            curvatures_recip_len: usize,
+            partial_curvatures: *mut f32,
+            partial_curvatures_len: usize,
+            partial_splines: *mut u32,
+            partial_splines_len: usize,
+            curvature: *mut f32,
+            curvature_len: usize,
+            p0x: *mut f32,
+            p0x_len: usize,
+            p0y: *mut f32,
+            p0y_len: usize,
+            p2x: *mut f32,
+            p2x_len: usize,
+            p2y: *mut f32,
+            p2y_len: usize,
+            contour: *mut u8,
+            contour_len: usize,
+            words: *mut u32,
+            words_len: usize,
+            out_x: *mut f32,
+            out_x_len: usize,
+            out_y: *mut f32,
+            out_y_len: usize,
+            out_end: *mut u8,
+            out_end_len: usize,
+            splines: &mut usize,
+            quads: &mut usize,
+            length: &mut usize,
+        ) -> u32;
     }
 
     extern "C" {
@@ -126,6 +188,133 @@ impl Columns<'_> {
         };
         (answer, st)
     }
+}
+
+/// In the knife setting a line without length keeps the direction before it.
+#[derive(Clone, Copy, Debug, PartialEq, Eq)]
+pub enum Setting {
+    Screen,
+    Knife,
+}
+
+/// The quad table: x, y and weight take three numbers for each quad, the others one. Its capacity is its shortest column.
+pub struct Quads<'a> {
+    pub x: &'a mut [f32],
+    pub y: &'a mut [f32],
+    pub weight: &'a mut [f32],
+    pub x0: &'a mut [f32],
+    pub dx_recip: &'a mut [f32],
+    pub k0: &'a mut [f32],
+    pub dk: &'a mut [f32],
+    pub curvatures_recip: &'a mut [f32],
+    pub partial_curvatures: &'a mut [f32],
+    pub partial_splines: &'a mut [u32],
+}
+
+/// The spline table. Its capacity is its shortest column.
+pub struct Splines<'a> {
+    pub curvature: &'a mut [f32],
+    pub p0x: &'a mut [f32],
+    pub p0y: &'a mut [f32],
+    pub p2x: &'a mut [f32],
+    pub p2y: &'a mut [f32],
+    pub contour: &'a mut [u8],
+}
+
+/// The packed words and the points; `end` is 1 at a contour's last point.
+pub struct Output<'a> {
+    pub words: &'a mut [u32],
+    pub x: &'a mut [f32],
+    pub y: &'a mut [f32],
+    pub end: &'a mut [u8],
+}
+
+/// The answer, and how many splines, quads and points there are. Of the points there are none on a refusal.
+#[derive(Clone, Copy, Debug, Default, PartialEq, Eq)]
+pub struct Flattened {
+    pub answer: u32,
+    pub splines: usize,
+    pub quads: usize,
+    pub points: usize,
+}
+
+/// A drawing's columns, to be read.
+#[derive(Clone, Copy)]
+pub struct Drawn<'a> {
+    pub x: &'a [f32],
+    pub y: &'a [f32],
+    pub weight: &'a [f32],
+    pub commands: &'a [u8],
+}
+
+/// Flattens the drawing as it stands, closed or not. Answers 0, 3 (unusable), 5 (too many pieces), 6 or 7 (a table is full), 8 (a sum is too large) or 9 (the
+/// words or outputs are too short); entries past the counts never change.
+pub fn flatten(setting: Setting, st: State, drawn: Drawn, q: &mut Quads, s: &mut Splines, o: &mut Output) -> Flattened {
+    let mut f = Flattened::default();
+    // SAFETY: the pointers and lengths are those of slices; the mutable ones overlap nothing, since each is borrowed mutably
+    f.answer = unsafe {
+        raw::kermezhul_flatten(
+            match setting {
+                Setting::Screen => 0,
+                Setting::Knife => 1,
+            },
+            st.points,
+            st.commands,
+            st.opening,
+            drawn.x.as_ptr(),
+            drawn.x.len(),
+            drawn.y.as_ptr(),
+            drawn.y.len(),
+            drawn.weight.as_ptr(),
+            drawn.weight.len(),
+            drawn.commands.as_ptr(),
+            drawn.commands.len(),
+            q.x.as_mut_ptr(),
+            q.x.len(),
+            q.y.as_mut_ptr(),
+            q.y.len(),
+            q.weight.as_mut_ptr(),
+            q.weight.len(),
+            q.x0.as_mut_ptr(),
+            q.x0.len(),
+            q.dx_recip.as_mut_ptr(),
+            q.dx_recip.len(),
+            q.k0.as_mut_ptr(),
+            q.k0.len(),
+            q.dk.as_mut_ptr(),
+            q.dk.len(),
+            q.curvatures_recip.as_mut_ptr(),
+            q.curvatures_recip.len(),
+            q.partial_curvatures.as_mut_ptr(),
+            q.partial_curvatures.len(),
+            q.partial_splines.as_mut_ptr(),
+            q.partial_splines.len(),
+            s.curvature.as_mut_ptr(),
+            s.curvature.len(),
+            s.p0x.as_mut_ptr(),
+            s.p0x.len(),
+            s.p0y.as_mut_ptr(),
+            s.p0y.len(),
+            s.p2x.as_mut_ptr(),
+            s.p2x.len(),
+            s.p2y.as_mut_ptr(),
+            s.p2y.len(),
+            s.contour.as_mut_ptr(),
+            s.contour.len(),
+            o.words.as_mut_ptr(),
+            o.words.len(),
+            o.x.as_mut_ptr(),
+            o.x.len(),
+            o.y.as_mut_ptr(),
+            o.y.len(),
+            o.end.as_mut_ptr(),
+            o.end.len(),
+            &mut f.splines,
+            &mut f.quads,
+            &mut f.points,
+        )
+    };
+    f
 }
 
 /// The float leaves, for tests.

@@ -6,9 +6,24 @@ use Rattle.answer.specs.Number.{numberOf}
 use Rattle.store.specs.declared.StoreState.{StoreState}
 use Rattle.store.specs.Columns.{Columns, stateAt}
 use Rattle.store.specs.Drawing.{Outcome, outcome}
-use Rattle.abi.specs.Reply.{reply, replyOf}
+use Rattle.primitives.specs.declared.Setting.{Setting}
+use Rattle.tables.specs.Tables.{QuadTable, SplineTable}
+use Rattle.evaluate.specs.Output.{Output}
+use Rattle.flatten.specs.declared.Flattened.{Flattened}
+use Rattle.flatten.specs.Flatten.{Flattening, flattening, flattenOf}
+use Rattle.abi.specs.Reply.{reply, replyOf, flatReply, flatReplyOf}
 
 pub told : {answer : Answer} {st : StoreState} {c : Columns} {o : Outcome} {r : ℕ} → r ≡ numberOf answer → outcome answer st c ≡ o
     → reply r (stateAt (st .points) (st .commands) (st .opening)) c ≡ replyOf o
 unfolding replyOf
 told {st = st} {c = c} e h = ap (λ (n : ℕ). reply n st c) e ∙ ap replyOf h
+
+pub flat-told : {f : Flattened} {q : QuadTable} {s : SplineTable} {o : Output} {g : Flattening} {r : ℕ} → r ≡ numberOf (f .answer) → flattening f q s o ≡ g
+    → flatReply r (f .splines) (f .quads) (f .points) q s o ≡ flatReplyOf g
+unfolding flatReplyOf
+flat-told {f} {q} {s} {o} n h = ap (λ (k : ℕ). flatReply k (f .splines) (f .quads) (f .points) q s o) n ∙ ap flatReplyOf h
+
+-- the setting that was chosen is the one that the number means
+pub chosen : {g h : Setting} (st : StoreState) (c : Columns) (q : QuadTable) (s : SplineTable) (o : Output) → g ≡ h
+    → flatReplyOf (flattenOf g st c q s o) ≡ flatReplyOf (flattenOf h st c q s o)
+chosen st c q s o e = ap (λ (k : Setting). flatReplyOf (flattenOf k st c q s o)) e

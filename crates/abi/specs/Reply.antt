@@ -1,10 +1,16 @@
--- What a drawing call of the door gives: the answer's number, and the counts, open index and columns as they are then. Assumes nothing.
-use Prim.Native.Nat.{ℕ}
+-- What the door gives: the answer's number in the place of the answer. Assumes nothing.
+use Prim.Native.Nat.{ℕ, zero, suc}
 use Rattle.answer.specs.Number.{numberOf}
 use Rattle.store.specs.declared.StoreState.{StoreState}
 use Rattle.store.specs.Columns.{Columns}
 use Rattle.store.specs.Drawing.{Outcome}
+use Rattle.primitives.specs.declared.Setting.{Setting}
+use Rattle.primitives.specs.declared.Setting.the-variants.{Screen, Knife}
+use Rattle.tables.specs.Tables.{QuadTable, SplineTable}
+use Rattle.evaluate.specs.Output.{Output}
+use Rattle.flatten.specs.Flatten.{Flattening}
 
+-- of a drawing call: the counts, the open index and the columns as they are then
 pub record Reply : Type 0 where
   pub answer : ℕ
   pub state : StoreState
@@ -15,3 +21,25 @@ reply answer state c = record { answer = answer; state = state; columns = c }
 
 unfoldable pub replyOf : Outcome → Reply
 replyOf o = reply (numberOf (o .answer)) (o .state) (o .columns)
+
+-- What a flattening by the door gives: the answer's number and the counts, and all that is then held.
+pub record FlatReply : Type 0 where
+  pub answer : ℕ
+  pub splines : ℕ
+  pub quads : ℕ
+  pub points : ℕ
+  pub quadTable : QuadTable
+  pub splineTable : SplineTable
+  pub output : Output
+
+abbrev pub flatReply : ℕ → ℕ → ℕ → ℕ → QuadTable → SplineTable → Output → FlatReply
+flatReply answer splines quads points q s o =
+    record { answer = answer; splines = splines; quads = quads; points = points; quadTable = q; splineTable = s; output = o }
+
+unfoldable pub flatReplyOf : Flattening → FlatReply
+flatReplyOf f = flatReply (numberOf (f .result .answer)) (f .result .splines) (f .result .quads) (f .result .points) (f .quads) (f .splines) (f .output)
+
+-- 0 is the screen setting, any other number the knife setting
+unfoldable pub settingOf : ℕ → Setting
+settingOf zero = Screen
+settingOf (suc n) = Knife

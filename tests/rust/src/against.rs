@@ -87,7 +87,11 @@ pub fn same_store(st: State, c: &Columns, store: &Store) -> Result<(), String> {
 
 /// All that a flattening gives on 0.
 pub fn same_flattening(f: Flattened, room: &Room, seen: &Seen) -> Result<(), String> {
-    let (q, s, o, t) = (&room.quads, &room.splines, &room.output, &seen.tables);
+    same_columns(f, &room.quads, &room.splines, &room.output, seen)
+}
+
+pub fn same_columns(f: Flattened, q: &QuadTable, s: &SplineTable, o: &Output, seen: &Seen) -> Result<(), String> {
+    let t = &seen.tables;
     if (f.splines, f.quads, f.points) != (t.curvature.len(), t.x0.len(), seen.words.len()) {
         return Err(format!("{f:?}, the original has {} splines, {} quads, {} points", t.curvature.len(), t.x0.len(), seen.words.len()));
     }

@@ -503,8 +503,9 @@ pub fn by_hand(rng: &mut Rng) -> Store {
         s.commands.push(rng.pick(&[0, 1, 1, 2, 2, 2, 3, 3]));
     }
     let k = rng.pick(&[0, 1, 1, 2, 4, 6, 14, 15]);
-    let same_weight = rng.one_in(3);
-    let w0 = weight(rng);
+    let same_weight = rng.one_in(3) || k >= 14;
+    // divided by the least weight, the largest coordinates give sums beyond 65,536
+    let w0 = if k >= 14 { 1.0 / 64.0 } else { weight(rng) };
     let n: usize = s.commands.iter().map(|&c| (c as usize).max(1)).sum();
     let mut before = vec![p(0.0, 0.0)];
     for _ in 0..n {

@@ -1,9 +1,9 @@
 //! The library itself against the model: every answer, count and lent entry, on good calls and on bad ones.
 
 use crate::{
-    call::{p, written, Call},
-    model::{self, Columns, State},
-    rng::Rng,
+    call::{written, Call},
+    flat_case::Flat,
+    model::{self, Columns, Flattened, State},
 };
 use kermezhul as lib;
 
@@ -75,80 +75,6 @@ pub fn replay_both(calls: &[Call], room: usize) -> Result<(State, Columns), Stri
     Ok((st, ours))
 }
 
-/// A float of any pattern, or one next to a limit.
-pub fn any_float(rng: &mut Rng) -> f32 {
-    match rng.below(12) {
-        0 => f32::from_bits(rng.next() as u32),
-        1 => f32::from_bits(0x7f80_0001 + rng.below(0x7f_fffe) as u32),
-        2 => f32::from_bits(0xff80_0001 + rng.below(0x7f_fffe) as u32),
-        3 => rng.pick(&[f32::INFINITY, f32::NEG_INFINITY, 0.0, -0.0, f32::MIN_POSITIVE, f32::MAX]),
-        4 => f32::from_bits(65_536f32.to_bits() + rng.below(3) as u32 - 1) * rng.sign(),
-        5 => f32::from_bits(4_194_304f32.to_bits() + rng.below(3) as u32 - 1) * rng.sign(),
-        6 => f32::from_bits(rng.pick(&[1.0f32 / 64.0, 64.0, 1.0]).to_bits() + rng.below(3) as u32 - 1) * if rng.one_in(8) { -1.0 } else { 1.0 },
-        7 => rng.below(8) as f32,
-        _ => rng.between(-100.0, 100.0) as f32,
-    }
-}
-
-pub fn any_call(rng: &mut Rng) -> Call {
-    // mostly good numbers, so that the later tests are reached
-    let bad = rng.one_in(3);
-    let f = |rng: &mut Rng| if bad { any_float(rng) } else { rng.between(-50.0, 50.0) as f32 };
-    let q = |rng: &mut Rng| {
-        let (x, y) = (f(rng), f(rng));
-        p(x, y)
-    };
-    let w = |rng: &mut Rng| if rng.one_in(3) { any_float(rng) } else { rng.between(0.02, 60.0) as f32 };
-    match rng.below(7) {
-        0 => Call::Move(q(rng)),
-        1 => Call::Line(q(rng)),
-        2 => Call::Quad(q(rng), q(rng)),
-        3 => Call::Cubic(q(rng), q(rng), q(rng)),
-        4 => Call::RatQuad(q(rng), q(rng), w(rng)),
-        5 => Call::RatCubic(q(rng), q(rng), q(rng), w(rng), w(rng)),
-        _ => Call::Build,
-    }
-}
-
-pub fn any_count(rng: &mut Rng, near: usize) -> usize {
-    match rng.below(12) {
-        0 => rng.next() as usize,
-        1 => usize::MAX - rng.below(4) as usize,
-        2 => 0,
-        3..=5 => (near + rng.below(5) as usize).saturating_sub(2),
-        _ => rng.below(near as u64 + 1) as usize,
-    }
-}
-
-/// Columns of any lengths with anything in them, and any state.
-pub fn any_store(rng: &mut Rng) -> (State, Columns) {
-    let n = rng.below(12) as usize;
-    let m = rng.below(9) as usize;
-    let uneven = rng.one_in(10);
-    let odd = |rng: &mut Rng| if uneven { rng.below(13) as usize } else { n };
-    let good = rng.one_in(2);
-    let floats = |rng: &mut Rng, len: usize| -> Vec<f32> {
-        (0..len)
-            .map(|_| if good { rng.below(4) as f32 } else { any_float(rng) })
-            .collect()
-    };
-    let (ny, nw) = (odd(rng), odd(rng));
-    let c = Columns {
-        x: floats(rng, n),
-        y: floats(rng, ny),
-        weight: if good { (0..nw).map(|_| rng.pick(&[1.0, 1.0, 2.0, 0.5])).collect() } else { floats(rng, nw) },
-        commands: (0..m).map(|_| if rng.one_in(12) { rng.next() as u8 } else { rng.below(4) as u8 }).collect(),
-    };
-    let wild = rng.one_in(6);
-    let st = if wild {
-        State { points: any_count(rng, n), commands: any_count(rng, m), opening: any_count(rng, n) }
-    } else {
-        let points = 1 + rng.below(n.max(1) as u64) as usize;
-        State { points, commands: 1 + rng.below(m.max(1) as u64) as usize, opening: rng.below(points as u64) as usize }
-    };
-    (st, c)
-}
-
 /// What differs between a leaf and the machine's own operation, or the model's.
 pub fn leaves_on(a: f32, b: f32, c: f32) -> Result<(), String> {
     use lib::leaves;
@@ -186,3 +112,74 @@ pub fn leaves_on(a: f32, b: f32, c: f32) -> Result<(), String> {
     Ok(())
 }
 
+
+/// The library's flattening of all that is lent.
+pub fn by_library(f: &mut Flat) -> Flattened {
+    let st = lib::State { points: f.st.points, commands: f.st.commands, opening: f.st.opening };
+    let drawn = lib::Drawn { x: &f.columns.x, y: &f.columns.y, weight: &f.columns.weight, commands: &f.columns.commands };
+    let (q, s, o) = (&mut f.quads, &mut f.splines, &mut f.output);
+    let mut quads = lib::Quads {
+        x: &mut q.x,
+        y: &mut q.y,
+        weight: &mut q.weight,
+        x0: &mut q.x0,
+        dx_recip: &mut q.dx_recip,
+        k0: &mut q.k0,
+        dk: &mut q.dk,
+        curvatures_recip: &mut q.curvatures_recip,
+        partial_curvatures: &mut q.partial_curvatures,
+        partial_splines: &mut q.partial_splines,
+    };
+    let mut splines = lib::Splines {
+        curvature: &mut s.curvature,
+        p0x: &mut s.p0x,
+        p0y: &mut s.p0y,
+        p2x: &mut s.p2x,
+        p2y: &mut s.p2y,
+        contour: &mut s.contour,
+    };
+    let mut output = lib::Output { words: &mut o.words, x: &mut o.x, y: &mut o.y, end: &mut o.end };
+    let setting = match f.setting {
+        model::Setting::Screen => lib::Setting::Screen,
+        model::Setting::Knife => lib::Setting::Knife,
+    };
+    let r = lib::flatten(setting, st, drawn, &mut quads, &mut splines, &mut output);
+    Flattened { answer: r.answer as u8, splines: r.splines, quads: r.quads, points: r.points }
+}
+
+/// The same flattening by both, on equal buffers: the answer, or what differs.
+pub fn flatten_both(lent: &Flat) -> Result<Flattened, String> {
+    let (mut ours, mut theirs) = (lent.clone(), lent.clone());
+    let (a, b) = (by_library(&mut ours), theirs.by_model());
+    let told = |e: String| format!("{e}\n  flattening {:?} on {:?}, {:?}", lent.setting, lent.st, lent.columns);
+    if a != b {
+        return Err(told(format!("{a:?}, the model has {b:?}")));
+    }
+    let (q, r) = (&ours.quads, &theirs.quads);
+    let (s, t) = (&ours.splines, &theirs.splines);
+    let (o, p) = (&ours.output, &theirs.output);
+    for (name, x, y) in [
+        ("x", &q.x, &r.x),
+        ("y", &q.y, &r.y),
+        ("weight", &q.weight, &r.weight),
+        ("x0", &q.x0, &r.x0),
+        ("dx_recip", &q.dx_recip, &r.dx_recip),
+        ("k0", &q.k0, &r.k0),
+        ("dk", &q.dk, &r.dk),
+        ("curvatures_recip", &q.curvatures_recip, &r.curvatures_recip),
+        ("partial_curvatures", &q.partial_curvatures, &r.partial_curvatures),
+        ("curvature", &s.curvature, &t.curvature),
+        ("p0x", &s.p0x, &t.p0x),
+        ("p0y", &s.p0y, &t.p0y),
+        ("p2x", &s.p2x, &t.p2x),
+        ("p2y", &s.p2y, &t.p2y),
+        ("output x", &o.x, &p.x),
+        ("output y", &o.y, &p.y),
+    ] {
+        same_floats(name, x, y).map_err(told)?;
+    }
+    if q.partial_splines != r.partial_splines || s.contour != t.contour || o.words != p.words || o.end != p.end {
+        return Err(told("partial_splines, contour, words or end differ from the model's".to_string()));
+    }
+    Ok(a)
+}

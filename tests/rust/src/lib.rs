@@ -59,9 +59,11 @@ mod path_knife {
 pub mod against;
 pub mod call;
 pub mod drawings;
+pub mod flat_case;
 #[cfg(feature = "library")]
 pub mod hostile;
 pub mod model;
 pub mod original;
 pub mod rng;
 pub mod seen;
+pub mod wild;

@@ -21,7 +21,7 @@ fn number(at: usize, variable: &str, default: u64) -> u64 {
 }
 
 fn main() {
-    let drawings = number(1, "KERMEZHUL_DRAWINGS", 120_000);
+    let drawings = number(1, "KERMEZHUL_DRAWINGS", 100_000);
     let seed = number(2, "KERMEZHUL_SEED", 1);
     let start = Instant::now();
     let mut room = Room::new(1 << 16, 1 << 16, 1 << 20);

@@ -1,11 +1,20 @@
 //! Compares the library itself with the model, call by call: drawings, hostile calls, and the float leaves. Its status is not 0 on any mismatch.
 //!
-//! library [HOSTILE [SEED]], or the variables KERMEZHUL_HOSTILE and KERMEZHUL_SEED.
+//! library [HOSTILE [SEED [DRAWINGS]]], or the variables KERMEZHUL_HOSTILE, KERMEZHUL_SEED and KERMEZHUL_LIBRARY_DRAWINGS.
 
 use against_rust::{
+    against::{same_columns, same_store},
+    call::{written, Call},
     drawings::{directed, kind, random},
-    hostile::{any_call, any_float, any_store, call_both, leaves_on, replay_both},
+    flat_case::{any_flat, Flat},
+    hostile::{by_library, call_both, flatten_both, leaves_on, replay_both},
+    model::{
+        flatten::{exact_pieces, pieces_of},
+        Columns, Output, QuadTable, Setting, SplineTable, State,
+    },
+    original::{knife, screen},
     rng::Rng,
+    wild::{any_call, any_float, any_store},
 };
 use std::time::Instant;
 
@@ -34,6 +43,53 @@ impl Teller {
                 None
             }
         }
+    }
+}
+
+#[derive(Default)]
+struct Compared {
+    drawings: u64,
+    whole: u64,
+    points: u64,
+    cubics: u64,
+    differing_cubics: u64,
+    differing_drawings: u64,
+    refused: [u64; 12],
+}
+
+impl Compared {
+    /// The calls and the flattening by the library, and all they leave against the original.
+    fn drawing(&mut self, calls: &[Call], lent: &mut Flat) -> Result<(), String> {
+        self.drawings += 1;
+        (lent.st, lent.columns) = replay_both(calls, 2 + 4 * calls.len())?;
+        same_store(lent.st, &lent.columns, &screen::store(calls)).map_err(|e| format!("{e}\n{}", written(calls)))?;
+        let pieces = screen::pieces(calls);
+        let ours = pieces_of(lent.st, &lent.columns, exact_pieces);
+        self.cubics += ours.len() as u64;
+        let differing = ours.iter().zip(&pieces).filter(|(a, b)| **a != **b as u64).count() as u64;
+        self.differing_cubics += differing;
+        for setting in [Setting::Screen, Setting::Knife] {
+            lent.setting = setting;
+            let f = by_library(lent);
+            if f.answer != 0 {
+                self.refused[f.answer as usize] += 1;
+                continue;
+            }
+            if differing > 0 {
+                continue;
+            }
+            let seen = match setting {
+                Setting::Screen => screen::flatten(calls),
+                Setting::Knife => knife::flatten(calls),
+            };
+            same_columns(f, &lent.quads, &lent.splines, &lent.output, &seen).map_err(|e| format!("{setting:?}: {e}\n{}", written(calls)))?;
+            self.whole += 1;
+            self.points += f.points as u64;
+        }
+        if differing > 0 {
+            self.differing_drawings += 1;
+        }
+        Ok(())
     }
 }
 
@@ -72,6 +128,44 @@ fn main() {
         }
     }
     println!("{hostile} hostile drawing calls, by answer: {:?}", &answers[..5]);
+
+    // flattenings with any store and any lent lengths
+    let flats = hostile / 20;
+    let mut answers = [0u64; 12];
+    for _ in 0..flats {
+        let lent = any_flat(&mut rng, 100);
+        if let Some(f) = t.tell(flatten_both(&lent)) {
+            answers[f.answer as usize] += 1;
+        }
+    }
+    println!("{flats} flattenings with any store and lengths, by answer 0 to 9: {:?}", &answers[..10]);
+
+    // the library itself against the original: store, tables, words and points, both settings; drawn on and flattened again in between
+    let mut compared = Compared::default();
+    let mut lent = Flat {
+        setting: Setting::Screen,
+        st: State::default(),
+        columns: Columns::default(),
+        quads: QuadTable::with_room(1 << 15),
+        splines: SplineTable::with_room(1 << 14),
+        output: Output::with_room(1 << 18),
+    };
+    for drawing in &directed {
+        t.tell(compared.drawing(drawing, &mut lent));
+    }
+    for _ in 0..number(3, "KERMEZHUL_LIBRARY_DRAWINGS", 30_000) {
+        let k = kind(&mut rng);
+        let drawing = random(&mut rng, k);
+        if rng.one_in(8) && drawing.len() > 2 {
+            let part = 1 + rng.below(drawing.len() as u64 - 1) as usize;
+            t.tell(compared.drawing(&drawing[..part], &mut lent));
+        }
+        t.tell(compared.drawing(&drawing, &mut lent));
+    }
+    println!(
+        "{} drawings by the library and the original, both settings: {} compared whole, {} points; {} cubics, {} of them cut differently, in {} drawings; refused by the library alone: {:?}",
+        compared.drawings, compared.whole, compared.points, compared.cubics, compared.differing_cubics, compared.differing_drawings, &compared.refused[..10]
+    );
 
     let leaves = hostile;
     for _ in 0..leaves {

@@ -1,0 +1,50 @@
+//! Draws a belt end (a straight that runs into a half round), flattens it in the knife setting and prints its points.
+//!
+//! `examples/run` builds and runs it.
+
+use kermezhul::{flatten, Call, Columns, Drawn, Output, Quads, Setting, Splines};
+
+fn main() {
+    let (mut x, mut y, mut weight, mut commands) = ([0.0; 64], [0.0; 64], [0.0; 64], [0; 64]);
+    let mut columns = Columns { x: &mut x, y: &mut y, weight: &mut weight, commands: &mut commands };
+    let (mut answer, mut state) = columns.fresh();
+    let calls = [
+        Call::Line(100.0, 0.0),
+        Call::Cubic([111.05, 0.0, 120.0, 8.95, 120.0, 20.0]),
+        Call::Cubic([120.0, 31.05, 111.05, 40.0, 100.0, 40.0]),
+        Call::Line(0.0, 40.0),
+        Call::Build,
+    ];
+    for call in calls {
+        if answer == 0 {
+            (answer, state) = columns.draw(state, call);
+        }
+    }
+    if answer != 0 {
+        println!("refused: {answer}");
+        return;
+    }
+
+    const QUADS: usize = 64;
+    const SPLINES: usize = 16;
+    const POINTS: usize = 256;
+    let mut three = [[0.0; 3 * QUADS]; 3];
+    let mut one = [[0.0; QUADS]; 6];
+    let mut partial_splines = [0; QUADS];
+    let mut spline = [[0.0; SPLINES]; 5];
+    let mut contour = [0; SPLINES];
+    let (mut words, mut out, mut end) = ([0; POINTS], [[0.0; POINTS]; 2], [0; POINTS]);
+    let [qx, qy, qw] = &mut three;
+    let [x0, dx_recip, k0, dk, curvatures_recip, partial_curvatures] = &mut one;
+    let mut quads = Quads { x: qx, y: qy, weight: qw, x0, dx_recip, k0, dk, curvatures_recip, partial_curvatures, partial_splines: &mut partial_splines };
+    let [curvature, p0x, p0y, p2x, p2y] = &mut spline;
+    let mut splines = Splines { curvature, p0x, p0y, p2x, p2y, contour: &mut contour };
+    let [out_x, out_y] = &mut out;
+    let mut output = Output { words: &mut words, x: out_x, y: out_y, end: &mut end };
+    let drawn = Drawn { x: &x, y: &y, weight: &weight, commands: &commands };
+    let f = flatten(Setting::Knife, state, drawn, &mut quads, &mut splines, &mut output);
+    println!("answer {}: {} splines, {} quads, {} points", f.answer, f.splines, f.quads, f.points);
+    for i in 0..f.points {
+        println!("{:9.4} {:9.4}{}", output.x[i], output.y[i], if output.end[i] == 1 { "  end" } else { "" });
+    }
+}
