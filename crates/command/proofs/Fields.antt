@@ -1,7 +1,7 @@
 -- The fields of a word of 32 bits: what the masks of the code keep, and which words are a step, a Start and an End. Assumes nothing.
 use Prim.Native.Nat.{ℕ, zero, suc, _+_, _*_, _/_, _%_, _^_, _<_, _≤_}
 use mathlib.Core.Path.{_≡_, refl, sym, _∙_, ap}
-use mathlib.Core.Bool.{Bool, true, false, not, cond}
+use mathlib.Core.Bool.{true, false, not}
 use native.Mathlib.Nat.{mod-eq-of-lt, add-zero}
 use native.Mathlib.Omega.{arith}
 use lib.Dec.{eqb, lit<}
@@ -10,7 +10,6 @@ use lib.Ieee.{binary32, nanBits}
 use lib.Ieee.Bits.{nanBits-above}
 use borrow.Author.Tests.{eq-eqb, ne-eqb, le-ltb}
 use Rattle.leaves.specs.Bits.{floatOf}
-use Rattle.command.specs.declared.PointCommand.{PointCommand}
 use Rattle.command.specs.declared.PointCommand.the-variants.{Start, Incr, End}
 use Rattle.command.specs.Packing.{indexLimit, packOf, unpackOf}
 

@@ -1,7 +1,6 @@
 -- `point_vectors::word` is safe and ends: the array has nine bytes, and the loop reads eight of them. Assumes nothing.
 use Prim.Native.Nat.{_≤_, _-_}
 use mathlib.Core.Path.{_≡_}
-use native.Mathlib.Omega.{arith}
 use borrow.Author.Needs.{needs}
 use lib.ListN.{length}
 use Rattle.point_vectors.proofs.word.Statement.{statement}

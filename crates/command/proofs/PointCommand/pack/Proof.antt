@@ -2,7 +2,6 @@
 use mathlib.Core.Path.{sym, _∙_, ap}
 use mathlib.Core.Bool.{Bool}
 use Rattle.command.specs.Packing.{packOf}
-use Rattle.command.specs.declared.PointCommand.{PointCommand}
 use Rattle.command.specs.declared.PointCommand.the-variants.{End}
 use Rattle.command.proofs.Fields.{start, end-plain, end-flagged}
 use borrow.Author.Needs.{needs}

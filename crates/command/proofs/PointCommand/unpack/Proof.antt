@@ -1,6 +1,5 @@
 -- `command::PointCommand::unpack` meets its contract: its masks keep the fields by which the definition goes. Assumes nothing.
-use Prim.Native.Nat.{_<_, _^_}
-use mathlib.Core.Path.{sym, _∙_, subst}
+use mathlib.Core.Path.{sym, subst}
 use mathlib.Core.Bool.{Bool, not}
 use native.Mathlib.Omega.{arith}
 use borrow.Author.Needs.{needs}

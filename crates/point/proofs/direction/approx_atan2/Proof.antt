@@ -2,7 +2,7 @@
 use mathlib.Core.Path.{_≡_, refl}
 use mathlib.Core.Logic.{⊎-elim}
 use mathlib.Core.Bool.{cond}
-use lib.Ieee.{Float, lt, neg, ofBits}
+use lib.Ieee.{lt, neg, ofBits}
 use Rattle.leaves.specs.Single.{_⊖_, f32, zero32}
 use Rattle.point.specs.Angle.{pi, halfPi, approxAtan2Of}
 use borrow.Author.Needs.{needs}
