@@ -9,6 +9,8 @@ use std::hint::black_box;
 
 #[cfg(feature = "library")]
 mod library;
+#[cfg(feature = "others")]
+mod others;
 
 const PAIRS: usize = 31;
 
@@ -102,6 +104,10 @@ fn main() {
             ratio.clear();
         } else {
             println!("{kind:8} {:9} {points:9} {:>12} {:>12} {:7.2}", calls.len(), ns(median(a)), ns(median(b)), median(ratio));
+        }
+        #[cfg(feature = "others")]
+        for (name, points, each) in others::times(&calls) {
+            println!("  {name:16} {points:9} {:>12}", format!("{each:.1} ns"));
         }
     }
     println!("times are for each point of the result");
