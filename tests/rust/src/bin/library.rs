@@ -100,7 +100,8 @@ fn main() {
     let mut t = Teller::default();
 
     let mut calls = 0;
-    let directed = directed();
+    // both stores are compared whole after every call, so the longest drawings are left to the model and to flatten_runs
+    let directed: Vec<_> = directed().into_iter().filter(|calls| calls.len() < 1000).collect();
     for drawing in &directed {
         calls += drawing.len();
         t.tell(replay_both(drawing, 2 + 4 * drawing.len()));
@@ -146,14 +147,14 @@ fn main() {
         setting: Setting::Screen,
         st: State::default(),
         columns: Columns::default(),
-        quads: QuadTable::with_room(1 << 15),
+        quads: QuadTable::with_room(1 << 16),
         splines: SplineTable::with_room(1 << 14),
         output: Output::with_room(1 << 18),
     };
     for drawing in &directed {
         t.tell(compared.drawing(drawing, &mut lent));
     }
-    for _ in 0..number(3, "KERMEZHUL_LIBRARY_DRAWINGS", 30_000) {
+    for _ in 0..number(3, "KERMEZHUL_LIBRARY_DRAWINGS", 100_000) {
         let k = kind(&mut rng);
         let drawing = random(&mut rng, k);
         if rng.one_in(8) && drawing.len() > 2 {
