@@ -1,6 +1,6 @@
 /* Kermezhul for C: outlines of lines, quads and cubics, flattened into the points that a knife follows.
  *
- * Link with target/staticlib/libabi.a, which `rt staticlib abi` proves and writes (x86-64 Linux).
+ * Link with target/staticlib/libabi.a, which `bindings/build` proves and writes.
  *
  * The caller lends all memory. Each column is a pointer and its length in entries. No pointer may be null, also where the length is 0, and no two columns
  * that are lent to one call may overlap. Apart from that every call is defined on all values: it returns 0, or the number of a refusal.

@@ -1,4 +1,4 @@
-//! Links libabi.a, which `rt staticlib abi` proves and writes to target/staticlib. KERMEZHUL_STATICLIB names another folder.
+//! Links libabi.a, which `bindings/build` proves and writes to target/staticlib. KERMEZHUL_STATICLIB names another folder.
 
 use std::{env, path::PathBuf};
 
@@ -9,7 +9,7 @@ fn main() {
     };
     println!("cargo:rerun-if-env-changed=KERMEZHUL_STATICLIB");
     println!("cargo:rerun-if-changed={}", dir.join("libabi.a").display());
-    assert!(dir.join("libabi.a").exists(), "{} is not there: run `rt staticlib abi`, or say where it is in KERMEZHUL_STATICLIB", dir.join("libabi.a").display());
+    assert!(dir.join("libabi.a").exists(), "{} is not there: run `bindings/build`, or say where it is in KERMEZHUL_STATICLIB", dir.join("libabi.a").display());
     println!("cargo:rustc-link-search=native={}", dir.display());
     println!("cargo:rustc-link-lib=static=abi");
 }

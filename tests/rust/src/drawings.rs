@@ -311,6 +311,12 @@ fn rounded(rng: &mut Rng) -> Vec<Call> {
     calls
 }
 
+/// Straight quads of length 1 in a row: the sum 65,536 is accepted, one quad more gives answer 8. Too long for the fixed lists.
+pub fn long_rows() -> Vec<Vec<Call>> {
+    let row = |n: u16| (0..n).map(|i| Call::Quad(p(i as f32 + 0.5, 0.0), p(i as f32 + 1.0, 0.0))).collect();
+    vec![row(32_768), row(32_769)]
+}
+
 /// Drawings made for one rule each.
 pub fn directed() -> Vec<Vec<Call>> {
     use Call::*;
@@ -330,11 +336,6 @@ pub fn directed() -> Vec<Vec<Call>> {
     add(vec![Quad(p(5.0, 0.0), p(10.0, 0.0))]);
     add(vec![Quad(p(0.0, 0.0), p(0.0, 0.0))]);
     add(vec![Move(p(1.0, 1.0)), Move(p(2.0, 2.0))]);
-
-    // straight quads of length 1 in a row: the sum 65,536 is accepted, one more gives answer 8
-    for n in [32_768u16, 32_769] {
-        add((0..n).map(|i| Quad(p(i as f32 + 0.5, 0.0), p(i as f32 + 1.0, 0.0))).collect());
-    }
 
     // chords at all angles, those of forty-five degrees among them: lines, quarter rounds by quads and by cubics
     for degrees in 0..360 {

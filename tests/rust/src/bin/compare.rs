@@ -4,7 +4,7 @@
 
 use against_rust::{
     against::{compare_drawing, compare_store, Counts, Room},
-    drawings::{by_hand, directed, kind, random, rational_difference, DIFFERENT, KINDS},
+    drawings::{by_hand, directed, kind, long_rows, random, rational_difference, DIFFERENT, KINDS},
     call::{p, Call},
     model::{self, cover, flatten::{exact_pieces, pieces_of}},
     original::screen,
@@ -50,7 +50,10 @@ fn main() {
     let directed = directed();
     println!("{} directed drawings, {drawings} random ones, seed {seed}", directed.len());
     for calls in &directed {
-        tell(compare_drawing(calls, calls.len() < 1000, &mut room, &mut n));
+        tell(compare_drawing(calls, true, &mut room, &mut n));
+    }
+    for calls in long_rows() {
+        tell(compare_drawing(&calls, false, &mut room, &mut n));
     }
     let mut rng = Rng(seed);
     let mut by_kind = [0u64; KINDS.len()];

@@ -100,8 +100,7 @@ fn main() {
     let mut t = Teller::default();
 
     let mut calls = 0;
-    // both stores are compared whole after every call, so the longest drawings are left to the model and to flatten_runs
-    let directed: Vec<_> = directed().into_iter().filter(|calls| calls.len() < 1000).collect();
+    let directed = directed();
     for drawing in &directed {
         calls += drawing.len();
         t.tell(replay_both(drawing, 2 + 4 * drawing.len()));
