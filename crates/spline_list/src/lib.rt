@@ -81,7 +81,7 @@ pub fn put_row(
 }
 
 // Whether n splines can go from a list to columns or back, by the lengths: the list has n records, and no column ends before n.
-pub fn agree(
+fn agree(
     n: usize,
     list: usize,
     curvature: usize,
