@@ -25,9 +25,11 @@ use prog.Wp.{Heap, Out, Env, afterSeq, afterBlock, afterTurn, Wp, atReturn, WpFn
 use ghost.Atoms.{Atoms, sem}
 use contract.Monad.{Fun, fact}
 use contract.Running.{givenOf, tables, tablesOf}
-use types.Kit.{Given, Item, ‵, raw, _⊛_, some, later, ⋆, runs, anyQ, atRet, Sq, _$_, _∵_, !, qed, by, move, keep, drop, use0, use1, use2, split, join, pick, rewrite, fsplit, fjoin, suffices, frame, await, done}
+use types.Kit.{Given, Item, ‵, raw, _⊛_, some, later, ⋆, runs, anyQ, atRet, Sq, _$_, _∵_, !, qed, by, move, keep, drop, use0, use1, use2, split, join, pick}
+use types.Kit.{rewrite, fsplit, fjoin, suffices, frame, await, done}
 use types.Part.{whole, sub, look-in}
-use types.Run.{look, store, store-raw, init, forget, stop, hop, fld, from, load, lit, of-opd, bin, and-then, no-more, assigns, assigns-last, land, first, skips, jumps, blocks, branches, returns, enter, alloc1, alloc0, params1, pass1, pass0, free1, free0, exec, Below, again, loops}
+use types.Run.{look, store, store-raw, init, forget, stop, hop, fld, from, load, lit, of-opd, bin, and-then, no-more, assigns, assigns-last, land, first}
+use types.Run.{skips, jumps, blocks, branches, returns, enter, alloc1, alloc0, params1, pass1, pass0, free1, free0, exec, Below, again, loops}
 use sound.WpLaws.{fmOf, WpFn-mono}
 use denote.RattleType.{RattleType, Denots, Valss}
 use denote.Shadow.{pureI}
@@ -58,7 +60,8 @@ use Rattle.spline_list.specs.declared.Copied.{Copied}
 use Rattle.spline_list.specs.Rows.{blank, rowAtOf, equalOf, countOf, outcomeOf, fills}
 use Rattle.spline_list.proofs.Columns.{front, lend, after}
 use Rattle.spline_list.proofs.Laws.{stores-length}
-use Rattle.spline_list.proofs.Agreed.{Rooms, equal, goes-on, count-small, all-or-none, one-more, Agree, Count, Outcome, to-agree, to-count, to-outcome, goes-agree, goes-count, goes-outcome}
+use Rattle.spline_list.proofs.Agreed.{Rooms, equal, goes-on, count-small, all-or-none, one-more, Agree, Count, Outcome, to-agree, to-count}
+use Rattle.spline_list.proofs.Agreed.{to-outcome, goes-agree, goes-count, goes-outcome}
 use Rattle.spline_list.proofs.Copied as C
 use Rattle.spline_list.proofs.Copied.Laws as C′
 use Rattle.spline_list.proofs.Spline as T
@@ -95,9 +98,14 @@ F = C.the-row
 abbrev kept-col : Stay {n = 2} (shrSliceOf (1 ∷ []) tt (plain (λ _. f32))) yes
 kept-col = stay-dropped (shrSliceOf (1 ∷ []) tt (plain (λ _. f32))) yes
 
+abbrev kept-flags : Stay {n = 2} (shrSliceOf (1 ∷ []) tt (plain (λ _. u8))) yes
+kept-flags = stay-dropped (shrSliceOf (1 ∷ []) tt (plain (λ _. u8))) yes
+
+abbrev kept-number : Stay {n = 2} (plain (λ _. usize)) yes
+kept-number = stay-dropped (plain (λ _. usize)) yes
+
 abbrev stayed : Stays (f.ended .signature .params) (f.ended .kept)
-stayed =
-    (stay-slice (0 ∷ []) tt (plain (λ _. R)), (kept-col, (kept-col, (kept-col, (kept-col, (kept-col, (stay-dropped (shrSliceOf (1 ∷ []) tt (plain (λ _. u8))) yes, (stay-dropped (plain (λ _. usize)) yes, tt))))))))
+stayed = (stay-slice (0 ∷ []) tt (plain (λ _. R)), (kept-col, (kept-col, (kept-col, (kept-col, (kept-col, (kept-flags, (kept-number, tt))))))))
 
 fills-len : (k : SplineTable) (i : ℕ) (ys : List Spline) → length (fills k i ys) ≡ length ys
 fills-len k i ys = stores-length (rowAtOf k) ys i
@@ -154,9 +162,12 @@ module _ {M : Type 1} (𝓤 : URA M) (H : Heap 𝓤) (A : Atoms 𝓤) (W : Given
   abbrev With : ℕ → Fml
   With j = front Ts cs vss (fsep (usize .own j (vint w64 j ∷ [])) ftrue)
 
+  abbrev list-val : List Val
+  list-val = sliceVal (b, o) (length ys) ∷ []
+
   abbrev at : Vals f.signature (κ, (κ′, tt))
   at =
-      (sliceVal (b, o) (length ys) ∷ [], (slice-vals c₂, (slice-vals c₃, (slice-vals c₄, (slice-vals c₅, (slice-vals c₆, (slice-vals c₇, (vint w64 n ∷ [], tt))))))))
+      (list-val, (slice-vals c₂, (slice-vals c₃, (slice-vals c₄, (slice-vals c₅, (slice-vals c₆, (slice-vals c₇, (vint w64 n ∷ [], tt))))))))
 
   abbrev bound : walkOf 𝓤 H A f.ended stayed (f.clauses 𝓤 H A mem run) .Ghost
   bound = (((κ, (κ′, tt)), (q, (q′, tt)), tt, (list-at ys, (c₂, (c₃, (c₄, (c₅, (c₆, (c₇, (n, tt)))))))), at), tt)
@@ -167,7 +178,9 @@ module _ {M : Type 1} (𝓤 : URA M) (H : Heap 𝓤) (A : Atoms 𝓤) (W : Given
   -- what the callees' triples bind outside
   abbrev to-row : ℕ → RowAt 𝓤 H A mem run .Ghost
   to-row i =
-      (((κ′, tt), (q′, tt), tt, (c₂, (c₃, (c₄, (c₅, (c₆, (c₇, (i, tt))))))), (slice-vals c₂, (slice-vals c₃, (slice-vals c₄, (slice-vals c₅, (slice-vals c₆, (slice-vals c₇, (vint w64 i ∷ [], tt)))))))), tt)
+      let vals : Vals row-at.signature (κ′, tt) =
+      (slice-vals c₂, (slice-vals c₃, (slice-vals c₄, (slice-vals c₅, (slice-vals c₆, (slice-vals c₇, (vint w64 i ∷ [], tt))))))) in
+      (((κ′, tt), (q′, tt), tt, (c₂, (c₃, (c₄, (c₅, (c₆, (c₇, (i, tt))))))), vals), tt)
 
   abbrev asks : Agree 𝓤 H A mem run .Ghost
   asks = to-agree 𝓤 H A mem run ys k n
@@ -471,17 +484,29 @@ module _ {M : Type 1} (𝓤 : URA M) (H : Heap 𝓤) (A : Atoms 𝓤) (W : Given
   fill-walks =
       walked 𝓤 H A f.ended stayed (f.clauses 𝓤 H A mem run) (WpFn 𝓤 H (𝓣 .C) (𝓣 .Λ) code.function)
       (λ κs. (slice-vals, (slice-vals, (slice-vals, (slice-vals, (slice-vals, (slice-vals, (slice-vals, (uint-vals w64, tt)))))))))
-      (λ κs. (mut-slice-tells (named 0) (κs .0) R, (shr-slice-tells (named 1) (κs .1 .0) f32, (shr-slice-tells (named 1) (κs .1 .0) f32, (shr-slice-tells (named 1) (κs .1 .0) f32, (shr-slice-tells (named 1) (κs .1 .0) f32, (shr-slice-tells (named 1) (κs .1 .0) f32, (shr-slice-tells (named 1) (κs .1 .0) u8, (uint-tells w64, tt)))))))))
+      (λ κs. let floats = shr-slice-tells (named 1) (κs .1 .0) f32 in
+      (mut-slice-tells (named 0) (κs .0) R, (floats, (floats, (floats, (floats, (floats, (shr-slice-tells (named 1) (κs .1 .0) u8, (uint-tells w64, tt)))))))))
       (λ κs qs bounds a g are. via 𝓤 _ (fst∗ 𝓤 _ (emp 𝓤))
       (walk 𝓤 H A W mem run (κs .0) (κs .1 .0) (qs .0) (qs .1 .0) (a .0 .ptr .0) (a .0 .ptr .1) (a .0 .name) (a .0 .now)
       (a .1 .0) (a .1 .1 .0) (a .1 .1 .1 .0) (a .1 .1 .1 .1 .0) (a .1 .1 .1 .1 .1 .0) (a .1 .1 .1 .1 .1 .1 .0) (a .1 .1 .1 .1 .1 .1 .1 .0)
       𝓣 known says-agree says-count says-outcome
-      (record { list-room = are .0 .0 .1; curvature-room = are .1 .0 .0 .1; p0x-room = are .1 .1 .0 .0 .1; p0y-room = are .1 .1 .1 .0 .0 .1; p2x-room = are .1 .1 .1 .1 .0 .0 .1; p2y-room = are .1 .1 .1 .1 .1 .0 .0 .1; contour-room = are .1 .1 .1 .1 .1 .1 .0 .0 .1 }) (are .1 .1 .1 .1 .1 .1 .1 .0 .1)))
+      (record {
+        list-room = are .0 .0 .1;
+        curvature-room = are .1 .0 .0 .1;
+        p0x-room = are .1 .1 .0 .0 .1;
+        p0y-room = are .1 .1 .1 .0 .0 .1;
+        p2x-room = are .1 .1 .1 .1 .0 .0 .1;
+        p2y-room = are .1 .1 .1 .1 .1 .0 .0 .1;
+        contour-room = are .1 .1 .1 .1 .1 .1 .0 .0 .1;
+      }) (are .1 .1 .1 .1 .1 .1 .1 .0 .1)))
 
   fill-meets : Meets 𝓤 H A f.signature (WpFn 𝓤 H (𝓣 .C) (𝓣 .Λ) code.function) (f.spec 𝓤 H A mem run)
   fill-meets =
+      let gone-col = goes-dropped 𝓤 H A W 2 (shrSliceOf (1 ∷ []) tt (plain (λ _. f32))) yes (λ κs x f. refl) in
+      let gone-flags = goes-dropped 𝓤 H A W 2 (shrSliceOf (1 ∷ []) tt (plain (λ _. u8))) yes (λ κs x f. refl) in
+      let gone-number = goes-dropped 𝓤 H A W 2 (plain (λ _. usize)) yes (λ κs x f. refl) in
       walk-meets 𝓤 H A f.ended stayed W
-      (goes-slice 𝓤 H A W 2 0 tt (plain (λ _. R)), (goes-dropped 𝓤 H A W 2 (shrSliceOf (1 ∷ []) tt (plain (λ _. f32))) yes (λ κs x f. refl), (goes-dropped 𝓤 H A W 2 (shrSliceOf (1 ∷ []) tt (plain (λ _. f32))) yes (λ κs x f. refl), (goes-dropped 𝓤 H A W 2 (shrSliceOf (1 ∷ []) tt (plain (λ _. f32))) yes (λ κs x f. refl), (goes-dropped 𝓤 H A W 2 (shrSliceOf (1 ∷ []) tt (plain (λ _. f32))) yes (λ κs x f. refl), (goes-dropped 𝓤 H A W 2 (shrSliceOf (1 ∷ []) tt (plain (λ _. f32))) yes (λ κs x f. refl), (goes-dropped 𝓤 H A W 2 (shrSliceOf (1 ∷ []) tt (plain (λ _. u8))) yes (λ κs x f. refl), (goes-dropped 𝓤 H A W 2 (plain (λ _. usize)) yes (λ κs x f. refl), tt))))))))
+      (goes-slice 𝓤 H A W 2 0 tt (plain (λ _. R)), (gone-col, (gone-col, (gone-col, (gone-col, (gone-col, (gone-flags, (gone-number, tt))))))))
       (f.clauses 𝓤 H A mem run) (WpFn 𝓤 H (𝓣 .C) (𝓣 .Λ) code.function) (WpFn-mono 𝓤 H (W .laws) 𝓣 code.function) fill-walks
 
 pub fill-spec : {M : Type 1} → stated.statement M

@@ -25,9 +25,11 @@ use prog.Wp.{Heap, Out, Env, afterSeq, afterBlock, afterTurn, Wp, atReturn, WpFn
 use ghost.Atoms.{Atoms}
 use contract.Monad.{Fun, fact}
 use contract.Running.{givenOf, tables, tablesOf}
-use types.Kit.{Given, Item, ‵, raw, _⊛_, some, later, ⋆, runs, anyQ, atRet, Sq, _$_, _∵_, !, qed, by, move, keep, drop, use0, use1, split, join, pick, rewrite, fsplit, fjoin, suffices, frame, await, done}
+use types.Kit.{Given, Item, ‵, raw, _⊛_, some, later, ⋆, runs, anyQ, atRet, Sq, _$_, _∵_, !, qed, by, move, keep, drop, use0, use1, split, join, pick}
+use types.Kit.{rewrite, fsplit, fjoin, suffices, frame, await, done}
 use types.Part.{whole, sub, look-in}
-use types.Run.{look, look-raw, store, store-raw, init, forget, stop, hop, fld, from, load, lit, of-opd, bin, and-then, no-more, assigns, assigns-last, land, first, skips, jumps, blocks, branches, returns, enter, alloc1, alloc0, params1, pass1, pass0, free1, free0, exec, Below, again, loops}
+use types.Run.{look, look-raw, store, store-raw, init, forget, stop, hop, fld, from, load, lit, of-opd, bin, and-then, no-more, assigns, assigns-last, land}
+use types.Run.{first, skips, jumps, blocks, branches, returns, enter, alloc1, alloc0, params1, pass1, pass0, free1, free0, exec, Below, again, loops}
 use types.Share.{arr-parts}
 use sound.WpLaws.{fmOf, WpFn-mono}
 use denote.RattleType.{RattleType, owns}
@@ -63,7 +65,8 @@ use Rattle.spline_list.specs.declared.Copied.{Copied}
 use Rattle.spline_list.specs.Rows.{blank, equalOf, countOf, outcomeOf, spreads}
 use Rattle.spline_list.proofs.Columns.{after}
 use Rattle.spline_list.proofs.Laws.{curvature-of, p0x-of, p0y-of, p2x-of, p2y-of, contour-of, puts, puts-length, puts-spreads}
-use Rattle.spline_list.proofs.Agreed.{Equal, Rooms, equal, goes-on, all-or-none, one-more, Agree, Count, Outcome, to-agree, to-count, to-outcome, goes-agree, goes-count, goes-outcome}
+use Rattle.spline_list.proofs.Agreed.{Equal, Rooms, equal, goes-on, all-or-none, one-more, Agree, Count, Outcome, to-agree, to-count, to-outcome}
+use Rattle.spline_list.proofs.Agreed.{goes-agree, goes-count, goes-outcome}
 use Rattle.spline_list.proofs.Copied as C
 use Rattle.spline_list.proofs.Copied.Laws as C′
 use Rattle.spline_list.proofs.Spline as T
@@ -94,8 +97,28 @@ abbrev F : RattleType
 F = C.the-row
 
 abbrev stayed : Stays (f.ended .signature .params) (f.ended .kept)
-stayed =
-    (stay-dropped (shrSliceOf (0 ∷ []) tt (plain (λ _. R))) yes, (stay-slice (1 ∷ []) tt (plain (λ _. f32)), (stay-slice (2 ∷ []) tt (plain (λ _. f32)), (stay-slice (3 ∷ []) tt (plain (λ _. f32)), (stay-slice (4 ∷ []) tt (plain (λ _. f32)), (stay-slice (5 ∷ []) tt (plain (λ _. f32)), (stay-slice (6 ∷ []) tt (plain (λ _. u8)), (stay-dropped (plain (λ _. usize)) yes, tt))))))))
+stayed = (
+  stay-dropped (shrSliceOf (0 ∷ []) tt (plain (λ _. R))) yes,
+  (
+    stay-slice (1 ∷ []) tt (plain (λ _. f32)),
+    (
+      stay-slice (2 ∷ []) tt (plain (λ _. f32)),
+      (
+        stay-slice (3 ∷ []) tt (plain (λ _. f32)),
+        (
+          stay-slice (4 ∷ []) tt (plain (λ _. f32)),
+          (
+            stay-slice (5 ∷ []) tt (plain (λ _. f32)),
+            (
+              stay-slice (6 ∷ []) tt (plain (λ _. u8)),
+              (stay-dropped (plain (λ _. usize)) yes, tt),
+            ),
+          ),
+        ),
+      ),
+    ),
+  ),
+)
 
 abbrev word : Ty
 word = tyInt w64
@@ -134,11 +157,51 @@ module _ {M : Type 1} (𝓤 : URA M) (H : Heap 𝓤) (A : Atoms 𝓤) (W : Given
   abbrev m : ℕ
   m = countOf agreed n
 
+  -- the columns once i records are stored, as long as they were
+  abbrev s₂ : ℕ → List Float
+  s₂ i = puts curvature-of i ys (now x₂)
+
+  long₂ : (i : ℕ) → length (s₂ i) ≡ length (now x₂)
+  long₂ i = puts-length curvature-of i ys (now x₂)
+
+  abbrev s₃ : ℕ → List Float
+  s₃ i = puts p0x-of i ys (now x₃)
+
+  long₃ : (i : ℕ) → length (s₃ i) ≡ length (now x₃)
+  long₃ i = puts-length p0x-of i ys (now x₃)
+
+  abbrev s₄ : ℕ → List Float
+  s₄ i = puts p0y-of i ys (now x₄)
+
+  long₄ : (i : ℕ) → length (s₄ i) ≡ length (now x₄)
+  long₄ i = puts-length p0y-of i ys (now x₄)
+
+  abbrev s₅ : ℕ → List Float
+  s₅ i = puts p2x-of i ys (now x₅)
+
+  long₅ : (i : ℕ) → length (s₅ i) ≡ length (now x₅)
+  long₅ i = puts-length p2x-of i ys (now x₅)
+
+  abbrev s₆ : ℕ → List Float
+  s₆ i = puts p2y-of i ys (now x₆)
+
+  long₆ : (i : ℕ) → length (s₆ i) ≡ length (now x₆)
+  long₆ i = puts-length p2y-of i ys (now x₆)
+
+  abbrev s₇ : ℕ → List ℕ
+  s₇ i = puts contour-of i ys (now x₇)
+
+  long₇ : (i : ℕ) → length (s₇ i) ≡ length (now x₇)
+  long₇ i = puts-length contour-of i ys (now x₇)
+
   abbrev at : Vals f.signature (κ₁, (κ₂, (κ₃, (κ₄, (κ₅, (κ₆, (κ₇, tt)))))))
   at = (slice-vals x₁, (slice-vals x₂, (slice-vals x₃, (slice-vals x₄, (slice-vals x₅, (slice-vals x₆, (slice-vals x₇, (vint w64 n ∷ [], tt))))))))
 
   abbrev bound : walkOf 𝓤 H A f.ended stayed (f.clauses 𝓤 H A mem run) .Ghost
-  bound = (((κ₁, (κ₂, (κ₃, (κ₄, (κ₅, (κ₆, (κ₇, tt))))))), (q₁, (q₂, (q₃, (q₄, (q₅, (q₆, (q₇, tt))))))), tt, (x₁, (x₂, (x₃, (x₄, (x₅, (x₆, (x₇, (n, tt)))))))), at), tt)
+  bound = (
+    ((κ₁, (κ₂, (κ₃, (κ₄, (κ₅, (κ₆, (κ₇, tt))))))), (q₁, (q₂, (q₃, (q₄, (q₅, (q₆, (q₇, tt))))))), tt, (x₁, (x₂, (x₃, (x₄, (x₅, (x₆, (x₇, (n, tt)))))))), at),
+    tt,
+  )
 
   abbrev Post : Val → SProp 𝓤
   Post = walkOf 𝓤 H A f.ended stayed (f.clauses 𝓤 H A mem run) .post bound
@@ -157,47 +220,47 @@ module _ {M : Type 1} (𝓤 : URA M) (H : Heap 𝓤) (A : Atoms 𝓤) (W : Given
   abbrev Left : ℕ → Copied → Val → List (Item 𝓤)
   Left i r w =
       ‵ (flft κ₁ q₁)
-      ∷ ‵ (fobs (x₂ .name) (codedHoleys f32 .code (heres f32 (puts curvature-of i ys (now x₂)))))
-      ∷ ‵ (fbor κ₂ (Held f32 (length (puts curvature-of i ys (now x₂))) (x₂ .ptr .0) (x₂ .ptr .1) (x₂ .name)))
+      ∷ ‵ (fobs (x₂ .name) (codedHoleys f32 .code (heres f32 (s₂ i))))
+      ∷ ‵ (fbor κ₂ (Held f32 (length (s₂ i)) (x₂ .ptr .0) (x₂ .ptr .1) (x₂ .name)))
       ∷ ‵ (flft κ₂ q₂)
-      ∷ ‵ (fobs (x₃ .name) (codedHoleys f32 .code (heres f32 (puts p0x-of i ys (now x₃)))))
-      ∷ ‵ (fbor κ₃ (Held f32 (length (puts p0x-of i ys (now x₃))) (x₃ .ptr .0) (x₃ .ptr .1) (x₃ .name)))
+      ∷ ‵ (fobs (x₃ .name) (codedHoleys f32 .code (heres f32 (s₃ i))))
+      ∷ ‵ (fbor κ₃ (Held f32 (length (s₃ i)) (x₃ .ptr .0) (x₃ .ptr .1) (x₃ .name)))
       ∷ ‵ (flft κ₃ q₃)
-      ∷ ‵ (fobs (x₄ .name) (codedHoleys f32 .code (heres f32 (puts p0y-of i ys (now x₄)))))
-      ∷ ‵ (fbor κ₄ (Held f32 (length (puts p0y-of i ys (now x₄))) (x₄ .ptr .0) (x₄ .ptr .1) (x₄ .name)))
+      ∷ ‵ (fobs (x₄ .name) (codedHoleys f32 .code (heres f32 (s₄ i))))
+      ∷ ‵ (fbor κ₄ (Held f32 (length (s₄ i)) (x₄ .ptr .0) (x₄ .ptr .1) (x₄ .name)))
       ∷ ‵ (flft κ₄ q₄)
-      ∷ ‵ (fobs (x₅ .name) (codedHoleys f32 .code (heres f32 (puts p2x-of i ys (now x₅)))))
-      ∷ ‵ (fbor κ₅ (Held f32 (length (puts p2x-of i ys (now x₅))) (x₅ .ptr .0) (x₅ .ptr .1) (x₅ .name)))
+      ∷ ‵ (fobs (x₅ .name) (codedHoleys f32 .code (heres f32 (s₅ i))))
+      ∷ ‵ (fbor κ₅ (Held f32 (length (s₅ i)) (x₅ .ptr .0) (x₅ .ptr .1) (x₅ .name)))
       ∷ ‵ (flft κ₅ q₅)
-      ∷ ‵ (fobs (x₆ .name) (codedHoleys f32 .code (heres f32 (puts p2y-of i ys (now x₆)))))
-      ∷ ‵ (fbor κ₆ (Held f32 (length (puts p2y-of i ys (now x₆))) (x₆ .ptr .0) (x₆ .ptr .1) (x₆ .name)))
+      ∷ ‵ (fobs (x₆ .name) (codedHoleys f32 .code (heres f32 (s₆ i))))
+      ∷ ‵ (fbor κ₆ (Held f32 (length (s₆ i)) (x₆ .ptr .0) (x₆ .ptr .1) (x₆ .name)))
       ∷ ‵ (flft κ₆ q₆)
-      ∷ ‵ (fobs (x₇ .name) (codedHoleys u8 .code (heres u8 (puts contour-of i ys (now x₇)))))
-      ∷ ‵ (fbor κ₇ (Held u8 (length (puts contour-of i ys (now x₇))) (x₇ .ptr .0) (x₇ .ptr .1) (x₇ .name)))
+      ∷ ‵ (fobs (x₇ .name) (codedHoleys u8 .code (heres u8 (s₇ i))))
+      ∷ ‵ (fbor κ₇ (Held u8 (length (s₇ i)) (x₇ .ptr .0) (x₇ .ptr .1) (x₇ .name)))
       ∷ ‵ (flft κ₇ q₇)
       ∷ ‵ (F .own r (w ∷ [])) ∷ []
 
   exits : Rooms ys k → (i : ℕ) → i ≡ m → (r : Copied) (w : Val) → r ≡ outcomeOf agreed → ent 𝓤 (⋆ 𝓤 H A (Left i r w)) (Post w)
   exits rooms i e r w er =
       qed W (Left i r w) ∵
-      suffices ! _ (ends-at 𝓤 H A f.ended stayed (f.clauses 𝓤 H A mem run) W bound w r
-      (tt, ((puts curvature-of i ys (now x₂)), ((puts p0x-of i ys (now x₃)), ((puts p0y-of i ys (now x₄)), ((puts p2x-of i ys (now x₅)), ((puts p2y-of i ys (now x₆)), ((puts contour-of i ys (now x₇)), (tt, tt)))))))) (tt, (puts-length curvature-of i ys (now x₂), (puts-length p0x-of i ys (now x₃), (puts-length p0y-of i ys (now x₄), (puts-length p2x-of i ys (now x₅), (puts-length p2y-of i ys (now x₆), (puts-length contour-of i ys (now x₇), (tt, tt))))))))) $
+      suffices ! _ (ends-at 𝓤 H A f.ended stayed (f.clauses 𝓤 H A mem run) W bound w r (tt, (s₂ i, (s₃ i, (s₄ i, (s₅ i, (s₆ i, (s₇ i, (tt, tt))))))))
+      (tt, (long₂ i, (long₃ i, (long₄ i, (long₅ i, (long₆ i, (long₇ i, (tt, tt))))))))) $
       says ! (er, puts-spreads ys k i ∙ ap (λ (j : ℕ). spreads ys j k) e ∙ all-or-none (λ (j : ℕ). spreads ys j k) agreed n) $
       nothing ! $ move ! (19 ∷ 0 ∷ []) $ join ! $ move ! (16 ∷ 0 ∷ []) $ join ! $ move ! (13 ∷ 0 ∷ []) $ join ! $ move ! (10 ∷ 0 ∷ []) $ join ! $
       move ! (7 ∷ 0 ∷ []) $ join ! $ move ! (4 ∷ 0 ∷ []) $ join ! $ move ! (1 ∷ 0 ∷ []) $ join ! $ frame ! $
       nothing ! $ nothing ! $ fjoin ! $
-      move ! (11 ∷ 12 ∷ []) $ fjoin ! $ pureI ! (at-slice u8 (at-last x₇ (puts contour-of i ys (now x₇))) (slice-vals x₇)) (tt, (tt, tt))
-      (ap (λ (l : ℕ). sliceVal (x₇ .ptr) l ∷ []) (sym (puts-length contour-of i ys (now x₇))), subst (Room u8) (sym (puts-length contour-of i ys (now x₇))) (rooms .contour-room)) $ fjoin ! $ fjoin ! $
-      move ! (9 ∷ 10 ∷ []) $ fjoin ! $ pureI ! (at-slice f32 (at-last x₆ (puts p2y-of i ys (now x₆))) (slice-vals x₆)) (tt, (tt, tt))
-      (ap (λ (l : ℕ). sliceVal (x₆ .ptr) l ∷ []) (sym (puts-length p2y-of i ys (now x₆))), subst (Room f32) (sym (puts-length p2y-of i ys (now x₆))) (rooms .p2y-room)) $ fjoin ! $ fjoin ! $
-      move ! (7 ∷ 8 ∷ []) $ fjoin ! $ pureI ! (at-slice f32 (at-last x₅ (puts p2x-of i ys (now x₅))) (slice-vals x₅)) (tt, (tt, tt))
-      (ap (λ (l : ℕ). sliceVal (x₅ .ptr) l ∷ []) (sym (puts-length p2x-of i ys (now x₅))), subst (Room f32) (sym (puts-length p2x-of i ys (now x₅))) (rooms .p2x-room)) $ fjoin ! $ fjoin ! $
-      move ! (5 ∷ 6 ∷ []) $ fjoin ! $ pureI ! (at-slice f32 (at-last x₄ (puts p0y-of i ys (now x₄))) (slice-vals x₄)) (tt, (tt, tt))
-      (ap (λ (l : ℕ). sliceVal (x₄ .ptr) l ∷ []) (sym (puts-length p0y-of i ys (now x₄))), subst (Room f32) (sym (puts-length p0y-of i ys (now x₄))) (rooms .p0y-room)) $ fjoin ! $ fjoin ! $
-      move ! (3 ∷ 4 ∷ []) $ fjoin ! $ pureI ! (at-slice f32 (at-last x₃ (puts p0x-of i ys (now x₃))) (slice-vals x₃)) (tt, (tt, tt))
-      (ap (λ (l : ℕ). sliceVal (x₃ .ptr) l ∷ []) (sym (puts-length p0x-of i ys (now x₃))), subst (Room f32) (sym (puts-length p0x-of i ys (now x₃))) (rooms .p0x-room)) $ fjoin ! $ fjoin ! $
-      move ! (1 ∷ 2 ∷ []) $ fjoin ! $ pureI ! (at-slice f32 (at-last x₂ (puts curvature-of i ys (now x₂))) (slice-vals x₂)) (tt, (tt, tt))
-      (ap (λ (l : ℕ). sliceVal (x₂ .ptr) l ∷ []) (sym (puts-length curvature-of i ys (now x₂))), subst (Room f32) (sym (puts-length curvature-of i ys (now x₂))) (rooms .curvature-room)) $ fjoin ! $ fjoin ! $
+      move ! (11 ∷ 12 ∷ []) $ fjoin ! $ pureI ! (at-slice u8 (at-last x₇ (s₇ i)) (slice-vals x₇)) (tt, (tt, tt))
+      (ap (λ (l : ℕ). sliceVal (x₇ .ptr) l ∷ []) (sym (long₇ i)), subst (Room u8) (sym (long₇ i)) (rooms .contour-room)) $ fjoin ! $ fjoin ! $
+      move ! (9 ∷ 10 ∷ []) $ fjoin ! $ pureI ! (at-slice f32 (at-last x₆ (s₆ i)) (slice-vals x₆)) (tt, (tt, tt))
+      (ap (λ (l : ℕ). sliceVal (x₆ .ptr) l ∷ []) (sym (long₆ i)), subst (Room f32) (sym (long₆ i)) (rooms .p2y-room)) $ fjoin ! $ fjoin ! $
+      move ! (7 ∷ 8 ∷ []) $ fjoin ! $ pureI ! (at-slice f32 (at-last x₅ (s₅ i)) (slice-vals x₅)) (tt, (tt, tt))
+      (ap (λ (l : ℕ). sliceVal (x₅ .ptr) l ∷ []) (sym (long₅ i)), subst (Room f32) (sym (long₅ i)) (rooms .p2x-room)) $ fjoin ! $ fjoin ! $
+      move ! (5 ∷ 6 ∷ []) $ fjoin ! $ pureI ! (at-slice f32 (at-last x₄ (s₄ i)) (slice-vals x₄)) (tt, (tt, tt))
+      (ap (λ (l : ℕ). sliceVal (x₄ .ptr) l ∷ []) (sym (long₄ i)), subst (Room f32) (sym (long₄ i)) (rooms .p0y-room)) $ fjoin ! $ fjoin ! $
+      move ! (3 ∷ 4 ∷ []) $ fjoin ! $ pureI ! (at-slice f32 (at-last x₃ (s₃ i)) (slice-vals x₃)) (tt, (tt, tt))
+      (ap (λ (l : ℕ). sliceVal (x₃ .ptr) l ∷ []) (sym (long₃ i)), subst (Room f32) (sym (long₃ i)) (rooms .p0x-room)) $ fjoin ! $ fjoin ! $
+      move ! (1 ∷ 2 ∷ []) $ fjoin ! $ pureI ! (at-slice f32 (at-last x₂ (s₂ i)) (slice-vals x₂)) (tt, (tt, tt))
+      (ap (λ (l : ℕ). sliceVal (x₂ .ptr) l ∷ []) (sym (long₂ i)), subst (Room f32) (sym (long₂ i)) (rooms .curvature-room)) $ fjoin ! $ fjoin ! $
       nothing ! $ fjoin ! $ frame ! $ done !
 
   module _ (l₀ l₁ l₂ l₃ l₄ l₅ l₆ l₇ l₈ l₉ l₁₀ l₁₁ l₁₂ l₁₃ l₁₄ l₁₅ l₁₆ l₁₇ l₁₈ l₁₉ l₂₀ l₂₁ l₂₂ l₂₃ l₂₄ l₂₅ l₂₆ l₂₇ l₂₈ l₂₉ l₃₀ : ℕ) where
@@ -264,23 +327,17 @@ module _ {M : Type 1} (𝓤 : URA M) (H : Heap 𝓤) (A : Atoms 𝓤) (W : Given
     abbrev At : Upto → List (Item 𝓤)
     At i =
         ‵ (cells R q″ ys (x₁ .ptr .0) (x₁ .ptr .1)) ∷ ‵ (fobor κ₁ q₁ (arr-parts (shares R) (length ys) .part q″ ys (x₁ .ptr .0) (x₁ .ptr .1)))
-        ∷ ‵ (cells f32 fullShare (puts curvature-of (i .0) ys (now x₂)) (x₂ .ptr .0) (x₂ .ptr .1)) ∷ ‵
-        (fobor κ₂ q₂ (Held f32 (length (now x₂)) (x₂ .ptr .0) (x₂ .ptr .1) (x₂ .name)))
+        ∷ ‵ (cells f32 fullShare (s₂ (i .0)) (x₂ .ptr .0) (x₂ .ptr .1)) ∷ ‵ (fobor κ₂ q₂ (Held f32 (length (now x₂)) (x₂ .ptr .0) (x₂ .ptr .1) (x₂ .name)))
         ∷ ‵ (fobs (x₂ .name) (codedHoleys f32 .code (heres f32 (now x₂)))) ∷ ‵ (fauth (x₂ .name) (codedHoleys f32 .code (heres f32 (now x₂))))
-        ∷ ‵ (cells f32 fullShare (puts p0x-of (i .0) ys (now x₃)) (x₃ .ptr .0) (x₃ .ptr .1)) ∷ ‵
-        (fobor κ₃ q₃ (Held f32 (length (now x₃)) (x₃ .ptr .0) (x₃ .ptr .1) (x₃ .name)))
+        ∷ ‵ (cells f32 fullShare (s₃ (i .0)) (x₃ .ptr .0) (x₃ .ptr .1)) ∷ ‵ (fobor κ₃ q₃ (Held f32 (length (now x₃)) (x₃ .ptr .0) (x₃ .ptr .1) (x₃ .name)))
         ∷ ‵ (fobs (x₃ .name) (codedHoleys f32 .code (heres f32 (now x₃)))) ∷ ‵ (fauth (x₃ .name) (codedHoleys f32 .code (heres f32 (now x₃))))
-        ∷ ‵ (cells f32 fullShare (puts p0y-of (i .0) ys (now x₄)) (x₄ .ptr .0) (x₄ .ptr .1)) ∷ ‵
-        (fobor κ₄ q₄ (Held f32 (length (now x₄)) (x₄ .ptr .0) (x₄ .ptr .1) (x₄ .name)))
+        ∷ ‵ (cells f32 fullShare (s₄ (i .0)) (x₄ .ptr .0) (x₄ .ptr .1)) ∷ ‵ (fobor κ₄ q₄ (Held f32 (length (now x₄)) (x₄ .ptr .0) (x₄ .ptr .1) (x₄ .name)))
         ∷ ‵ (fobs (x₄ .name) (codedHoleys f32 .code (heres f32 (now x₄)))) ∷ ‵ (fauth (x₄ .name) (codedHoleys f32 .code (heres f32 (now x₄))))
-        ∷ ‵ (cells f32 fullShare (puts p2x-of (i .0) ys (now x₅)) (x₅ .ptr .0) (x₅ .ptr .1)) ∷ ‵
-        (fobor κ₅ q₅ (Held f32 (length (now x₅)) (x₅ .ptr .0) (x₅ .ptr .1) (x₅ .name)))
+        ∷ ‵ (cells f32 fullShare (s₅ (i .0)) (x₅ .ptr .0) (x₅ .ptr .1)) ∷ ‵ (fobor κ₅ q₅ (Held f32 (length (now x₅)) (x₅ .ptr .0) (x₅ .ptr .1) (x₅ .name)))
         ∷ ‵ (fobs (x₅ .name) (codedHoleys f32 .code (heres f32 (now x₅)))) ∷ ‵ (fauth (x₅ .name) (codedHoleys f32 .code (heres f32 (now x₅))))
-        ∷ ‵ (cells f32 fullShare (puts p2y-of (i .0) ys (now x₆)) (x₆ .ptr .0) (x₆ .ptr .1)) ∷ ‵
-        (fobor κ₆ q₆ (Held f32 (length (now x₆)) (x₆ .ptr .0) (x₆ .ptr .1) (x₆ .name)))
+        ∷ ‵ (cells f32 fullShare (s₆ (i .0)) (x₆ .ptr .0) (x₆ .ptr .1)) ∷ ‵ (fobor κ₆ q₆ (Held f32 (length (now x₆)) (x₆ .ptr .0) (x₆ .ptr .1) (x₆ .name)))
         ∷ ‵ (fobs (x₆ .name) (codedHoleys f32 .code (heres f32 (now x₆)))) ∷ ‵ (fauth (x₆ .name) (codedHoleys f32 .code (heres f32 (now x₆))))
-        ∷ ‵ (cells u8 fullShare (puts contour-of (i .0) ys (now x₇)) (x₇ .ptr .0) (x₇ .ptr .1)) ∷ ‵
-        (fobor κ₇ q₇ (Held u8 (length (now x₇)) (x₇ .ptr .0) (x₇ .ptr .1) (x₇ .name)))
+        ∷ ‵ (cells u8 fullShare (s₇ (i .0)) (x₇ .ptr .0) (x₇ .ptr .1)) ∷ ‵ (fobor κ₇ q₇ (Held u8 (length (now x₇)) (x₇ .ptr .0) (x₇ .ptr .1) (x₇ .name)))
         ∷ ‵ (fobs (x₇ .name) (codedHoleys u8 .code (heres u8 (now x₇)))) ∷ ‵ (fauth (x₇ .name) (codedHoleys u8 .code (heres u8 (now x₇))))
         ∷ ‵ (froom tyPtr l₃₀ 0) ∷ ‵ (fdies tyPtr l₃₀)
         ∷ ‵ (froom byte l₂₉ 0) ∷ ‵ (fdies byte l₂₉)
@@ -342,65 +399,65 @@ module _ {M : Type 1} (𝓤 : URA M) (H : Heap 𝓤) (A : Atoms 𝓤) (W : Given
         assigns ! (bin ! (load ! (from ! (fld ! refl (stop !))) (look-in ! 82 (sub ! 0 refl (whole !)))) (load ! (from ! (stop !)) (look ! 44 refl)) tt)
         (from ! (stop !)) (init ! 38 refl (tt, tt)) $
         rewrite ! 38 (λ (p : ℕ). ‵ (fat fullShare tyPtr l₂₄ 0 (vptr (x₂ .ptr .0) p))) (sym (place-is 4 (x₂ .ptr .1) i)) refl $
-        move ! (2 ∷ []) $ elem-out ! f32 (Is f32) (shows 𝓤 H A f32) (float-vals binary32) (float-tells binary32) fullShare (puts curvature-of i ys (now x₂))
-        i nan (x₂ .ptr .0) (x₂ .ptr .1) (in-column curvature-of (now x₂) (equal-at less .curvature-has) less) (λ _.
+        move ! (2 ∷ []) $ elem-out ! f32 (Is f32) (shows 𝓤 H A f32) (float-vals binary32) (float-tells binary32) fullShare (s₂ i) i nan (x₂ .ptr .0)
+        (x₂ .ptr .1) (in-column curvature-of (now x₂) (equal-at less .curvature-has) less) (λ _.
         assigns ! (of-opd ! (load ! (from ! (fld ! refl (stop !))) (look-in ! 64 (sub ! 0 refl (whole !))))) (from ! (hop ! (look ! 40 refl) (stop !)))
         (store-raw ! 0 refl (tt, typed g .1 .0)) $
         move ! (1 ∷ []) $ drop ! $ owned ! f32 (Is f32) (float-makes 𝓤 H A W binary32) (curvature-of v) _ (refl, is-true _ (typed g .1 .0)) $
         move ! (1 ∷ 0 ∷ []) $
-        elem-put ! f32 fullShare (puts curvature-of i ys (now x₂)) i (curvature-of v) (vfloat binary32 (curvature-of v) ∷ []) (x₂ .ptr .0) (x₂ .ptr .1)
+        elem-put ! f32 fullShare (s₂ i) i (curvature-of v) (vfloat binary32 (curvature-of v) ∷ []) (x₂ .ptr .0) (x₂ .ptr .1)
         (in-column curvature-of (now x₂) (equal-at less .curvature-has) less) $
         -- p0x
         assigns ! (bin ! (load ! (from ! (stop !)) (look ! 64 refl)) (lit ! tt) (fits4 less)) (from ! (stop !)) (store ! 44 refl (tt, fits4 less)) $
         assigns ! (bin ! (load ! (from ! (fld ! refl (stop !))) (look-in ! 80 (sub ! 0 refl (whole !)))) (load ! (from ! (stop !)) (look ! 44 refl)) tt)
         (from ! (stop !)) (init ! 36 refl (tt, tt)) $
         rewrite ! 36 (λ (p : ℕ). ‵ (fat fullShare tyPtr l₂₅ 0 (vptr (x₃ .ptr .0) p))) (sym (place-is 4 (x₃ .ptr .1) i)) refl $
-        move ! (6 ∷ []) $ elem-out ! f32 (Is f32) (shows 𝓤 H A f32) (float-vals binary32) (float-tells binary32) fullShare (puts p0x-of i ys (now x₃)) i nan
-        (x₃ .ptr .0) (x₃ .ptr .1) (in-column p0x-of (now x₃) (equal-at less .p0x-has) less) (λ _.
+        move ! (6 ∷ []) $ elem-out ! f32 (Is f32) (shows 𝓤 H A f32) (float-vals binary32) (float-tells binary32) fullShare (s₃ i) i nan (x₃ .ptr .0)
+        (x₃ .ptr .1) (in-column p0x-of (now x₃) (equal-at less .p0x-has) less) (λ _.
         assigns ! (of-opd ! (load ! (from ! (fld ! refl (fld ! refl (stop !)))) (look-in ! 64 (sub ! 0 refl (sub ! 1 refl (whole !))))))
         (from ! (hop ! (look ! 38 refl) (stop !))) (store-raw ! 0 refl (tt, typed g .1 .1 .0 .0)) $
         move ! (1 ∷ []) $ drop ! $ owned ! f32 (Is f32) (float-makes 𝓤 H A W binary32) (p0x-of v) _ (refl, is-true _ (typed g .1 .1 .0 .0)) $
         move ! (1 ∷ 0 ∷ []) $
-        elem-put ! f32 fullShare (puts p0x-of i ys (now x₃)) i (p0x-of v) (vfloat binary32 (p0x-of v) ∷ []) (x₃ .ptr .0) (x₃ .ptr .1)
+        elem-put ! f32 fullShare (s₃ i) i (p0x-of v) (vfloat binary32 (p0x-of v) ∷ []) (x₃ .ptr .0) (x₃ .ptr .1)
         (in-column p0x-of (now x₃) (equal-at less .p0x-has) less) $
         -- p0y
         assigns ! (bin ! (load ! (from ! (stop !)) (look ! 64 refl)) (lit ! tt) (fits4 less)) (from ! (stop !)) (store ! 44 refl (tt, fits4 less)) $
         assigns ! (bin ! (load ! (from ! (fld ! refl (stop !))) (look-in ! 78 (sub ! 0 refl (whole !)))) (load ! (from ! (stop !)) (look ! 44 refl)) tt)
         (from ! (stop !)) (init ! 34 refl (tt, tt)) $
         rewrite ! 34 (λ (p : ℕ). ‵ (fat fullShare tyPtr l₂₆ 0 (vptr (x₄ .ptr .0) p))) (sym (place-is 4 (x₄ .ptr .1) i)) refl $
-        move ! (10 ∷ []) $ elem-out ! f32 (Is f32) (shows 𝓤 H A f32) (float-vals binary32) (float-tells binary32) fullShare (puts p0y-of i ys (now x₄)) i
-        nan (x₄ .ptr .0) (x₄ .ptr .1) (in-column p0y-of (now x₄) (equal-at less .p0y-has) less) (λ _.
+        move ! (10 ∷ []) $ elem-out ! f32 (Is f32) (shows 𝓤 H A f32) (float-vals binary32) (float-tells binary32) fullShare (s₄ i) i nan (x₄ .ptr .0)
+        (x₄ .ptr .1) (in-column p0y-of (now x₄) (equal-at less .p0y-has) less) (λ _.
         assigns ! (of-opd ! (load ! (from ! (fld ! refl (fld ! refl (stop !)))) (look-in ! 64 (sub ! 1 refl (sub ! 1 refl (whole !))))))
         (from ! (hop ! (look ! 36 refl) (stop !))) (store-raw ! 0 refl (tt, typed g .1 .1 .0 .1 .0)) $
         move ! (1 ∷ []) $ drop ! $ owned ! f32 (Is f32) (float-makes 𝓤 H A W binary32) (p0y-of v) _ (refl, is-true _ (typed g .1 .1 .0 .1 .0)) $
         move ! (1 ∷ 0 ∷ []) $
-        elem-put ! f32 fullShare (puts p0y-of i ys (now x₄)) i (p0y-of v) (vfloat binary32 (p0y-of v) ∷ []) (x₄ .ptr .0) (x₄ .ptr .1)
+        elem-put ! f32 fullShare (s₄ i) i (p0y-of v) (vfloat binary32 (p0y-of v) ∷ []) (x₄ .ptr .0) (x₄ .ptr .1)
         (in-column p0y-of (now x₄) (equal-at less .p0y-has) less) $
         -- p2x
         assigns ! (bin ! (load ! (from ! (stop !)) (look ! 64 refl)) (lit ! tt) (fits4 less)) (from ! (stop !)) (store ! 44 refl (tt, fits4 less)) $
         assigns ! (bin ! (load ! (from ! (fld ! refl (stop !))) (look-in ! 76 (sub ! 0 refl (whole !)))) (load ! (from ! (stop !)) (look ! 44 refl)) tt)
         (from ! (stop !)) (init ! 32 refl (tt, tt)) $
         rewrite ! 32 (λ (p : ℕ). ‵ (fat fullShare tyPtr l₂₇ 0 (vptr (x₅ .ptr .0) p))) (sym (place-is 4 (x₅ .ptr .1) i)) refl $
-        move ! (14 ∷ []) $ elem-out ! f32 (Is f32) (shows 𝓤 H A f32) (float-vals binary32) (float-tells binary32) fullShare (puts p2x-of i ys (now x₅)) i
-        nan (x₅ .ptr .0) (x₅ .ptr .1) (in-column p2x-of (now x₅) (equal-at less .p2x-has) less) (λ _.
+        move ! (14 ∷ []) $ elem-out ! f32 (Is f32) (shows 𝓤 H A f32) (float-vals binary32) (float-tells binary32) fullShare (s₅ i) i nan (x₅ .ptr .0)
+        (x₅ .ptr .1) (in-column p2x-of (now x₅) (equal-at less .p2x-has) less) (λ _.
         assigns ! (of-opd ! (load ! (from ! (fld ! refl (fld ! refl (stop !)))) (look-in ! 64 (sub ! 0 refl (sub ! 2 refl (whole !))))))
         (from ! (hop ! (look ! 34 refl) (stop !))) (store-raw ! 0 refl (tt, typed g .1 .1 .1 .0 .0)) $
         move ! (1 ∷ []) $ drop ! $ owned ! f32 (Is f32) (float-makes 𝓤 H A W binary32) (p2x-of v) _ (refl, is-true _ (typed g .1 .1 .1 .0 .0)) $
         move ! (1 ∷ 0 ∷ []) $
-        elem-put ! f32 fullShare (puts p2x-of i ys (now x₅)) i (p2x-of v) (vfloat binary32 (p2x-of v) ∷ []) (x₅ .ptr .0) (x₅ .ptr .1)
+        elem-put ! f32 fullShare (s₅ i) i (p2x-of v) (vfloat binary32 (p2x-of v) ∷ []) (x₅ .ptr .0) (x₅ .ptr .1)
         (in-column p2x-of (now x₅) (equal-at less .p2x-has) less) $
         -- p2y
         assigns ! (bin ! (load ! (from ! (stop !)) (look ! 64 refl)) (lit ! tt) (fits4 less)) (from ! (stop !)) (store ! 44 refl (tt, fits4 less)) $
         assigns ! (bin ! (load ! (from ! (fld ! refl (stop !))) (look-in ! 74 (sub ! 0 refl (whole !)))) (load ! (from ! (stop !)) (look ! 44 refl)) tt)
         (from ! (stop !)) (init ! 30 refl (tt, tt)) $
         rewrite ! 30 (λ (p : ℕ). ‵ (fat fullShare tyPtr l₂₈ 0 (vptr (x₆ .ptr .0) p))) (sym (place-is 4 (x₆ .ptr .1) i)) refl $
-        move ! (18 ∷ []) $ elem-out ! f32 (Is f32) (shows 𝓤 H A f32) (float-vals binary32) (float-tells binary32) fullShare (puts p2y-of i ys (now x₆)) i
-        nan (x₆ .ptr .0) (x₆ .ptr .1) (in-column p2y-of (now x₆) (equal-at less .p2y-has) less) (λ _.
+        move ! (18 ∷ []) $ elem-out ! f32 (Is f32) (shows 𝓤 H A f32) (float-vals binary32) (float-tells binary32) fullShare (s₆ i) i nan (x₆ .ptr .0)
+        (x₆ .ptr .1) (in-column p2y-of (now x₆) (equal-at less .p2y-has) less) (λ _.
         assigns ! (of-opd ! (load ! (from ! (fld ! refl (fld ! refl (stop !)))) (look-in ! 64 (sub ! 1 refl (sub ! 2 refl (whole !))))))
         (from ! (hop ! (look ! 32 refl) (stop !))) (store-raw ! 0 refl (tt, typed g .1 .1 .1 .0 .1 .0)) $
         move ! (1 ∷ []) $ drop ! $ owned ! f32 (Is f32) (float-makes 𝓤 H A W binary32) (p2y-of v) _ (refl, is-true _ (typed g .1 .1 .1 .0 .1 .0)) $
         move ! (1 ∷ 0 ∷ []) $
-        elem-put ! f32 fullShare (puts p2y-of i ys (now x₆)) i (p2y-of v) (vfloat binary32 (p2y-of v) ∷ []) (x₆ .ptr .0) (x₆ .ptr .1)
+        elem-put ! f32 fullShare (s₆ i) i (p2y-of v) (vfloat binary32 (p2y-of v) ∷ []) (x₆ .ptr .0) (x₆ .ptr .1)
         (in-column p2y-of (now x₆) (equal-at less .p2y-has) less) $
         -- contour
         use0 W (raw (FlagByte 𝓤 H A mem run .pre (to-flag v))) (goes-flag v) $
@@ -417,13 +474,13 @@ module _ {M : Type 1} (𝓤 : URA M) (H : Heap 𝓤) (A : Atoms 𝓤) (W : Given
         assigns ! (bin ! (load ! (from ! (fld ! refl (stop !))) (look-in ! 72 (sub ! 0 refl (whole !)))) (load ! (from ! (stop !)) (look ! 64 refl)) tt)
         (from ! (stop !)) (init ! 26 refl (tt, tt)) $
         rewrite ! 26 (λ (p : ℕ). ‵ (fat fullShare tyPtr l₃₀ 0 (vptr (x₇ .ptr .0) p))) (sym (place-byte (x₇ .ptr .1) i)) refl $
-        move ! (22 ∷ []) $ elem-out ! u8 (Is u8) (shows 𝓤 H A u8) (uint-vals w8) (uint-tells w8) fullShare (puts contour-of i ys (now x₇)) i 0 (x₇ .ptr .0)
-        (x₇ .ptr .1) (in-column contour-of (now x₇) (equal-at less .contour-has) less) (λ _.
+        move ! (22 ∷ []) $ elem-out ! u8 (Is u8) (shows 𝓤 H A u8) (uint-vals w8) (uint-tells w8) fullShare (s₇ i) i 0 (x₇ .ptr .0) (x₇ .ptr .1)
+        (in-column contour-of (now x₇) (equal-at less .contour-has) less) (λ _.
         assigns ! (of-opd ! (load ! (from ! (stop !)) (look ! 30 refl))) (from ! (hop ! (look ! 28 refl) (stop !)))
         (store-raw ! 0 refl (tt, record { fits = subst (λ (u : ℕ). u < 2 ^ 8) e (is .1) })) $
         move ! (1 ∷ []) $ drop ! $ owned ! u8 (Is u8) (uint-makes 𝓤 H A W w8) (contour-of v) _ (refl, subst (λ (u : ℕ). u < 2 ^ 8) e (is .1)) $
         move ! (1 ∷ 0 ∷ []) $
-        elem-put ! u8 fullShare (puts contour-of i ys (now x₇)) i (contour-of v) (vint w8 (contour-of v) ∷ []) (x₇ .ptr .0) (x₇ .ptr .1)
+        elem-put ! u8 fullShare (s₇ i) i (contour-of v) (vint w8 (contour-of v) ∷ []) (x₇ .ptr .0) (x₇ .ptr .1)
         (in-column contour-of (now x₇) (equal-at less .contour-has) less) $
         assigns-last ! (bin ! (load ! (from ! (stop !)) (look ! 64 refl)) (lit ! tt) (next-fits less)) (from ! (stop !))
         (store ! 64 refl (tt, next-fits less)) $
@@ -436,18 +493,12 @@ module _ {M : Type 1} (𝓤 : URA M) (H : Heap 𝓤) (A : Atoms 𝓤) (W : Given
         again ! Nearer At t (next less) (nearer less))))))))))))))
         (λ over. jumps ! $ exec ! (𝓣 .C) (𝓣 .Λ) En body.t-12 (atRet En Post) $
         shuts-slice ! tt R q″ ys (x₁ .ptr .0) (x₁ .ptr .1) $
-        move ! (1 ∷ 2 ∷ 3 ∷ 4 ∷ []) $ closes-slice ! tt f32 (now x₂) (puts curvature-of i ys (now x₂)) (puts-length curvature-of i ys (now x₂)) (x₂ .ptr .0)
-        (x₂ .ptr .1) $
-        move ! (4 ∷ 5 ∷ 6 ∷ 7 ∷ []) $ closes-slice ! tt f32 (now x₃) (puts p0x-of i ys (now x₃)) (puts-length p0x-of i ys (now x₃)) (x₃ .ptr .0)
-        (x₃ .ptr .1) $
-        move ! (7 ∷ 8 ∷ 9 ∷ 10 ∷ []) $ closes-slice ! tt f32 (now x₄) (puts p0y-of i ys (now x₄)) (puts-length p0y-of i ys (now x₄)) (x₄ .ptr .0)
-        (x₄ .ptr .1) $
-        move ! (10 ∷ 11 ∷ 12 ∷ 13 ∷ []) $ closes-slice ! tt f32 (now x₅) (puts p2x-of i ys (now x₅)) (puts-length p2x-of i ys (now x₅)) (x₅ .ptr .0)
-        (x₅ .ptr .1) $
-        move ! (13 ∷ 14 ∷ 15 ∷ 16 ∷ []) $ closes-slice ! tt f32 (now x₆) (puts p2y-of i ys (now x₆)) (puts-length p2y-of i ys (now x₆)) (x₆ .ptr .0)
-        (x₆ .ptr .1) $
-        move ! (16 ∷ 17 ∷ 18 ∷ 19 ∷ []) $ closes-slice ! tt u8 (now x₇) (puts contour-of i ys (now x₇)) (puts-length contour-of i ys (now x₇)) (x₇ .ptr .0)
-        (x₇ .ptr .1) $
+        move ! (1 ∷ 2 ∷ 3 ∷ 4 ∷ []) $ closes-slice ! tt f32 (now x₂) (s₂ i) (long₂ i) (x₂ .ptr .0) (x₂ .ptr .1) $
+        move ! (4 ∷ 5 ∷ 6 ∷ 7 ∷ []) $ closes-slice ! tt f32 (now x₃) (s₃ i) (long₃ i) (x₃ .ptr .0) (x₃ .ptr .1) $
+        move ! (7 ∷ 8 ∷ 9 ∷ 10 ∷ []) $ closes-slice ! tt f32 (now x₄) (s₄ i) (long₄ i) (x₄ .ptr .0) (x₄ .ptr .1) $
+        move ! (10 ∷ 11 ∷ 12 ∷ 13 ∷ []) $ closes-slice ! tt f32 (now x₅) (s₅ i) (long₅ i) (x₅ .ptr .0) (x₅ .ptr .1) $
+        move ! (13 ∷ 14 ∷ 15 ∷ 16 ∷ []) $ closes-slice ! tt f32 (now x₆) (s₆ i) (long₆ i) (x₆ .ptr .0) (x₆ .ptr .1) $
+        move ! (16 ∷ 17 ∷ 18 ∷ 19 ∷ []) $ closes-slice ! tt u8 (now x₇) (s₇ i) (long₇ i) (x₇ .ptr .0) (x₇ .ptr .1) $
         use0 W (raw (Outcome 𝓤 H A mem run .pre (to-outcome 𝓤 H A mem run agreed))) (goes-outcome 𝓤 H A mem run W agreed) $
         calls-at ! (fmOf 𝓤 H (W .laws) 𝓣) (Outcome 𝓤 H A mem run) says-outcome (to-outcome 𝓤 H A mem run agreed)
         (and-then ! (load ! (from ! (stop !)) (look ! 62 refl)) (no-more !)) (λ w.
@@ -620,18 +671,67 @@ module _ {M : Type 1} (𝓤 : URA M) (H : Heap 𝓤) (A : Atoms 𝓤) (W : Given
   spread-walks =
       walked 𝓤 H A f.ended stayed (f.clauses 𝓤 H A mem run) (WpFn 𝓤 H (𝓣 .C) (𝓣 .Λ) code.function)
       (λ κs. (slice-vals, (slice-vals, (slice-vals, (slice-vals, (slice-vals, (slice-vals, (slice-vals, (uint-vals w64, tt)))))))))
-      (λ κs. (shr-slice-tells (named 0) (κs .0) R, (mut-slice-tells (named 1) (κs .1 .0) f32, (mut-slice-tells (named 2) (κs .1 .1 .0) f32, (mut-slice-tells (named 3) (κs .1 .1 .1 .0) f32, (mut-slice-tells (named 4) (κs .1 .1 .1 .1 .0) f32, (mut-slice-tells (named 5) (κs .1 .1 .1 .1 .1 .0) f32, (mut-slice-tells (named 6) (κs .1 .1 .1 .1 .1 .1 .0) u8, (uint-tells w64, tt)))))))))
+      (λ κs. (
+        shr-slice-tells (named 0) (κs .0) R,
+        (
+          mut-slice-tells (named 1) (κs .1 .0) f32,
+          (
+            mut-slice-tells (named 2) (κs .1 .1 .0) f32,
+            (
+              mut-slice-tells (named 3) (κs .1 .1 .1 .0) f32,
+              (
+                mut-slice-tells (named 4) (κs .1 .1 .1 .1 .0) f32,
+                (
+                  mut-slice-tells (named 5) (κs .1 .1 .1 .1 .1 .0) f32,
+                  (
+                    mut-slice-tells (named 6) (κs .1 .1 .1 .1 .1 .1 .0) u8,
+                    (uint-tells w64, tt),
+                  ),
+                ),
+              ),
+            ),
+          ),
+        ),
+      ))
       (λ κs qs bounds a g are. via 𝓤 _ (fst∗ 𝓤 _ (emp 𝓤))
       (walk 𝓤 H A W mem run (κs .0) (κs .1 .0) (κs .1 .1 .0) (κs .1 .1 .1 .0) (κs .1 .1 .1 .1 .0) (κs .1 .1 .1 .1 .1 .0) (κs .1 .1 .1 .1 .1 .1 .0)
       (qs .0) (qs .1 .0) (qs .1 .1 .0) (qs .1 .1 .1 .0) (qs .1 .1 .1 .1 .0) (qs .1 .1 .1 .1 .1 .0) (qs .1 .1 .1 .1 .1 .1 .0)
       (a .0) (a .1 .0) (a .1 .1 .0) (a .1 .1 .1 .0) (a .1 .1 .1 .1 .0) (a .1 .1 .1 .1 .1 .0) (a .1 .1 .1 .1 .1 .1 .0) (a .1 .1 .1 .1 .1 .1 .1 .0)
       𝓣 says-flag says-agree says-count says-outcome
-      (record { list-room = are .0 .0 .1; curvature-room = are .1 .0 .0 .1; p0x-room = are .1 .1 .0 .0 .1; p0y-room = are .1 .1 .1 .0 .0 .1; p2x-room = are .1 .1 .1 .1 .0 .0 .1; p2y-room = are .1 .1 .1 .1 .1 .0 .0 .1; contour-room = are .1 .1 .1 .1 .1 .1 .0 .0 .1 }) (are .1 .1 .1 .1 .1 .1 .1 .0 .1)))
+      (record {
+        list-room = are .0 .0 .1;
+        curvature-room = are .1 .0 .0 .1;
+        p0x-room = are .1 .1 .0 .0 .1;
+        p0y-room = are .1 .1 .1 .0 .0 .1;
+        p2x-room = are .1 .1 .1 .1 .0 .0 .1;
+        p2y-room = are .1 .1 .1 .1 .1 .0 .0 .1;
+        contour-room = are .1 .1 .1 .1 .1 .1 .0 .0 .1;
+      }) (are .1 .1 .1 .1 .1 .1 .1 .0 .1)))
 
   spread-meets : Meets 𝓤 H A f.signature (WpFn 𝓤 H (𝓣 .C) (𝓣 .Λ) code.function) (f.spec 𝓤 H A mem run)
   spread-meets =
-      walk-meets 𝓤 H A f.ended stayed W
-      (goes-dropped 𝓤 H A W 7 (shrSliceOf (0 ∷ []) tt (plain (λ _. R))) yes (λ κs x f. refl), (goes-slice 𝓤 H A W 7 1 tt (plain (λ _. f32)), (goes-slice 𝓤 H A W 7 2 tt (plain (λ _. f32)), (goes-slice 𝓤 H A W 7 3 tt (plain (λ _. f32)), (goes-slice 𝓤 H A W 7 4 tt (plain (λ _. f32)), (goes-slice 𝓤 H A W 7 5 tt (plain (λ _. f32)), (goes-slice 𝓤 H A W 7 6 tt (plain (λ _. u8)), (goes-dropped 𝓤 H A W 7 (plain (λ _. usize)) yes (λ κs x f. refl), tt))))))))
+      walk-meets 𝓤 H A f.ended stayed W (
+        goes-dropped 𝓤 H A W 7 (shrSliceOf (0 ∷ []) tt (plain (λ _. R))) yes (λ κs x f. refl),
+        (
+          goes-slice 𝓤 H A W 7 1 tt (plain (λ _. f32)),
+          (
+            goes-slice 𝓤 H A W 7 2 tt (plain (λ _. f32)),
+            (
+              goes-slice 𝓤 H A W 7 3 tt (plain (λ _. f32)),
+              (
+                goes-slice 𝓤 H A W 7 4 tt (plain (λ _. f32)),
+                (
+                  goes-slice 𝓤 H A W 7 5 tt (plain (λ _. f32)),
+                  (
+                    goes-slice 𝓤 H A W 7 6 tt (plain (λ _. u8)),
+                    (goes-dropped 𝓤 H A W 7 (plain (λ _. usize)) yes (λ κs x f. refl), tt),
+                  ),
+                ),
+              ),
+            ),
+          ),
+        ),
+      )
       (f.clauses 𝓤 H A mem run) (WpFn 𝓤 H (𝓣 .C) (𝓣 .Λ) code.function) (WpFn-mono 𝓤 H (W .laws) 𝓣 code.function) spread-walks
 
 pub spread-spec : {M : Type 1} → stated.statement M
