@@ -22,7 +22,8 @@ stores-length g xs (suc i) = length-set (stores g i xs) i (g i) ∙ stores-lengt
 module _ {X : Type 0} (g : ℕ → X) (xs : List X) (d : X) where
   pub stores-past : (n j : ℕ) → n ≤ j → getD (stores g n xs) j d ≡ getD xs j d
   stores-past zero j h = refl
-  stores-past (suc i) j h = getD-set-other (stores g i xs) i j (g i) d (λ e. lt-irrefl j (subst (λ (m : ℕ). m < j) (sym e) h)) ∙ stores-past i j (omega (arith, h))
+  stores-past (suc i) j h = getD-set-other (stores g i xs) i j (g i) d (λ e. lt-irrefl j (subst (λ (m : ℕ). m < j) (sym e) h)) ∙ stores-past i j
+      (omega (arith, h))
 
   pub stores-at : (n j : ℕ) → j < n → n ≤ length xs → getD (stores g n xs) j d ≡ g j
   stores-at zero j h l = absurd (not-suc-le-zero h)

@@ -200,8 +200,8 @@ module _ {M : Type 1} (𝓤 : URA M) (H : Heap 𝓤) (A : Atoms 𝓤) (W : Given
   -- what is had once i rows are stored and the borrow is closed
   abbrev Left : ℕ → Copied → Val → List (Item 𝓤)
   Left i r w =
-      ‵ (fobs γ (codedHoleys R .code (heres R (fills k i ys)))) ∷ ‵ (fbor κ (Held R (length (fills k i ys)) b o γ)) ∷ ‵ (flft κ q) ∷ ‵ (flft κ′ q′) ∷ ‵
-      (F .own r (w ∷ [])) ∷ []
+      ‵ (fobs γ (codedHoleys R .code (heres R (fills k i ys)))) ∷ ‵ (fbor κ (Held R (length (fills k i ys)) b o γ)) ∷ ‵ (flft κ q) ∷ ‵ (flft κ′ q′) ∷
+      ‵ (F .own r (w ∷ [])) ∷ []
 
   exits : Rooms ys k → (i : ℕ) → i ≡ m → (r : Copied) (w : Val) → r ≡ outcomeOf agreed → ent 𝓤 (⋆ 𝓤 H A (Left i r w)) (Post w)
   exits rooms i e r w er =
@@ -316,11 +316,11 @@ module _ {M : Type 1} (𝓤 : URA M) (H : Heap 𝓤) (A : Atoms 𝓤) (W : Given
         (and-then ! (load ! (from ! (stop !)) (look ! 42 refl)) (and-then ! (load ! (from ! (stop !)) (look ! 40 refl))
         (and-then ! (load ! (from ! (stop !)) (look ! 38 refl)) (and-then ! (load ! (from ! (stop !)) (look ! 36 refl))
         (and-then ! (load ! (from ! (stop !)) (look ! 28 refl)) (no-more !)))))))) (λ w.
-        use1 W (later (some (λ (r : Spline). ((‵ (flft κ′ q′) ⊛ ‵ ftrue) ⊛ ‵ (R .own r (w ∷ []))) ⊛ raw
-        (ensured 𝓤 H A row-at.ended (row-at.clauses 𝓤 H A mem run) (κ′, tt) (to-row i .0 .3) tt r)))) (id⊢ 𝓤 _) $
+        use1 W (later (some (λ (r : Spline). ((‵ (flft κ′ q′) ⊛ ‵ ftrue) ⊛ ‵ (R .own r (w ∷ []))) ⊛
+        raw (ensured 𝓤 H A row-at.ended (row-at.clauses 𝓤 H A mem run) (κ′, tt) (to-row i .0 .3) tt r)))) (id⊢ 𝓤 _) $
         await ! tt $ pick ! (λ r. split ! $ move ! (1 ∷ []) $
-        use1 W (some (λ (zs : Lasts row-at.ended (κ′, tt) (to-row i .0 .3)). ‵ (lasts row-at.ended (κ′, tt) (to-row i .0 .3) zs) ⊛ raw
-        (fact 𝓤 (r ≡ rowAtOf k i)))) (id⊢ 𝓤 _) $
+        use1 W (some (λ (zs : Lasts row-at.ended (κ′, tt) (to-row i .0 .3)). ‵ (lasts row-at.ended (κ′, tt) (to-row i .0 .3) zs) ⊛
+        raw (fact 𝓤 (r ≡ rowAtOf k i)))) (id⊢ 𝓤 _) $
         pick ! (λ zs. split ! $ drop ! $ heard ! (r ≡ rowAtOf k i) (λ e. split ! $ move ! (1 ∷ []) $
         facts ! R (Is R) (shows 𝓤 H A R) r (w ∷ []) (λ is. split ! $
         land ! (from ! (stop !)) (init ! 11 refl (LL.lawful T.the-type T′.the-laws 𝓤 H A W .typed r _ is .0)) $
@@ -347,8 +347,8 @@ module _ {M : Type 1} (𝓤 : URA M) (H : Heap 𝓤) (A : Atoms 𝓤) (W : Given
         use0 W (raw (Outcome 𝓤 H A mem run .pre (to-outcome 𝓤 H A mem run agreed))) (goes-outcome 𝓤 H A mem run W agreed) $
         calls-at ! (fmOf 𝓤 H (W .laws) 𝓣) (Outcome 𝓤 H A mem run) says-outcome (to-outcome 𝓤 H A mem run agreed)
         (and-then ! (load ! (from ! (stop !)) (look ! 32 refl)) (no-more !)) (λ w.
-        use1 W (later (some (λ (r : Copied). (‵ ftrue ⊛ ‵ (F .own r (w ∷ []))) ⊛ raw
-        (ensured 𝓤 H A outcome.ended (outcome.clauses 𝓤 H A mem run) tt (agreed, tt) tt r)))) (id⊢ 𝓤 _) $
+        use1 W (later (some (λ (r : Copied). (‵ ftrue ⊛ ‵ (F .own r (w ∷ []))) ⊛
+        raw (ensured 𝓤 H A outcome.ended (outcome.clauses 𝓤 H A mem run) tt (agreed, tt) tt r)))) (id⊢ 𝓤 _) $
         await ! tt $ pick ! (λ r. split ! $ move ! (1 ∷ []) $
         use1 W (some (λ (zs : Lasts outcome.ended tt (agreed, tt)). ‵ (lasts outcome.ended tt (agreed, tt) zs) ⊛ raw (fact 𝓤 (r ≡ outcomeOf agreed))))
         (id⊢ 𝓤 _) $
@@ -412,8 +412,8 @@ module _ {M : Type 1} (𝓤 : URA M) (H : Heap 𝓤) (A : Atoms 𝓤) (W : Given
         (and-then ! (load ! (from ! (stop !)) (look ! 19 refl)) (and-then ! (load ! (from ! (stop !)) (look ! 17 refl))
         (and-then ! (load ! (from ! (stop !)) (look ! 15 refl)) (and-then ! (load ! (from ! (stop !)) (look ! 13 refl))
         (and-then ! (load ! (from ! (stop !)) (look ! 11 refl)) (and-then ! (load ! (from ! (stop !)) (look ! 9 refl)) (no-more !))))))))) (λ w₁.
-        use1 W (later (some (λ (r₁ : Bool). (‵ ftrue ⊛ ‵ (bool .own r₁ (w₁ ∷ []))) ⊛ raw
-        (ensured 𝓤 H A agree.ended (agree.clauses 𝓤 H A mem run) tt (asks .0 .3) tt r₁)))) (id⊢ 𝓤 _) $
+        use1 W (later (some (λ (r₁ : Bool). (‵ ftrue ⊛ ‵ (bool .own r₁ (w₁ ∷ []))) ⊛
+        raw (ensured 𝓤 H A agree.ended (agree.clauses 𝓤 H A mem run) tt (asks .0 .3) tt r₁)))) (id⊢ 𝓤 _) $
         await ! tt $ pick ! (λ r₁. split ! $ move ! (1 ∷ []) $
         use1 W (some (λ (zs₁ : Lasts agree.ended tt (asks .0 .3)). ‵ (lasts agree.ended tt (asks .0 .3) zs₁) ⊛ raw (fact 𝓤 (r₁ ≡ agreed)))) (id⊢ 𝓤 _) $
         pick ! (λ zs₁. split ! $ drop ! $ heard ! (r₁ ≡ agreed) (λ e₁. split ! $ drop ! $ facts ! bool (Is bool) (shows 𝓤 H A bool) r₁ (w₁ ∷ []) (λ is₁.
@@ -422,8 +422,8 @@ module _ {M : Type 1} (𝓤 : URA M) (H : Heap 𝓤) (A : Atoms 𝓤) (W : Given
         use0 W (raw (Count 𝓤 H A mem run .pre (to-count 𝓤 H A mem run agreed n))) (goes-count 𝓤 H A mem run W agreed n small) $
         calls-at ! (fmOf 𝓤 H (W .laws) 𝓣) (Count 𝓤 H A mem run) says-count (to-count 𝓤 H A mem run agreed n)
         (and-then ! (load ! (from ! (stop !)) (look ! 27 refl)) (and-then ! (load ! (from ! (stop !)) (look ! 29 refl)) (no-more !))) (λ w₂.
-        use1 W (later (some (λ (r₂ : ℕ). (‵ ftrue ⊛ ‵ (usize .own r₂ (w₂ ∷ []))) ⊛ raw
-        (ensured 𝓤 H A count.ended (count.clauses 𝓤 H A mem run) tt (agreed, (n, tt)) tt r₂)))) (id⊢ 𝓤 _) $
+        use1 W (later (some (λ (r₂ : ℕ). (‵ ftrue ⊛ ‵ (usize .own r₂ (w₂ ∷ []))) ⊛
+        raw (ensured 𝓤 H A count.ended (count.clauses 𝓤 H A mem run) tt (agreed, (n, tt)) tt r₂)))) (id⊢ 𝓤 _) $
         await ! tt $ pick ! (λ r₂. split ! $ move ! (1 ∷ []) $
         use1 W (some (λ (zs₂ : Lasts count.ended tt (agreed, (n, tt))). ‵ (lasts count.ended tt (agreed, (n, tt)) zs₂) ⊛ raw (fact 𝓤 (r₂ ≡ m)))) (id⊢ 𝓤 _) $
         pick ! (λ zs₂. split ! $ drop ! $ heard ! (r₂ ≡ m) (λ e₂. split ! $ drop ! $ facts ! usize (Is usize) (shows 𝓤 H A usize) r₂ (w₂ ∷ []) (λ is₂.
@@ -446,11 +446,11 @@ module _ {M : Type 1} (𝓤 : URA M) (H : Heap 𝓤) (A : Atoms 𝓤) (W : Given
         qed W ((‵ (flft κ q) ⊛ ‵ (flft κ′ q′) ⊛ ‵ ftrue) ∷ ‵ (fsep (MutSlice (named 0) κ R .own (list-at ys) (at .0)) (With n)) ∷ []) ∵
         enter ! (𝓣 .C) (𝓣 .Λ) code.function (sliceVal (b, o) (length ys) ∷ only (slice-vals c₂) ∷ only (slice-vals c₃) ∷ only (slice-vals c₄) ∷ only
         (slice-vals c₅) ∷ only (slice-vals c₆) ∷ only (slice-vals c₇) ∷ vint w64 n ∷ []) _ $
-        alloc1 ! (λ l₀. alloc1 ! (λ l₁. alloc1 ! (λ l₂. alloc1 ! (λ l₃. alloc1
-        ! (λ l₄. alloc1 ! (λ l₅. alloc1 ! (λ l₆. alloc1 ! (λ l₇. alloc1
-        ! (λ l₈. alloc1 ! (λ l₉. alloc1 ! (λ l₁₀. alloc1 ! (λ l₁₁. alloc1
-        ! (λ l₁₂. alloc1 ! (λ l₁₃. alloc1 ! (λ l₁₄. alloc1 ! (λ l₁₅. alloc1
-        ! (λ l₁₆. alloc1 ! (λ l₁₇. alloc1 ! (λ l₁₈. alloc1 ! (λ l₁₉. alloc1 ! (λ l₂₀. alloc1 ! (λ l₂₁. alloc1 ! (λ l₂₂. alloc0 ! $ params1 ! $
+        alloc1 ! (λ l₀. alloc1 ! (λ l₁. alloc1 ! (λ l₂. alloc1 ! (λ l₃.
+        alloc1 ! (λ l₄. alloc1 ! (λ l₅. alloc1 ! (λ l₆. alloc1 ! (λ l₇.
+        alloc1 ! (λ l₈. alloc1 ! (λ l₉. alloc1 ! (λ l₁₀. alloc1 ! (λ l₁₁.
+        alloc1 ! (λ l₁₂. alloc1 ! (λ l₁₃. alloc1 ! (λ l₁₄. alloc1 ! (λ l₁₅.
+        alloc1 ! (λ l₁₆. alloc1 ! (λ l₁₇. alloc1 ! (λ l₁₈. alloc1 ! (λ l₁₉. alloc1 ! (λ l₂₀. alloc1 ! (λ l₂₁. alloc1 ! (λ l₂₂. alloc0 ! $ params1 ! $
         pass1 ! (init ! 42 refl (tt, (tt, (record { fits = rooms .list-room .0 }, tt)))) $
         pass1 ! (init ! 40 refl (tt, (tt, (record { fits = rooms .curvature-room .0 }, tt)))) $
         pass1 ! (init ! 38 refl (tt, (tt, (record { fits = rooms .p0x-room .0 }, tt)))) $

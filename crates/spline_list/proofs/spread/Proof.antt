@@ -304,8 +304,8 @@ module _ {M : Type 1} (𝓤 : URA M) (H : Heap 𝓤) (A : Atoms 𝓤) (W : Given
         ∷ ‵ (fat fullShare (col 1 (tyFloat binary32)) l₂ 0 (only (slice-vals x₂))) ∷ ‵ (fdies (col 1 (tyFloat binary32)) l₂)
         ∷ ‵ (fat fullShare records l₁ 0 (only (slice-vals x₁))) ∷ ‵ (fdies records l₁)
         ∷ ‵ (froom C′.mir l₀ 0) ∷ ‵ (fdies C′.mir l₀)
-        ∷ (‵ (flft κ₁ q₁) ⊛ ‵ (flft κ₂ q₂) ⊛ ‵ (flft κ₃ q₃) ⊛ ‵ (flft κ₄ q₄) ⊛ ‵ (flft κ₅ q₅) ⊛ ‵ (flft κ₆ q₆) ⊛ ‵ (flft κ₇ q₇) ⊛ ‵ ftrue) ∷ ‵
-        (owns (ShrSlice (named 0) κ₁ R ∷ MutSlice (named 1) κ₂ f32 ∷ MutSlice (named 2) κ₃ f32 ∷ MutSlice (named 3) κ₄ f32 ∷ MutSlice (named 4) κ₅ f32 ∷
+        ∷ (‵ (flft κ₁ q₁) ⊛ ‵ (flft κ₂ q₂) ⊛ ‵ (flft κ₃ q₃) ⊛ ‵ (flft κ₄ q₄) ⊛ ‵ (flft κ₅ q₅) ⊛ ‵ (flft κ₆ q₆) ⊛ ‵ (flft κ₇ q₇) ⊛ ‵ ftrue) ∷
+        ‵ (owns (ShrSlice (named 0) κ₁ R ∷ MutSlice (named 1) κ₂ f32 ∷ MutSlice (named 2) κ₃ f32 ∷ MutSlice (named 3) κ₄ f32 ∷ MutSlice (named 4) κ₅ f32 ∷
         MutSlice (named 5) κ₆ f32 ∷ MutSlice (named 6) κ₇ u8 ∷ usize ∷ []) (x₁, (x₂, (x₃, (x₄, (x₅, (x₆, (x₇, (n, tt)))))))) at) ∷ []
 
   -- the variant: how many rows are left
@@ -463,11 +463,11 @@ module _ {M : Type 1} (𝓤 : URA M) (H : Heap 𝓤) (A : Atoms 𝓤) (W : Given
         use0 W (raw (FlagByte 𝓤 H A mem run .pre (to-flag v))) (goes-flag v) $
         calls-at ! (fmOf 𝓤 H (W .laws) 𝓣) (FlagByte 𝓤 H A mem run) says-flag (to-flag v)
         (and-then ! (load ! (from ! (fld ! refl (stop !))) (look-in ! 63 (sub ! 3 refl (whole !)))) (no-more !)) (λ w.
-        use1 W (later (some (λ (r : ℕ). (‵ ftrue ⊛ ‵ (u8 .own r (w ∷ []))) ⊛ raw
-        (ensured 𝓤 H A flag-byte.ended (flag-byte.clauses 𝓤 H A mem run) tt (v .contour, tt) tt r)))) (id⊢ 𝓤 _) $
+        use1 W (later (some (λ (r : ℕ). (‵ ftrue ⊛ ‵ (u8 .own r (w ∷ []))) ⊛
+        raw (ensured 𝓤 H A flag-byte.ended (flag-byte.clauses 𝓤 H A mem run) tt (v .contour, tt) tt r)))) (id⊢ 𝓤 _) $
         await ! tt $ pick ! (λ r. split ! $ move ! (1 ∷ []) $
-        use1 W (some (λ (zs : Lasts flag-byte.ended tt (v .contour, tt)). ‵ (lasts flag-byte.ended tt (v .contour, tt) zs) ⊛ raw
-        (fact 𝓤 (r ≡ contour-of v)))) (id⊢ 𝓤 _) $
+        use1 W (some (λ (zs : Lasts flag-byte.ended tt (v .contour, tt)). ‵ (lasts flag-byte.ended tt (v .contour, tt) zs) ⊛
+        raw (fact 𝓤 (r ≡ contour-of v)))) (id⊢ 𝓤 _) $
         pick ! (λ zs. split ! $ drop ! $ heard ! (r ≡ contour-of v) (λ e. split ! $ drop ! $ facts ! u8 (Is u8) (shows 𝓤 H A u8) r (w ∷ []) (λ is.
         land ! (from ! (stop !)) (init ! 28 refl (uint-lawful 𝓤 H A W w8 .typed r _ is .0)) $
         rewrite ! 28 (λ (u : Val). ‵ (fat fullShare byte l₂₉ 0 u)) (ap only (is .0) ∙ ap (vint w8) e) refl $
@@ -502,8 +502,8 @@ module _ {M : Type 1} (𝓤 : URA M) (H : Heap 𝓤) (A : Atoms 𝓤) (W : Given
         use0 W (raw (Outcome 𝓤 H A mem run .pre (to-outcome 𝓤 H A mem run agreed))) (goes-outcome 𝓤 H A mem run W agreed) $
         calls-at ! (fmOf 𝓤 H (W .laws) 𝓣) (Outcome 𝓤 H A mem run) says-outcome (to-outcome 𝓤 H A mem run agreed)
         (and-then ! (load ! (from ! (stop !)) (look ! 62 refl)) (no-more !)) (λ w.
-        use1 W (later (some (λ (r : Copied). (‵ ftrue ⊛ ‵ (F .own r (w ∷ []))) ⊛ raw
-        (ensured 𝓤 H A outcome.ended (outcome.clauses 𝓤 H A mem run) tt (agreed, tt) tt r)))) (id⊢ 𝓤 _) $
+        use1 W (later (some (λ (r : Copied). (‵ ftrue ⊛ ‵ (F .own r (w ∷ []))) ⊛
+        raw (ensured 𝓤 H A outcome.ended (outcome.clauses 𝓤 H A mem run) tt (agreed, tt) tt r)))) (id⊢ 𝓤 _) $
         await ! tt $ pick ! (λ r. split ! $ move ! (1 ∷ []) $
         use1 W (some (λ (zs : Lasts outcome.ended tt (agreed, tt)). ‵ (lasts outcome.ended tt (agreed, tt) zs) ⊛ raw (fact 𝓤 (r ≡ outcomeOf agreed))))
         (id⊢ 𝓤 _) $
@@ -542,8 +542,8 @@ module _ {M : Type 1} (𝓤 : URA M) (H : Heap 𝓤) (A : Atoms 𝓤) (W : Given
         inside less = let h : i < n = below less in let e : n ≡ length ys = equal-at less .list-is in omega (arith, h, e)
 
         in-column : {X : Type 0} (g : Spline → X) (xs : List X) → n ≤ length xs → Holds (ltb i m) → i < length (puts g i ys xs)
-        in-column g xs has less = let h : i < n = below less in let e : length (puts g i ys xs) ≡ length xs = puts-length g i ys xs in omega
-            (arith, h, e, has)
+        in-column g xs has less = let h : i < n = below less in let e : length (puts g i ys xs) ≡ length xs = puts-length g i ys xs in
+            omega (arith, h, e, has)
 
         fits24 : Holds (ltb i m) → Fits w64 (i * 24)
         fits24 less = let h : i < length ys = inside less in let r : length ys * 24 < 2 ^ 63 = rooms .list-room .1 in record { fits = omega (arith, h, r) }
@@ -580,8 +580,8 @@ module _ {M : Type 1} (𝓤 : URA M) (H : Heap 𝓤) (A : Atoms 𝓤) (W : Given
         (and-then ! (load ! (from ! (stop !)) (look ! 33 refl)) (and-then ! (load ! (from ! (stop !)) (look ! 31 refl))
         (and-then ! (load ! (from ! (stop !)) (look ! 29 refl)) (and-then ! (load ! (from ! (stop !)) (look ! 27 refl))
         (and-then ! (load ! (from ! (stop !)) (look ! 25 refl)) (and-then ! (load ! (from ! (stop !)) (look ! 23 refl)) (no-more !))))))))) (λ w₁.
-        use1 W (later (some (λ (r₁ : Bool). (‵ ftrue ⊛ ‵ (bool .own r₁ (w₁ ∷ []))) ⊛ raw
-        (ensured 𝓤 H A agree.ended (agree.clauses 𝓤 H A mem run) tt (asks .0 .3) tt r₁)))) (id⊢ 𝓤 _) $
+        use1 W (later (some (λ (r₁ : Bool). (‵ ftrue ⊛ ‵ (bool .own r₁ (w₁ ∷ []))) ⊛
+        raw (ensured 𝓤 H A agree.ended (agree.clauses 𝓤 H A mem run) tt (asks .0 .3) tt r₁)))) (id⊢ 𝓤 _) $
         await ! tt $ pick ! (λ r₁. split ! $ move ! (1 ∷ []) $
         use1 W (some (λ (zs₁ : Lasts agree.ended tt (asks .0 .3)). ‵ (lasts agree.ended tt (asks .0 .3) zs₁) ⊛ raw (fact 𝓤 (r₁ ≡ agreed)))) (id⊢ 𝓤 _) $
         pick ! (λ zs₁. split ! $ drop ! $ heard ! (r₁ ≡ agreed) (λ e₁. split ! $ drop ! $ facts ! bool (Is bool) (shows 𝓤 H A bool) r₁ (w₁ ∷ []) (λ is₁.
@@ -590,8 +590,8 @@ module _ {M : Type 1} (𝓤 : URA M) (H : Heap 𝓤) (A : Atoms 𝓤) (W : Given
         use0 W (raw (Count 𝓤 H A mem run .pre (to-count 𝓤 H A mem run agreed n))) (goes-count 𝓤 H A mem run W agreed n small) $
         calls-at ! (fmOf 𝓤 H (W .laws) 𝓣) (Count 𝓤 H A mem run) says-count (to-count 𝓤 H A mem run agreed n)
         (and-then ! (load ! (from ! (stop !)) (look ! 43 refl)) (and-then ! (load ! (from ! (stop !)) (look ! 45 refl)) (no-more !))) (λ w₂.
-        use1 W (later (some (λ (r₂ : ℕ). (‵ ftrue ⊛ ‵ (usize .own r₂ (w₂ ∷ []))) ⊛ raw
-        (ensured 𝓤 H A count.ended (count.clauses 𝓤 H A mem run) tt (agreed, (n, tt)) tt r₂)))) (id⊢ 𝓤 _) $
+        use1 W (later (some (λ (r₂ : ℕ). (‵ ftrue ⊛ ‵ (usize .own r₂ (w₂ ∷ []))) ⊛
+        raw (ensured 𝓤 H A count.ended (count.clauses 𝓤 H A mem run) tt (agreed, (n, tt)) tt r₂)))) (id⊢ 𝓤 _) $
         await ! tt $ pick ! (λ r₂. split ! $ move ! (1 ∷ []) $
         use1 W (some (λ (zs₂ : Lasts count.ended tt (agreed, (n, tt))). ‵ (lasts count.ended tt (agreed, (n, tt)) zs₂) ⊛ raw (fact 𝓤 (r₂ ≡ m)))) (id⊢ 𝓤 _) $
         pick ! (λ zs₂. split ! $ drop ! $ heard ! (r₂ ≡ m) (λ e₂. split ! $ drop ! $ facts ! usize (Is usize) (shows 𝓤 H A usize) r₂ (w₂ ∷ []) (λ is₂.
@@ -625,18 +625,18 @@ module _ {M : Type 1} (𝓤 : URA M) (H : Heap 𝓤) (A : Atoms 𝓤) (W : Given
         (WpFn 𝓤 H (𝓣 .C) (𝓣 .Λ) code.function (only (slice-vals x₁) ∷ only (slice-vals x₂) ∷ only (slice-vals x₃) ∷ only (slice-vals x₄) ∷ only
         (slice-vals x₅) ∷ only (slice-vals x₆) ∷ only (slice-vals x₇) ∷ vint w64 n ∷ []) Post)
     walk rooms small =
-        qed W ((‵ (flft κ₁ q₁) ⊛ ‵ (flft κ₂ q₂) ⊛ ‵ (flft κ₃ q₃) ⊛ ‵ (flft κ₄ q₄) ⊛ ‵ (flft κ₅ q₅) ⊛ ‵ (flft κ₆ q₆) ⊛ ‵ (flft κ₇ q₇) ⊛ ‵ ftrue) ∷ ‵
-        (owns (ShrSlice (named 0) κ₁ R ∷ MutSlice (named 1) κ₂ f32 ∷ MutSlice (named 2) κ₃ f32 ∷ MutSlice (named 3) κ₄ f32 ∷ MutSlice (named 4) κ₅ f32 ∷
+        qed W ((‵ (flft κ₁ q₁) ⊛ ‵ (flft κ₂ q₂) ⊛ ‵ (flft κ₃ q₃) ⊛ ‵ (flft κ₄ q₄) ⊛ ‵ (flft κ₅ q₅) ⊛ ‵ (flft κ₆ q₆) ⊛ ‵ (flft κ₇ q₇) ⊛ ‵ ftrue) ∷
+        ‵ (owns (ShrSlice (named 0) κ₁ R ∷ MutSlice (named 1) κ₂ f32 ∷ MutSlice (named 2) κ₃ f32 ∷ MutSlice (named 3) κ₄ f32 ∷ MutSlice (named 4) κ₅ f32 ∷
         MutSlice (named 5) κ₆ f32 ∷ MutSlice (named 6) κ₇ u8 ∷ usize ∷ []) (x₁, (x₂, (x₃, (x₄, (x₅, (x₆, (x₇, (n, tt)))))))) at) ∷ []) ∵
         enter ! (𝓣 .C) (𝓣 .Λ) code.function (only (slice-vals x₁) ∷ only (slice-vals x₂) ∷ only (slice-vals x₃) ∷ only (slice-vals x₄) ∷ only
         (slice-vals x₅) ∷ only (slice-vals x₆) ∷ only (slice-vals x₇) ∷ vint w64 n ∷ []) _ $
-        alloc1 ! (λ l₀. alloc1 ! (λ l₁. alloc1 ! (λ l₂. alloc1 ! (λ l₃. alloc1
-        ! (λ l₄. alloc1 ! (λ l₅. alloc1 ! (λ l₆. alloc1 ! (λ l₇. alloc1
-        ! (λ l₈. alloc1 ! (λ l₉. alloc1 ! (λ l₁₀. alloc1 ! (λ l₁₁. alloc1
-        ! (λ l₁₂. alloc1 ! (λ l₁₃. alloc1 ! (λ l₁₄. alloc1 ! (λ l₁₅. alloc1
-        ! (λ l₁₆. alloc1 ! (λ l₁₇. alloc1 ! (λ l₁₈. alloc1 ! (λ l₁₉. alloc1
-        ! (λ l₂₀. alloc1 ! (λ l₂₁. alloc1 ! (λ l₂₂. alloc1 ! (λ l₂₃. alloc1
-        ! (λ l₂₄. alloc1 ! (λ l₂₅. alloc1 ! (λ l₂₆. alloc1 ! (λ l₂₇. alloc1 ! (λ l₂₈. alloc1 ! (λ l₂₉. alloc1 ! (λ l₃₀. alloc0 ! $ params1 ! $
+        alloc1 ! (λ l₀. alloc1 ! (λ l₁. alloc1 ! (λ l₂. alloc1 ! (λ l₃.
+        alloc1 ! (λ l₄. alloc1 ! (λ l₅. alloc1 ! (λ l₆. alloc1 ! (λ l₇.
+        alloc1 ! (λ l₈. alloc1 ! (λ l₉. alloc1 ! (λ l₁₀. alloc1 ! (λ l₁₁.
+        alloc1 ! (λ l₁₂. alloc1 ! (λ l₁₃. alloc1 ! (λ l₁₄. alloc1 ! (λ l₁₅.
+        alloc1 ! (λ l₁₆. alloc1 ! (λ l₁₇. alloc1 ! (λ l₁₈. alloc1 ! (λ l₁₉.
+        alloc1 ! (λ l₂₀. alloc1 ! (λ l₂₁. alloc1 ! (λ l₂₂. alloc1 ! (λ l₂₃.
+        alloc1 ! (λ l₂₄. alloc1 ! (λ l₂₅. alloc1 ! (λ l₂₆. alloc1 ! (λ l₂₇. alloc1 ! (λ l₂₈. alloc1 ! (λ l₂₉. alloc1 ! (λ l₃₀. alloc0 ! $ params1 ! $
         pass1 ! (init ! 58 refl (tt, (tt, (record { fits = rooms .list-room .0 }, tt)))) $
         pass1 ! (init ! 56 refl (tt, (tt, (record { fits = rooms .curvature-room .0 }, tt)))) $
         pass1 ! (init ! 54 refl (tt, (tt, (record { fits = rooms .p0x-room .0 }, tt)))) $
