@@ -1,7 +1,7 @@
 -- What `fill` and `spread` have in common: what is known of the lengths where rows go, and the contracts of the three functions that both call before and
 -- after their loop, each with what its triple binds and what a call of it is given.
 -- Assumes `Given`.
-use mathlib.Core.Path.{_≡_, refl, ap}
+use mathlib.Core.Path.{_≡_, refl}
 use mathlib.Core.Bool.{Bool, true, false, cond, _&&_, false≢true}
 use Prim.Native.Nat.{ℕ, suc, _+_, _≤_, _<_, _^_, zero-le}
 use native.Mathlib.Nat.{le-refl, not-suc-le-zero}
@@ -30,7 +30,7 @@ use denote.Triple.Spec.{tripleOf}
 use denote.Triple.Statement.{Contract}
 use Rattle.tables.specs.Tables.{SplineTable}
 use Rattle.spline_list.specs.declared.Spline.{Spline}
-use Rattle.spline_list.specs.Rows.{agreeOf, equalOf, countOf}
+use Rattle.spline_list.specs.Rows.{equalOf, countOf}
 use Rattle.spline_list.proofs.Spline as T
 use Rattle.spline_list.proofs.agree as agree
 use Rattle.spline_list.proofs.count as count

@@ -6,14 +6,13 @@ use Prim.Native.Nat.{ℕ, _≤_, _<_}
 use native.Mathlib.Nat.{le-of-eq}
 use native.Mathlib.Omega.{arith}
 use mathlib.Core.List.{List}
-use lib.Ieee.{Float, nan}
+use lib.Ieee.{nan}
 use lib.ListN.{length, getD}
 use lib.Seq.{ext-getD}
 use Rattle.columns.specs.Flags.{flagByteOf, isFlagOf}
-use Rattle.point.specs.Point.{pointAt}
 use Rattle.tables.specs.Tables.{SplineTable, splineTable}
 use Rattle.spline_list.specs.declared.Spline.{Spline}
-use Rattle.spline_list.specs.Rows.{blank, rowAtOf, agreeOf, equalOf, fills, spreads, fillOf, spreadOf}
+use Rattle.spline_list.specs.Rows.{blank, rowAtOf, equalOf, fills, spreads, fillOf, spreadOf}
 use Rattle.spline_list.proofs.Laws.{stores-length, stores-at, curvature-of, p0x-of, p0y-of, p2x-of, p2y-of, contour-of, puts, puts-length, puts-spreads}
 use Rattle.spline_list.proofs.Agreed.{Equal, equal}
 

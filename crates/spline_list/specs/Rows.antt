@@ -1,9 +1,10 @@
--- 01, "The table of splines is offered as a lent list of records too": the rows of the columns as records, and lists filled from them. Assumes nothing.
+-- 01, "The table of splines is offered as a lent list of records too": the rows of the columns as records, and whole lists
+-- that go from the columns and back. Assumes nothing.
 use Prim.Native.Nat.{ℕ, zero, suc}
 use mathlib.Core.Bool.{Bool, false, cond, _&&_}
 use mathlib.Core.List.{List}
 use lib.Dec.{eqb, leb, ltb}
-use lib.Ieee.{Float, nan}
+use lib.Ieee.{nan}
 use lib.ListN.{length, getD, set}
 use Rattle.point.specs.Point.{pointAt}
 use Rattle.columns.specs.Flags.{flagByteOf, isFlagOf}
@@ -37,7 +38,8 @@ putRowOf t i v =
 abbrev pub splineAtOf : List Spline → ℕ → Found
 splineAtOf ys i = cond (ltb i (length ys)) (At (getD ys i blank)) Past
 
--- n splines are in use: a list of them has n records, and a column has at least n entries
+-- lists of equal length, by their lengths: the list has a record for each of the n splines in use, and no column ends before the nth; what a column has
+-- beyond it is capacity
 abbrev pub agreeOf : ℕ → ℕ → ℕ → ℕ → ℕ → ℕ → ℕ → ℕ → Bool
 agreeOf n list curvature p0x p0y p2x p2y contour =
     eqb n list && leb n curvature && leb n p0x && leb n p0y && leb n p2x && leb n p2y && leb n contour
@@ -49,7 +51,7 @@ equalOf ys t n =
 abbrev pub outcomeOf : Bool → Copied
 outcomeOf agreed = cond agreed All Unequal
 
--- all n rows, or none
+-- how many rows go: all, or none
 abbrev pub countOf : Bool → ℕ → ℕ
 countOf agreed n = cond agreed n 0
 

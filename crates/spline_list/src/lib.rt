@@ -80,7 +80,7 @@ pub fn put_row(
     put_u8(contour, i, flag_byte(v.contour));
 }
 
-// Whether n splines can go from a list to columns or back, by the lengths: the list has n records, and no column ends before n.
+// Whether the lengths are equal: the list has a record for each of n splines, and no column ends before the nth.
 fn agree(
     n: usize,
     list: usize,
@@ -114,7 +114,7 @@ fn agree(
     n <= contour
 }
 
-// How many rows go: all, or none where the lengths don't agree.
+// How many rows go: all, or none where the lengths are unequal.
 fn count(agreed: bool, n: usize) -> usize
     ensures { λ r. ⌜ r ≡ countOf agreed n ⌝ }
 {
@@ -127,7 +127,7 @@ fn outcome(agreed: bool) -> Copied
     if agreed { Copied::All } else { Copied::Unequal }
 }
 
-// The n rows of the columns go to a list of n records.
+// The first n rows of the columns go to a list of n records.
 pub fn fill<'l, 'c>(
     list: &'l mut [Spline],
     curvature: &'c [f32],
@@ -159,7 +159,7 @@ pub fn fill<'l, 'c>(
     outcome(agreed)
 }
 
-// The way back: the n records of a list go to the first n rows of the columns.
+// The way back: the n records of a list go to the first n rows of the columns, and the rows past them stay.
 pub fn spread(
     list: &[Spline],
     curvature: &mut [f32],
