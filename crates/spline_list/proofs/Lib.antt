@@ -1,2 +1,4 @@
+pub mod Agreed
 pub mod Columns
 pub mod Laws
+pub mod RoundTrip

@@ -1,9 +1,10 @@
--- 01, "The table of splines is offered as a lent list of records too": the rows of the columns as records, and lists filled from them. Assumes nothing.
+-- 01, "The table of splines is offered as a lent list of records too": the rows of the columns as records, and whole lists
+-- that go from the columns and back. Assumes nothing.
 use Prim.Native.Nat.{ℕ, zero, suc}
-use mathlib.Core.Bool.{Bool, false, cond}
+use mathlib.Core.Bool.{Bool, false, cond, _&&_}
 use mathlib.Core.List.{List}
-use lib.Dec.{eqb, ltb}
-use lib.Ieee.{Float, nan}
+use lib.Dec.{eqb, leb, ltb}
+use lib.Ieee.{nan}
 use lib.ListN.{length, getD, set}
 use Rattle.point.specs.Point.{pointAt}
 use Rattle.columns.specs.Flags.{flagByteOf, isFlagOf}
@@ -11,6 +12,8 @@ use Rattle.tables.specs.Tables.{SplineTable, splineTable}
 use Rattle.spline_list.specs.declared.Spline.{Spline}
 use Rattle.spline_list.specs.declared.Found.{Found}
 use Rattle.spline_list.specs.declared.Found.the-variants.{At, Past}
+use Rattle.spline_list.specs.declared.Copied.{Copied}
+use Rattle.spline_list.specs.declared.Copied.the-variants.{All, Unequal}
 
 abbrev pub blank : Spline
 blank = record { curvature = nan; p0 = pointAt nan nan; p2 = pointAt nan nan; contour = false }
@@ -35,9 +38,22 @@ putRowOf t i v =
 abbrev pub splineAtOf : List Spline → ℕ → Found
 splineAtOf ys i = cond (ltb i (length ys)) (At (getD ys i blank)) Past
 
--- all n rows for a list of n, none for any other
-abbrev pub countOf : ℕ → ℕ → ℕ
-countOf n len = cond (eqb n len) n 0
+-- lists of equal length, by their lengths: the list has a record for each of the n splines in use, and no column ends before the nth; what a column has
+-- beyond it is capacity
+abbrev pub agreeOf : ℕ → ℕ → ℕ → ℕ → ℕ → ℕ → ℕ → ℕ → Bool
+agreeOf n list curvature p0x p0y p2x p2y contour =
+    eqb n list && leb n curvature && leb n p0x && leb n p0y && leb n p2x && leb n p2y && leb n contour
+
+abbrev pub equalOf : List Spline → SplineTable → ℕ → Bool
+equalOf ys t n =
+    agreeOf n (length ys) (length (t .curvature)) (length (t .p0x)) (length (t .p0y)) (length (t .p2x)) (length (t .p2y)) (length (t .contour))
+
+abbrev pub outcomeOf : Bool → Copied
+outcomeOf agreed = cond agreed All Unequal
+
+-- how many rows go: all, or none
+abbrev pub countOf : Bool → ℕ → ℕ
+countOf agreed n = cond agreed n 0
 
 -- g 0, g 1, .. are stored to the first n places of a list; the laws of it stand in proofs/Laws.antt
 abbrev pub stores : {X : Type 0} → (ℕ → X) → ℕ → List X → List X
@@ -47,3 +63,15 @@ stores g (suc i) xs = set (stores g i xs) i (g i)
 -- the first n rows are stored to a list of records
 abbrev pub fills : SplineTable → ℕ → List Spline → List Spline
 fills t n ys = stores (rowAtOf t) n ys
+
+-- the first n records are put to the rows
+abbrev pub spreads : List Spline → ℕ → SplineTable → SplineTable
+spreads ys zero t = t
+spreads ys (suc i) t = putRowOf (spreads ys i t) i (getD ys i blank)
+
+-- where the lengths are unequal, nothing is written
+abbrev pub fillOf : SplineTable → ℕ → List Spline → List Spline
+fillOf t n ys = cond (equalOf ys t n) (fills t n ys) ys
+
+abbrev pub spreadOf : List Spline → ℕ → SplineTable → SplineTable
+spreadOf ys n t = cond (equalOf ys t n) (spreads ys n t) t

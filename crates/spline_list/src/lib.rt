@@ -4,7 +4,7 @@ ghost use mathlib.Core.Path.{_≡_};
 ghost use lib.Dec.{ltb};
 ghost use lib.ListN.{length, set};
 ghost use Rattle.tables.specs.Tables.{splineTable};
-ghost use Rattle.spline_list.specs.Rows.{rowAtOf, putRowOf, countOf, fills, splineAtOf};
+ghost use Rattle.spline_list.specs.Rows.{rowAtOf, putRowOf, splineAtOf, agreeOf, equalOf, countOf, outcomeOf, fillOf, spreadOf};
 use columns::flag_byte;
 use columns::is_flag;
 use columns::put_f32;
@@ -25,6 +25,12 @@ pub struct Spline {
 pub enum Found {
     At(Spline),
     Past,
+}
+
+// Whether a list and the columns had equal lengths, so that all was copied; where not, nothing was written.
+pub enum Copied {
+    All,
+    Unequal,
 }
 
 // Row i of the columns, as a record.
@@ -74,14 +80,54 @@ pub fn put_row(
     put_u8(contour, i, flag_byte(v.contour));
 }
 
-// How many rows are copied: all, where a list has just as many, and otherwise none.
-pub fn count(a: usize, b: usize) -> usize
-    ensures { λ r. ⌜ r ≡ countOf a b ⌝ }
+// Whether the lengths are equal: the list has a record for each of n splines, and no column ends before the nth.
+fn agree(
+    n: usize,
+    list: usize,
+    curvature: usize,
+    p0x: usize,
+    p0y: usize,
+    p2x: usize,
+    p2y: usize,
+    contour: usize,
+) -> bool
+    ensures { λ r. ⌜ r ≡ agreeOf n list curvature p0x p0y p2x p2y contour ⌝ }
 {
-    if a == b { a } else { 0 }
+    if n != list {
+        return false;
+    }
+    if curvature < n {
+        return false;
+    }
+    if p0x < n {
+        return false;
+    }
+    if p0y < n {
+        return false;
+    }
+    if p2x < n {
+        return false;
+    }
+    if p2y < n {
+        return false;
+    }
+    n <= contour
 }
 
-// The n rows of the columns go to a list of records that is as long; to any other goes none. How many did is returned.
+// How many rows go: all, or none where the lengths are unequal.
+fn count(agreed: bool, n: usize) -> usize
+    ensures { λ r. ⌜ r ≡ countOf agreed n ⌝ }
+{
+    if agreed { n } else { 0 }
+}
+
+fn outcome(agreed: bool) -> Copied
+    ensures { λ r. ⌜ r ≡ outcomeOf agreed ⌝ }
+{
+    if agreed { Copied::All } else { Copied::Unequal }
+}
+
+// The first n rows of the columns go to a list of n records.
 pub fn fill<'l, 'c>(
     list: &'l mut [Spline],
     curvature: &'c [f32],
@@ -91,16 +137,64 @@ pub fn fill<'l, 'c>(
     p2y: &'c [f32],
     contour: &'c [u8],
     n: usize,
-) -> usize
-    ensures { λ r. ⌜ (r ≡ countOf n (length (now (list .entry)))) × (now (list .exit) ≡ fills (splineTable (now (curvature .entry)) (now (p0x .entry)) (now (p0y .entry)) (now (p2x .entry)) (now (p2y .entry)) (now (contour .entry))) r (now (list .entry))) ⌝ }
+) -> Copied
+    ensures { λ r. ⌜ (r ≡ outcomeOf (equalOf (now (list .entry)) (splineTable (now (curvature .entry)) (now (p0x .entry)) (now (p0y .entry)) (now (p2x .entry)) (now (p2y .entry)) (now (contour .entry))) n)) × (now (list .exit) ≡ fillOf (splineTable (now (curvature .entry)) (now (p0x .entry)) (now (p0y .entry)) (now (p2x .entry)) (now (p2y .entry)) (now (contour .entry))) n (now (list .entry))) ⌝ }
 {
-    let m = count(n, list.len());
+    let agreed = agree(
+        n,
+        list.len(),
+        curvature.len(),
+        p0x.len(),
+        p0y.len(),
+        p2x.len(),
+        p2y.len(),
+        contour.len(),
+    );
+    let m = count(agreed, n);
     let mut i: usize = 0;
     while i < m {
         list[i] = row_at(curvature, p0x, p0y, p2x, p2y, contour, i);
         i += 1;
     }
-    m
+    outcome(agreed)
+}
+
+// The way back: the n records of a list go to the first n rows of the columns, and the rows past them stay.
+pub fn spread(
+    list: &[Spline],
+    curvature: &mut [f32],
+    p0x: &mut [f32],
+    p0y: &mut [f32],
+    p2x: &mut [f32],
+    p2y: &mut [f32],
+    contour: &mut [u8],
+    n: usize,
+) -> Copied
+    ensures { λ r. ⌜ (r ≡ outcomeOf (equalOf (now (list .entry)) (splineTable (now (curvature .entry)) (now (p0x .entry)) (now (p0y .entry)) (now (p2x .entry)) (now (p2y .entry)) (now (contour .entry))) n)) × (splineTable (now (curvature .exit)) (now (p0x .exit)) (now (p0y .exit)) (now (p2x .exit)) (now (p2y .exit)) (now (contour .exit)) ≡ spreadOf (now (list .entry)) n (splineTable (now (curvature .entry)) (now (p0x .entry)) (now (p0y .entry)) (now (p2x .entry)) (now (p2y .entry)) (now (contour .entry)))) ⌝ }
+{
+    let agreed = agree(
+        n,
+        list.len(),
+        curvature.len(),
+        p0x.len(),
+        p0y.len(),
+        p2x.len(),
+        p2y.len(),
+        contour.len(),
+    );
+    let m = count(agreed, n);
+    let mut i: usize = 0;
+    while i < m {
+        let v = list[i];
+        curvature[i] = v.curvature;
+        p0x[i] = v.p0.x;
+        p0y[i] = v.p0.y;
+        p2x[i] = v.p2.x;
+        p2y[i] = v.p2.y;
+        contour[i] = flag_byte(v.contour);
+        i += 1;
+    }
+    outcome(agreed)
 }
 
 fn here(v: Spline) -> Found

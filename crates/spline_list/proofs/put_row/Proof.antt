@@ -43,7 +43,17 @@ same-length-6 : tie.Need-same-length-6
 same-length-6 c = search needs
 
 returns : tie.Need-returns
-returns c = rw (c .before .before .before .before .before .before .before .before .before .before .before .before .before .before .before .before .before .before .before .before .before .before .before .put-f32 .ensures, c .before .before .before .before .before .before .before .before .before .before .before .before .before .before .before .before .before .before .before .put-f322 .ensures, c .before .before .before .before .before .before .before .before .before .before .before .before .before .before .before .put-f323 .ensures, c .before .before .before .before .before .before .before .before .before .before .before .put-f324 .ensures, c .before .before .before .before .before .before .before .put-f325 .ensures, c .before .before .put-u8 .ensures, c .before .before .before .flag-byte .ensures)
+returns c = rw (
+  c .before .before .before .before .before .before .before .before .before .before .before .before .before .before .before .before .before
+      .before .before .before .before .before .before .put-f32 .ensures,
+  c .before .before .before .before .before .before .before .before .before .before .before .before .before .before .before .before .before
+      .before .before .put-f322 .ensures,
+  c .before .before .before .before .before .before .before .before .before .before .before .before .before .before .before .put-f323 .ensures,
+  c .before .before .before .before .before .before .before .before .before .before .before .put-f324 .ensures,
+  c .before .before .before .before .before .before .before .put-f325 .ensures,
+  c .before .before .put-u8 .ensures,
+  c .before .before .before .flag-byte .ensures,
+)
 
 pub put-row-spec : {M : Type 1} → statement M
 put-row-spec =

@@ -25,7 +25,15 @@ is-flag-requires : tie.Need-is-flag-requires
 is-flag-requires c κs = search needs
 
 returns : tie.Need-returns
-returns c = rw (c .before .before .before .before .before .before .read-f32 .ensures, c .before .before .before .before .before .read-f322 .ensures, c .before .before .before .before .read-f323 .ensures, c .before .before .before .read-f324 .ensures, c .before .before .read-f325 .ensures, c .is-flag .ensures, c .before .read-u8 .ensures)
+returns c = rw (
+  c .before .before .before .before .before .before .read-f32 .ensures,
+  c .before .before .before .before .before .read-f322 .ensures,
+  c .before .before .before .before .read-f323 .ensures,
+  c .before .before .before .read-f324 .ensures,
+  c .before .before .read-f325 .ensures,
+  c .is-flag .ensures,
+  c .before .read-u8 .ensures,
+)
 
 pub row-at-spec : {M : Type 1} → statement M
 row-at-spec =
