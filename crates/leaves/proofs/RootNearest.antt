@@ -2,7 +2,8 @@
 use mathlib.Core.Path.{_≡_, sym, ap, ap₂, _∙_, subst}
 use mathlib.Core.Bool.{Bool, true, false}
 use Prim.Native.Nat.{ℕ, _+_, _-_, _*_, _^_, _≤_, _<_}
-use native.Mathlib.Nat.{mul-assoc, mul-comm, mul-left-comm, mul-right-comm, mul-mul-mul-comm, add-mul, mul-pos, mul-le-mul-right, mul-lt-mul-of-pos-right, le-of-mul-le-mul-right, lt-of-mul-lt-mul-right, lt-of-lt-of-le, lt-of-le-of-lt, le-trans, le-of-eq}
+use native.Mathlib.Nat.{mul-assoc, mul-comm, mul-left-comm, mul-right-comm, mul-mul-mul-comm, add-mul, mul-pos, mul-le-mul-right, mul-lt-mul-of-pos-right}
+use native.Mathlib.Nat.{le-of-mul-le-mul-right, lt-of-mul-lt-mul-right, lt-of-lt-of-le, lt-of-le-of-lt, le-trans, le-of-eq}
 use native.Mathlib.Omega.{arith}
 use lib.Dec.{T, leb, lit≤}
 use lib.Pow.{pow-pos, pow-mono}
@@ -16,7 +17,7 @@ use Rattle.rounding.specs.Parts.{sig, place}
 use Rattle.rounding.specs.Roots.{root}
 use Rattle.rounding.proofs.Parts.{sig-lt}
 use Rattle.rounding.proofs.Packing.{units-fits}
-use Rattle.rounding.proofs.Roots.{root-is, square-lt}
+use Rattle.rounding.proofs.Roots.{square-root-is, square-lt}
 use Rattle.rounding.proofs.RootNearest.{keptRoot, keptRoot-le, keptRoot-digits, rooted-is, root-sides}
 use Rattle.rounding.proofs.Values.{cross, value-finite, worth, worth-value, worth-cross, worth-lt}
 use Rattle.leaves.specs.Single.{zero32}
@@ -89,16 +90,16 @@ module _ (x : Float) (F : T (fits binary32 x)) (g : T (finite x)) (P : T (lt zer
   N = worth binary32 x * 2 ^ 149
 
   -- the root has fewer digits than would be infinite
-  w-lt : root N < 2 ^ 214
+  w-lt : root 2 N < 2 ^ 214
   unfolding N
-  w-lt = square-lt (root N) (2 ^ 214) N (root-is N .0) (lt-of-lt-of-le (mul-lt-mul-of-pos-right (worth-lt binary32 x) (pow-pos 149)) (lit≤ tt))
+  w-lt = square-lt (root 2 N) (2 ^ 214) N (square-root-is N .0) (lt-of-lt-of-le (mul-lt-mul-of-pos-right (worth-lt binary32 x) (pow-pos 149)) (lit≤ tt))
 
   R : ℕ
-  R = keptRoot binary32 N * 2 ^ (size (root N) - 24)
+  R = keptRoot binary32 N * 2 ^ (size (root 2 N) - 24)
 
   R-lt : R < 2 ^ 277
   unfolding R
-  R-lt = lt-of-le-of-lt (keptRoot-le binary32 N) (within (root N) (2 ^ 214) (2 ^ (size (root N) - 24)) (2 ^ 190) (2 ^ 277) w-lt (pow-mono (fewer (size (root N)) (size-le (root N) 214 w-lt))) (lit≤ tt))
+  R-lt = lt-of-le-of-lt (keptRoot-le binary32 N) (within (root 2 N) (2 ^ 214) (2 ^ (size (root 2 N) - 24)) (2 ^ 190) (2 ^ 277) w-lt (pow-mono (fewer (size (root 2 N)) (size-le (root 2 N) 214 w-lt))) (lit≤ tt))
     where
       within : (w a d b c : ℕ) → w < a → d ≤ b → a + b ≤ c → w + d < c
       within w a d b c h k l = omega arith
@@ -106,13 +107,13 @@ module _ (x : Float) (F : T (fits binary32 x)) (g : T (finite x)) (P : T (lt zer
       fewer : (z : ℕ) → z ≤ 214 → z - 24 ≤ 190
       fewer z h = omega arith
 
-  is : units binary32 false (keptRoot binary32 N) (size (root N) - 24) ≡ sqrt32 x
+  is : units binary32 false (keptRoot binary32 N) (size (root 2 N) - 24) ≡ sqrt32 x
   unfolding N
   is = sym (rooted-is binary32 N) ∙ root-value x (leb 2147483648 (toBits binary32 x)) (worth binary32 x) (above x true (is-true (lt zero32 x) P)) (worth-value binary32 x F g)
 
   r-value : HasValue (sqrt32 x) false R (2 ^ 149)
   unfolding R
-  r-value = subst (λ (v : Float). HasValue v false R (2 ^ 149)) is (units-val binary32 false (keptRoot binary32 N) (size (root N) - 24) R-lt)
+  r-value = subst (λ (v : Float). HasValue v false R (2 ^ 149)) is (units-val binary32 false (keptRoot binary32 N) (size (root 2 N) - 24) R-lt)
 
   r-cross : num (sqrt32 x) * 2 ^ 149 ≡ R * den (sqrt32 x)
   r-cross = cross (sqrt32 x) false R (2 ^ 149) r-value
@@ -141,7 +142,7 @@ module _ (x : Float) (F : T (fits binary32 x)) (g : T (finite x)) (P : T (lt zer
   pub root-nearest : NearestRoot x (sqrt32 x)
   unfolding R
   root-nearest = record {
-    held = subst (λ (v : Float). T (fits binary32 v)) is (units-fits binary32 false (keptRoot binary32 N) (size (root N) - 24) (keptRoot-digits binary32 N) R-lt);
+    held = subst (λ (v : Float). T (fits binary32 v)) is (units-fits binary32 false (keptRoot binary32 N) (size (root 2 N) - 24) (keptRoot-digits binary32 N) R-lt);
     whole = value-finite (sqrt32 x) false R (2 ^ 149) r-value;
     unsigned = sign-is (sqrt32 x) false R (2 ^ 149) r-value;
     below = below;

@@ -8,9 +8,10 @@ use native.Mathlib.Omega.{arith}
 use lib.Dec.{T, leb, leb→le, nleb→lt}
 use lib.Ieee.{binary32, units}
 use Rattle.rounding.specs.Halves.{halve}
-use Rattle.rounding.specs.Roots.{rooted, IsNear}
+use Rattle.rounding.specs.Roots.{rooted, IsRoot, IsNear}
 use Rattle.rounding.proofs.Halves.{halve-even, halve-over}
-use Rattle.rounding.proofs.Roots.{IsRoot, rooted-at, square-lt}
+use Rattle.rounding.proofs.Roots.{square-root, square-lt}
+use Rattle.rounding.proofs.SquareRoots.{rooted-at}
 
 pub square-suc : (x : ℕ) → (x + 1) * (x + 1) ≡ x * x + x + x + 1
 square-suc x = last x ((x + 1) * (x + 1)) (x * (x + 1)) (x * x) (add-mul x 1 (x + 1)) (mul-add x x 1)
@@ -56,7 +57,7 @@ near-le n (suc t) v hi = last (under n t hi (one-less n t (subst (λ (x : ℕ). 
 
 -- ---- the value
 -- h is 2 * r or 2 * r - 1
-by-root : (n r h j : ℕ) → IsRoot (n * 4) h → 16777216 ≤ h → h < 33554432 → halve h (n * 4 - h * h) ≡ r → rooted binary32 (n * (2 ^ suc j * 2 ^ suc j)) ≡ units binary32 false r (suc j)
+by-root : (n r h j : ℕ) → IsRoot 2 (n * 4) h → 16777216 ≤ h → h < 33554432 → halve h (n * 4 - h * h) ≡ r → rooted binary32 (n * (2 ^ suc j * 2 ^ suc j)) ≡ units binary32 false r (suc j)
 by-root n r h j i lo hi e =
     ap (λ (x : ℕ). rooted binary32 x) (ap (λ (x : ℕ). n * (x * x)) (pow-suc 2 j) ∙ ap (λ (x : ℕ). n * x) (mul-mul-mul-comm (2 ^ j) 2 (2 ^ j) 2 ∙ mul-comm (2 ^ j * 2 ^ j) 4) ∙ sym (mul-assoc n 4 (2 ^ j * 2 ^ j)))
     ∙ rooted-at binary32 (n * 4) h j i lo hi
@@ -64,7 +65,7 @@ by-root n r h j i lo hi e =
 
 at-or-above : (n r j : ℕ) → IsNear n r → 70368744177664 ≤ n → n < 281474976710656 → r * r ≤ n → rooted binary32 (n * (2 ^ suc j * 2 ^ suc j)) ≡ units binary32 false r (suc j)
 at-or-above n r j v lo hi l =
-    by-root n r (2 * r) j (root-lo (r * r) (2 * r * (2 * r)) (four r) l, root-hi (r * r) (2 * r * (2 * r)) ((2 * r + 1) * (2 * r + 1)) (four r) (square-suc (2 * r)) (v .above))
+    by-root n r (2 * r) j (square-root (n * 4) (2 * r) (root-lo (r * r) (2 * r * (2 * r)) (four r) l) (root-hi (r * r) (2 * r * (2 * r)) ((2 * r + 1) * (2 * r + 1)) (four r) (square-suc (2 * r)) (v .above)))
     (twice (near-ge n r v lo hi)) (twice-lt (square-lt r 16777216 n l hi)) (halve-even r (n * 4 - 2 * r * (2 * r)))
   where
     root-lo : (a b : ℕ) → b ≡ 4 * a → a ≤ n → b ≤ n * 4
@@ -84,7 +85,7 @@ just-below n t j b l lo hi =
     let h = 2 * t + 1 in
     let s : h * h ≡ 4 * (t * t) + 2 * t + 2 * t + 1 = square-suc (2 * t) ∙ ap (λ (x : ℕ). x + 2 * t + 2 * t + 1) (four t) in
     let m : h * h < n * 4 = root-lo (t * t) (h * h) s b in
-    by-root n (suc t) h j (le-of-lt' (h * h) (n * 4) m, subst (λ (x : ℕ). n * 4 < x) (sym (next t)) (root-hi ((t + 1) * (t + 1)) l))
+    by-root n (suc t) h j (square-root (n * 4) h (le-of-lt' (h * h) (n * 4) m) (subst (λ (x : ℕ). n * 4 < x) (sym (next t)) (root-hi ((t + 1) * (t + 1)) l)))
     (odd-ge (square-lt 8388608 (t + 1) n lo l)) (odd-lt (under n t hi b)) (halve-over t (n * 4 - h * h) (left (h * h) (n * 4) m))
   where
     root-lo : (a b : ℕ) → b ≡ 4 * a + 2 * t + 2 * t + 1 → a + t < n → b < n * 4

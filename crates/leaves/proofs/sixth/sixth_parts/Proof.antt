@@ -6,15 +6,15 @@ use native.Mathlib.Nat.{mod-eq-of-lt, lt-of-lt-of-le, le-of-lt}
 use native.Mathlib.Omega.{arith}
 use borrow.Author.Needs.{needs}
 use lib.Dec.{lit≤}
-use Rattle.leaves.specs.Power.{IsSixthRoot}
+use Rattle.rounding.specs.Roots.{IsRoot}
 use Rattle.leaves.proofs.SixthParts.{digits-lt, digits-ge, parts-value}
 use Rattle.leaves.proofs.sixth.sixth_parts.Statement.{statement}
 use Rattle.leaves.proofs.sixth.sixth_parts.Tie as tie
 
 -- what `settle` gives, of m * 2 ^ l itself
-found : (c : tie.After-settle) → IsSixthRoot (c .before .before .args .m * 2 ^ c .before .shift .result * 2 ^ 108) (c .settle .result)
+found : (c : tie.After-settle) → IsRoot 6 (c .before .before .args .m * 2 ^ c .before .shift .result * 2 ^ 108) (c .settle .result)
 found c =
-    subst (λ (x : ℕ). IsSixthRoot (x * 2 ^ 108) (c .settle .result)) (mod-eq-of-lt (lt-of-lt-of-le (c .before .shift .ensures .2) (lit≤ tt))) (c .settle .ensures)
+    subst (λ (x : ℕ). IsRoot 6 (x * 2 ^ 108) (c .settle .result)) (mod-eq-of-lt (lt-of-lt-of-le (c .before .shift .ensures .2) (lit≤ tt))) (c .settle .ensures)
 
 low-k : (e l : ℕ) → e < 1024 → (e + 637 - l) / 6 < 65536
 low-k e l h = omega arith

@@ -9,7 +9,7 @@ use lib.Dec.{leb}
 use lib.Ieee.{Float, binary32, lt, div, nanBits, toBits}
 use Rattle.rounding.specs.Parts.{sig, place}
 use Rattle.rounding.proofs.Parts.{sig-lt, place-le}
-use Rattle.leaves.specs.Sixth.{wholeSixth, cutTo}
+use Rattle.rounding.specs.Roots.{root, cutTo}
 use Rattle.leaves.proofs.Comparisons.{plain, zero-is, above, under, level, held, above-no-nan, sig-pos, bits-value}
 use Rattle.leaves.proofs.SixthParts.{root-value, at-infinity, at-zero, elsewhere}
 use Rattle.leaves.proofs.sixth.sixth_root.Statement.{statement}
@@ -43,7 +43,7 @@ returns c =
     let b = toBits binary32 x in
     let h : lt plain x ≡ true = above x true (c .before .before .before .before .if1 .taken) in
     c .sixth-parts .ensures
-    ∙ ap₂ (λ (m e : ℕ). cutTo binary32 (wholeSixth (m * 2 ^ e * 2 ^ 745))) (c .before .before .digits .ensures) (c .before .place .ensures)
+    ∙ ap₂ (λ (m e : ℕ). cutTo binary32 (root 6 (m * 2 ^ e * 2 ^ 745))) (c .before .before .digits .ensures) (c .before .place .ensures)
     ∙ root-value x (leb 2147483648 b) (sig binary32 b * 2 ^ place binary32 b) h (bits-value x (held x (st .good .0 .1)) h (under x true (c .before .before .before .if2 .taken)))
 
 returns-2 : tie.Need-returns-2
