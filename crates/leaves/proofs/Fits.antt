@@ -11,7 +11,8 @@ use Rattle.rounding.specs.Roots.{root, rooted}
 use Rattle.rounding.proofs.Cuts.{cut-fits}
 use Rattle.rounding.proofs.Packing.{units-in}
 use Rattle.rounding.proofs.RootNearest.{keptRoot, keptRoot-digits, rooted-is}
-use Rattle.rounding.proofs.Signed.{sumSign, sumSize, sum-rounds}
+use Rattle.rounding.specs.Sums.{sumSign, sumSize}
+use Rattle.rounding.proofs.Signed.{sum-rounds}
 use Rattle.leaves.specs.Bits.{floatOf}
 use Rattle.leaves.specs.Fma.{fma32, fmaOf}
 use Rattle.leaves.specs.Sixth.{sixthRootOf}

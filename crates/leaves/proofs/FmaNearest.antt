@@ -13,7 +13,8 @@ use lib.Ieee.Order.{drop, kept}
 use lib.Ieee.Positive.{den-pos}
 use lib.Ieee.Scale.{finite, round-same}
 use Rattle.rounding.specs.Nearest.{signed, NearestTo}
-use Rattle.rounding.proofs.Signed.{signed-times, sumSign, sumSize, sum-rounds, sum-signed, zero-sign}
+use Rattle.rounding.specs.Sums.{sumSign, sumSize}
+use Rattle.rounding.proofs.Signed.{signed-times, sum-rounds, sum-signed, zero-sign}
 use Rattle.rounding.proofs.Nearest.{round-nearest}
 use Rattle.leaves.specs.Single.{_⊕_, one32}
 use Rattle.leaves.specs.Fma.{fma32, fmaOf}

@@ -2,7 +2,7 @@
 use mathlib.Core.Path.{_≡_, refl, sym, ap, ap₂, _∙_}
 use mathlib.Core.Logic.{inl, inr}
 use Prim.Native.Nat.{ℕ, suc, _+_, _-_, _*_, _/_, _%_, _^_, _≤_, _<_, zero-le}
-use native.Mathlib.Nat.{zero-mul, one-mul, mul-assoc, mul-comm, mul-left-comm, add-mul, pow-suc, div-mul-le-self, div-le-self, div-add-mod', mod-lt, lt-of-lt-of-le, le-refl, le-add-left}
+use native.Mathlib.Nat.{zero-mul, one-mul, mul-assoc, mul-comm, mul-left-comm, add-mul, pow-suc, div-mul-le-self, div-le-self, div-one, mul-one, div-add-mod', mod-lt, lt-of-lt-of-le, le-refl, le-add-left}
 use native.Mathlib.Omega.{arith}
 use borrow.Author.Needs.{needs}
 use lib.Pow.{pow-pos, pow-mono}
@@ -91,11 +91,27 @@ module _ (x d : ℕ) (X : x < 2 ^ 64) where
       more : (q : ℕ) → q ≤ q + 1
       more q = omega arith
 
+-- ---- a shift by nothing
+unmoved : (x d : ℕ) → d ≡ 0 → x / 2 ^ d ≡ x
+unmoved x d e = ap (λ (k : ℕ). x / 2 ^ k) e ∙ div-one x
+
+never : (d : ℕ) → 63 < d → d ≡ 0 → ⊥
+never d h e = omega arith
+
+lossless : (x d : ℕ) → x < 2 ^ 64 → (x / 2 ^ d * 2 ^ d % 2 ^ 64 ≡ x → ⊥) → d ≡ 0 → ⊥
+lossless x d X n e = n (back-is x (2 ^ d) X ∙ ap (λ (k : ℕ). x / 2 ^ k * 2 ^ k) e ∙ mul-one (x / 1) ∙ div-one x)
+
 returns : tie.Need-returns
-returns c = gone (c .before .before .args .x) (c .before .before .args .d) (c .if2 .taken)
+returns c =
+    let a = c .before .before .args in
+    let g = gone (a .x) (a .d) (c .if2 .taken) in
+    (g .0, g .1, λ e. absurd (never (a .d) (c .before .if1 .taken) e))
 
 returns-2 : tie.Need-returns-2
-returns-2 c = tiny (c .before .before .args .x) (c .before .before .args .d) (c .before .before .fits .x .fits) (c .before .if1 .taken) (c .if2 .left)
+returns-2 c =
+    let a = c .before .before .args in
+    let g = tiny (a .x) (a .d) (c .before .before .fits .x .fits) (c .before .if1 .taken) (c .if2 .left) in
+    (g .0, g .1, λ e. absurd (never (a .d) (c .before .if1 .taken) e))
 
 shr-q : tie.Need-shr-q
 shr-q c = search needs
@@ -104,7 +120,10 @@ shl-if3 : tie.Need-shl-if3
 shl-if3 c = search needs
 
 returns-3 : tie.Need-returns-3
-returns-3 c = exact (c .before .before .args .x) (c .before .before .args .d) (c .before .before .fits .x .fits) (c .if3 .taken)
+returns-3 c =
+    let a = c .before .before .args in
+    let g = exact (a .x) (a .d) (c .before .before .fits .x .fits) (c .if3 .taken) in
+    (g .0, g .1, unmoved (a .x) (a .d))
 
 -- q is even, so it is not the largest
 fits-more : (q x n : ℕ) → q ≤ x → x < n → n % 2 ≡ 0 → q % 2 ≡ 0 → q + 1 < n
@@ -117,10 +136,18 @@ add-result c =
     record { fits = fits-more q x (2 ^ 64) (div-le-self x (2 ^ c .before .before .before .args .d)) (c .before .before .before .fits .x .fits) refl (c .if4 .taken) }
 
 returns-4 : tie.Need-returns-4
-returns-4 c = evens (c .before .before .before .args .x) (c .before .before .before .args .d) (c .before .before .before .fits .x .fits) (c .if4 .taken) (c .before .if3 .left)
+returns-4 c =
+    let st = c .before .before .before in
+    let a = st .args in
+    let g = evens (a .x) (a .d) (st .fits .x .fits) (c .if4 .taken) (c .before .if3 .left) in
+    (g .0, g .1, λ e. absurd (lossless (a .x) (a .d) (st .fits .x .fits) (c .before .if3 .left) e))
 
 returns-5 : tie.Need-returns-5
-returns-5 c = odds (c .before .before .before .args .x) (c .before .before .before .args .d) (c .before .before .before .fits .x .fits) (c .if4 .left)
+returns-5 c =
+    let st = c .before .before .before in
+    let a = st .args in
+    let g = odds (a .x) (a .d) (st .fits .x .fits) (c .if4 .left) in
+    (g .0, g .1, unmoved (a .x) (a .d))
 
 pub jam-spec : {M : Type 1} → statement M
 jam-spec = tie.close (tie.spec returns returns-2 shr-q shl-if3 returns-3 add-result returns-4 returns-5)

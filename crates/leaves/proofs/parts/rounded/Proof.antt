@@ -27,6 +27,9 @@ module _ (m l : ℕ) (L : m * 2 ^ l < 2 ^ 62) where
   same : m * 2 ^ l % 2 ^ 64 ≡ m * 2 ^ l
   same = mod-eq-of-lt (lt-of-lt-of-le L (lit≤ tt))
 
+  w-lt : m * 2 ^ l % 2 ^ 64 < 2 ^ 62
+  w-lt = subst (λ (w : ℕ). w < 2 ^ 62) (sym same) L
+
   top-lt : m * 2 ^ l % 2 ^ 64 / 2 ^ 37 < 33554432
   top-lt = subst (λ (w : ℕ). w / 2 ^ 37 < 33554432) (sym same) (shr-lt 25 37 L)
 
@@ -106,8 +109,8 @@ cut-requires c κs =
       (
         small (a .z) l (a .y) (c .before .before .before .pre .1 .0),
         (
-          top-lt (a .m) l (c .before .lift .ensures .2),
-          inr (top-ge (a .m) l (c .before .lift .ensures .2) (c .before .lift .ensures .1)),
+          w-lt (a .m) l (c .before .lift .ensures .2),
+          (top-lt (a .m) l (c .before .lift .ensures .2), inr (top-ge (a .m) l (c .before .lift .ensures .2) (c .before .lift .ensures .1))),
         ),
       ),
     )
@@ -141,7 +144,8 @@ cut-requires-2 c κs =
     let a = c .before .before .before .before .args in
     let l = c .before .before .lift .result in
     let lt : a .z + 37 < l + a .y = c .before .if2 .left in
-    (omega arith, (lit< tt, (low-lt (a .m) l (c .before .before .lift .ensures .2) (l + a .y - a .z) (deep (a .z) l (a .y) lt), inl refl)))
+    let w = c .before .before .lift .ensures .2 in
+    (omega arith, (lit< tt, (w-lt (a .m) l w, (low-lt (a .m) l w (l + a .y - a .z) (deep (a .z) l (a .y) lt), inl refl))))
 
 returns-4 : tie.Need-returns-4
 returns-4 c =
