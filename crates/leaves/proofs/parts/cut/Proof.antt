@@ -34,8 +34,8 @@ module _ (d : ℕ) (D : d < 63) where
         room : (w x : ℕ) → w < 4611686018427387904 → x ≤ 4611686018427387904 → w + (x - 1) < 18446744073709551616
         room w x h k = omega arith
 
-    second : w + (1 * 2 ^ d % 2 ^ 64 - 1) + w / 2 ^ d / 2 % 2 < 2 ^ 64
-    second = room w (1 * 2 ^ d % 2 ^ 64) (w / 2 ^ d / 2 % 2) W (le-trans (le-of-eq half-is) half-le) (mod-lt (w / 2 ^ d / 2) (zero-lt-suc 1))
+    second : (u : ℕ) → u < 2 → w + (1 * 2 ^ d % 2 ^ 64 - 1) + u < 2 ^ 64
+    second u U = room w (1 * 2 ^ d % 2 ^ 64) u W (le-trans (le-of-eq half-is) half-le) U
       where
         room : (w x u : ℕ) → w < 4611686018427387904 → x ≤ 4611686018427387904 → u < 2 → w + (x - 1) + u < 18446744073709551616
         room w x u h k l = omega arith
@@ -65,7 +65,7 @@ add-q : tie.Need-add-q
 add-q c = record { fits = first (c .args .d) (c .pre .0) (c .args .w) (c .pre .1 .1 .0) }
 
 add-q-2 : tie.Need-add-q-2
-add-q-2 c = record { fits = second (c .args .d) (c .pre .0) (c .args .w) (c .pre .1 .1 .0) }
+add-q-2 c = record { fits = second (c .args .d) (c .pre .0) (c .args .w) (c .pre .1 .1 .0) _ (mod-lt _ (zero-lt-suc 1)) }
 
 add-q-3 : tie.Need-add-q-3
 add-q-3 c = search needs
