@@ -31,10 +31,13 @@ fma-fits (fin s m e) nan z = nan-fits binary32
 fma-fits (fin s m e) (inf t) z = add-fits binary32 _ z
 fma-fits (fin s m e) (fin t n d) nan = nan-fits binary32
 fma-fits (fin s m e) (fin t n d) (inf u) = inf-fits binary32 u
-fma-fits (fin s m e) (fin t n d) (fin u o g) = sum-fits binary32 (unlike s t) (m * up e * (n * up d) * down g) u (o * up g * (down e * down d)) (down e * down d * down g)
+fma-fits (fin s m e) (fin t n d) (fin u o g) =
+    sum-fits binary32 (unlike s t) (m * up e * (n * up d) * down g) u (o * up g * (down e * down d)) (down e * down d * down g)
 
 rooted-fits : (n : ℕ) → T (fits binary32 (rooted binary32 n))
-rooted-fits n = subst (λ (x : Float). T (fits binary32 x)) (sym (rooted-is binary32 n)) (units-in binary32 false (keptRoot binary32 n) (size (root 2 n) - 24) (keptRoot-digits binary32 n))
+rooted-fits n =
+    subst (λ (x : Float). T (fits binary32 x)) (sym (rooted-is binary32 n))
+    (units-in binary32 false (keptRoot binary32 n) (size (root 2 n) - 24) (keptRoot-digits binary32 n))
 
 pub sqrt-fits : (x : Float) → T (fits binary32 x) → T (fits binary32 (sqrt32 x))
 unfolding sqrtOf

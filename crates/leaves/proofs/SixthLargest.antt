@@ -38,7 +38,8 @@ at-zero t e A z = ap (λ (x : ℕ). cutTo binary32 (root 6 (x * 2 ^ 745))) z ∙
 negative : (m : ℕ) (e : ℤ) → T (le plain (fin true (suc m) e)) → ⊥
 unfolding le
 negative m e h =
-    none (suc m * up e * 1) (sym (eqb→eq (0 * down e) (suc m * up e * 1) (and-l (eqb (0 * down e) (suc m * up e * 1)) (false || eqb (0 * down e) 0) h)) ∙ zero-mul (down e))
+    none (suc m * up e * 1) (sym (eqb→eq (0 * down e) (suc m * up e * 1) (and-l (eqb (0 * down e) (suc m * up e * 1)) (false || eqb (0 * down e) 0) h))
+    ∙ zero-mul (down e))
     (subst (λ (x : ℕ). 0 < x) (sym (mul-one (suc m * up e))) (mul-pos (zero-lt-suc m) (up-pos e)))
 
 positive : (m : ℕ) (e : ℤ) → lt plain (fin false (suc m) e) ≡ true
@@ -74,7 +75,8 @@ module _ (q : Float) (F : T (fits binary32 q)) (f : T (finite q)) (Q : T (le zer
   sixth-largest = subst (λ (x : Float). Largest q x) is (root-largest binary32 5 q F f w-lt)
 
   -- so the sixth power of each f32 above it is above q
-  pub sixth-above : (x : Float) → T (fits binary32 x) → T (finite x) → num (sixthRootOf q) * den x < num x * den (sixthRootOf q) → num q * den x ^ 6 < num x ^ 6 * den q
+  pub sixth-above : (x : Float) → T (fits binary32 x) → T (finite x) → num (sixthRootOf q) * den x < num x * den (sixthRootOf q)
+      → num q * den x ^ 6 < num x ^ 6 * den q
   sixth-above x G g l = power-above binary32 6 q (sixthRootOf q) sixth-largest x G g l
 
   -- the next f32 is finite: at most 147 digits go
@@ -89,9 +91,11 @@ module _ (q : Float) (F : T (fits binary32 q)) (f : T (finite q)) (Q : T (le zer
       within c k h g = omega arith
 
   -- r ^ 6 ≤ q < (the next f32 above r) ^ 6
-  pub sixth-between : (num (sixthRootOf q) ^ 6 * den q ≤ num q * den (sixthRootOf q) ^ 6) × (num q * den (nextUp (sixthRootOf q)) ^ 6 < num (nextUp (sixthRootOf q)) ^ 6 * den q)
+  pub sixth-between : (num (sixthRootOf q) ^ 6 * den q ≤ num q * den (sixthRootOf q) ^ 6) ×
+      (num q * den (nextUp (sixthRootOf q)) ^ 6 < num (nextUp (sixthRootOf q)) ^ 6 * den q)
   sixth-between = (
     sixth-largest .low,
     subst (λ (r : Float). num q * den (nextUp r) ^ 6 < num (nextUp r) ^ 6 * den q) is
-        (power-above binary32 6 q (cutTo binary32 w) (subst (λ (x : Float). Largest q x) (sym is) sixth-largest) (nextUp (cutTo binary32 w)) (next-fits binary32 w w-lt room) (next-finite binary32 w w-lt room) (next-greater binary32 w w-lt room)),
+        (power-above binary32 6 q (cutTo binary32 w) (subst (λ (x : Float). Largest q x) (sym is) sixth-largest) (nextUp (cutTo binary32 w))
+        (next-fits binary32 w w-lt room) (next-finite binary32 w w-lt room) (next-greater binary32 w w-lt room)),
   )

@@ -49,7 +49,9 @@ parts-value m e l s L lo hi d r =
 
 -- ---- `sixthRootOf` by the tests that the code makes
 powers : (x A d : ℕ) → 0 < d → x * 2 ^ 149 ≡ A * d → x * 2 ^ 894 / d ≡ A * 2 ^ 745
-powers x A d D e = ap (λ (y : ℕ). y / d) (sym (mul-assoc x (2 ^ 149) (2 ^ 745)) ∙ ap (λ (y : ℕ). y * 2 ^ 745) e ∙ mul-right-comm A d (2 ^ 745)) ∙ mul-div-cancel (A * 2 ^ 745) D
+powers x A d D e =
+    ap (λ (y : ℕ). y / d) (sym (mul-assoc x (2 ^ 149) (2 ^ 745)) ∙ ap (λ (y : ℕ). y * 2 ^ 745) e ∙ mul-right-comm A d (2 ^ 745))
+    ∙ mul-div-cancel (A * 2 ^ 745) D
 
 of-positive : (m : ℕ) (e : ℤ) → sixthRootOf (fin false (suc m) e) ≡ cutTo binary32 (root 6 (suc m * up e * 2 ^ 894 / down e))
 unfolding sixthRootOf

@@ -1,5 +1,5 @@
--- Laws of `cutTo`, w smallest values without the digits that the format does not keep: what it is worth, that it is a value of the format, and which value comes
--- next. Assumes nothing.
+-- Laws of `cutTo`, w smallest values without the digits that the format does not keep: what it is worth, that it is a value of the format, and which value
+-- comes next. Assumes nothing.
 use mathlib.Core.Path.{_≡_, refl, sym, ap, _∙_, subst}
 use mathlib.Core.Logic.{_⊎_, inl, inr}
 use mathlib.Core.Bool.{false}
@@ -24,7 +24,9 @@ use Rattle.rounding.proofs.Values.{cross, value-finite}
 pub cut-at : (f : Format) (w q k : ℕ) → w / 2 ^ k ≡ q → 2 ^ (prec f - 1) ≤ q → q < 2 ^ prec f → cutTo f w ≡ units f false q k
 unfolding cutTo
 cut-at f w q k e lo hi =
-    ap (λ (j : ℕ). units f false (w / 2 ^ j) j) (size-at (prec f) w k (two-le-pos (prec f) (two f)) (subst (λ (x : ℕ). x < 2 ^ prec f) (sym e) hi) (inr (subst (λ (x : ℕ). 2 ^ (prec f - 1) ≤ x) (sym e) lo)))
+    ap (λ (j : ℕ). units f false (w / 2 ^ j) j)
+    (size-at (prec f) w k (two-le-pos (prec f) (two f)) (subst (λ (x : ℕ). x < 2 ^ prec f) (sym e) hi)
+    (inr (subst (λ (x : ℕ). 2 ^ (prec f - 1) ≤ x) (sym e) lo)))
     ∙ ap (λ (x : ℕ). units f false x k) e
 
 module _ (f : Format) (w : ℕ) where
@@ -56,7 +58,12 @@ module _ (f : Format) (w : ℕ) where
     module _ (room : gone * hid f + (kept + 1) < ones f * hid f) where
       full : (gone ≡ 0) ⊎ (hid f ≤ kept)
       unfolding kept gone
-      full = elim (eq-zero-or-pos gone) [ inl z ↦ inl z | inr h ↦ inr (le-div-iff-mul-le (pow-pos gone) .1 (leading (prec f) w (two-le-pos (prec f) (two f)) gone refl h)) ]
+      full =
+          elim (eq-zero-or-pos gone) [
+            | inl z ↦ inl z
+            | inr h ↦ inr
+                (le-div-iff-mul-le (pow-pos gone) .1 (leading (prec f) w (two-le-pos (prec f) (two f)) gone refl h))
+          ]
 
       fuller : (gone ≡ 0) ⊎ (hid f ≤ kept + 1)
       fuller = elim full [ inl z ↦ inl z | inr h ↦ inr (one-more (hid f) kept h) ]
@@ -77,7 +84,8 @@ module _ (f : Format) (w : ℕ) where
       unfolding cutTo kept gone
       next-is =
           units-finite f false (kept + 1) gone next-digits fuller room
-          ∙ ap (λ (b : ℕ). ofBits f b) (regroup (gone * hid f) kept ∙ ap (λ (b : ℕ). b + 1) (sym (units-bits f false kept gone (le-of-lt kept-fits) full (lt-of-le-of-lt cut-le W))))
+          ∙ ap (λ (b : ℕ). ofBits f b) (regroup (gone * hid f) kept
+          ∙ ap (λ (b : ℕ). b + 1) (sym (units-bits f false kept gone (le-of-lt kept-fits) full (lt-of-le-of-lt cut-le W))))
         where
           regroup : (a c : ℕ) → 0 + (a + (c + 1)) ≡ 0 + (a + c) + 1
           regroup a c = omega arith
@@ -95,7 +103,8 @@ module _ (f : Format) (w : ℕ) where
       next-greater =
           let r = cutTo f w in
           let x = nextAbove f r in
-          apart (num r) (den r) (num x) (den x) (kept * 2 ^ gone) ((kept + 1) * 2 ^ gone) (2 ^ low f) (mul-pos (den-pos r) (den-pos x)) (cross r false (kept * 2 ^ gone) (2 ^ low f) cut-value)
+          apart (num r) (den r) (num x) (den x) (kept * 2 ^ gone) ((kept + 1) * 2 ^ gone) (2 ^ low f) (mul-pos (den-pos r) (den-pos x))
+          (cross r false (kept * 2 ^ gone) (2 ^ low f) cut-value)
           (cross x false ((kept + 1) * 2 ^ gone) (2 ^ low f) next-value) (mul-lt-mul-of-pos-right (step kept) (pow-pos gone))
         where
           step : (c : ℕ) → c < c + 1
@@ -105,4 +114,5 @@ module _ (f : Format) (w : ℕ) where
           apart a d b e A B L D g h l =
               lt-of-mul-lt-mul-right L
               (lt-of-le-of-lt (le-of-eq (mul-right-comm a e L ∙ ap (λ (z : ℕ). z * e) g ∙ mul-assoc A d e))
-              (lt-of-lt-of-le (mul-lt-mul-of-pos-right l D) (le-of-eq (ap (λ (z : ℕ). B * z) (mul-comm d e) ∙ sym (mul-assoc B e d) ∙ ap (λ (z : ℕ). z * d) (sym h) ∙ mul-right-comm b L d))))
+              (lt-of-lt-of-le (mul-lt-mul-of-pos-right l D)
+              (le-of-eq (ap (λ (z : ℕ). B * z) (mul-comm d e) ∙ sym (mul-assoc B e d) ∙ ap (λ (z : ℕ). z * d) (sym h) ∙ mul-right-comm b L d))))

@@ -79,13 +79,16 @@ closest-halves n u U = go (compare (n % u * 2) u) (cmp (n % u * 2) u)
   where
     go : (o : Ordering) → Cmp o (n % u * 2) u → nearest (n / u) o ≡ halve (n * 2 / u) (n * 2 % u)
     go Ordering·lt h =
-        sym (parted n u (2 * (n / u)) (n % u * 2) (twice n (n / u) u (n % u) (2 * (n / u) * u) (div-add-mod' n u) (mul-assoc 2 (n / u) u)) h ∙ halve-even (n / u) (n % u * 2))
+        sym (parted n u (2 * (n / u)) (n % u * 2) (twice n (n / u) u (n % u) (2 * (n / u) * u) (div-add-mod' n u) (mul-assoc 2 (n / u) u)) h
+        ∙ halve-even (n / u) (n % u * 2))
     go Ordering·eq h =
-        sym (parted n u (2 * (n / u) + 1) (n % u * 2 - u) (over n (n / u) u (n % u) ((2 * (n / u) + 1) * u) (div-add-mod' n u) (two-more (n / u) u) (le-of-eq (sym h))) (short (n % u) u (mod-lt n U))
+        sym (parted n u (2 * (n / u) + 1) (n % u * 2 - u)
+        (over n (n / u) u (n % u) ((2 * (n / u) + 1) * u) (div-add-mod' n u) (two-more (n / u) u) (le-of-eq (sym h))) (short (n % u) u (mod-lt n U))
         ∙ ap (λ (x : ℕ). halve (2 * (n / u) + 1) x) (none (n % u) u h)
         ∙ halve-tie (n / u))
     go Ordering·gt h =
-        sym (parted n u (2 * (n / u) + 1) (n % u * 2 - u) (over n (n / u) u (n % u) ((2 * (n / u) + 1) * u) (div-add-mod' n u) (two-more (n / u) u) (le-of-lt h)) (short (n % u) u (mod-lt n U))
+        sym (parted n u (2 * (n / u) + 1) (n % u * 2 - u)
+        (over n (n / u) u (n % u) ((2 * (n / u) + 1) * u) (div-add-mod' n u) (two-more (n / u) u) (le-of-lt h)) (short (n % u) u (mod-lt n U))
         ∙ halve-over (n / u) (n % u * 2 - u) (left (n % u) u h))
 
 -- r counts only by whether it is 0
@@ -148,7 +151,9 @@ module _ (w D : ℕ) (P : 0 < D) where
   even : h ≡ 2 * a → N / (D * 2) ≡ halve h (w % D)
   unfolding N
   even e =
-      at a (w % D + (D - 1) + a % 2) (split w (h * D) (w % D) (a * D) (a * (D * 2)) D (a % 2) whole (ap (λ (x : ℕ). x * D) e ∙ mul-assoc 2 a D) (sym (mul-assoc a D 2))) (fits (w % D) D (a % 2) (mod-lt w P) last-lt)
+      at a (w % D + (D - 1) + a % 2)
+      (split w (h * D) (w % D) (a * D) (a * (D * 2)) D (a % 2) whole (ap (λ (x : ℕ). x * D) e ∙ mul-assoc 2 a D) (sym (mul-assoc a D 2)))
+      (fits (w % D) D (a % 2) (mod-lt w P) last-lt)
       ∙ sym (ap (λ (x : ℕ). halve x (w % D)) e ∙ halve-even a (w % D))
     where
       split : (w hD r p q D u : ℕ) → hD + r ≡ w → hD ≡ 2 * p → q ≡ p * 2 → w + (D - 1) + u ≡ q + (r + (D - 1) + u)
@@ -181,17 +186,20 @@ module _ (w D : ℕ) (P : 0 < D) where
 
       tie : (b : ℕ) → a % 2 ≡ b → b < 2 → N / (D * 2) ≡ a + a % 2
       tie zero k l =
-          at a (D + (D - 1)) (same w (h * D) (w % D) (a * D) (a * (D * 2)) D (a % 2) whole z (ap (λ (x : ℕ). x * D) e ∙ two-more a D) (sym (mul-assoc a D 2)) k) (under D P)
+          at a (D + (D - 1)) (same w (h * D) (w % D) (a * D) (a * (D * 2)) D (a % 2) whole z (ap (λ (x : ℕ). x * D) e ∙ two-more a D)
+          (sym (mul-assoc a D 2)) k) (under D P)
           ∙ plus a (a % 2) k
       tie (suc zero) k l =
-          at (suc a) 0 (next w (h * D) (w % D) (a * D) (suc a * (D * 2)) D (a % 2) whole z (ap (λ (x : ℕ). x * D) e ∙ two-more a D) (suc-mul a (D * 2) ∙ ap (λ (x : ℕ). x + D * 2) (sym (mul-assoc a D 2))) k P) (none D P)
+          at (suc a) 0 (next w (h * D) (w % D) (a * D) (suc a * (D * 2)) D (a % 2) whole z (ap (λ (x : ℕ). x * D) e ∙ two-more a D)
+          (suc-mul a (D * 2) ∙ ap (λ (x : ℕ). x + D * 2) (sym (mul-assoc a D 2))) k P) (none D P)
           ∙ one a (a % 2) k
       tie (suc (suc b)) k l = absurd (no b l)
         where
           no : (b : ℕ) → suc (suc b) < 2 → ⊥
           no b l = omega arith
   odd e (suc r) z =
-      at (suc a) (r + a % 2) (over-half w (h * D) (w % D) r (a * D) (suc a * (D * 2)) D (a % 2) whole z (ap (λ (x : ℕ). x * D) e ∙ two-more a D) (suc-mul a (D * 2) ∙ ap (λ (x : ℕ). x + D * 2) (sym (mul-assoc a D 2))) P)
+      at (suc a) (r + a % 2) (over-half w (h * D) (w % D) r (a * D) (suc a * (D * 2)) D (a % 2) whole z (ap (λ (x : ℕ). x * D) e ∙ two-more a D)
+      (suc-mul a (D * 2) ∙ ap (λ (x : ℕ). x + D * 2) (sym (mul-assoc a D 2))) P)
       (fits r (w % D) D (a % 2) z (mod-lt w P) last-lt)
       ∙ sym (ap (λ (x : ℕ). halve x (suc r)) e ∙ halve-over a (suc r) (zero-lt-suc r))
     where

@@ -76,7 +76,8 @@ module _ (f : Format) (j : ℕ) (q : Float) (F : T (fits f q)) (h : T (finite q)
     r-low : num r ^ suc j * den q ≤ num q * den r ^ suc j
     unfolding L N R
     r-low =
-        lower (suc j) (num r) (den r) (num q) (den q) R (worth f q) L (L ^ j) r-cross (worth-cross f q F h) (pow-succ' L j) (one-le-pow (suc j) L (pow-pos (low f)))
+        lower (suc j) (num r) (den r) (num q) (den q) R (worth f q) L (L ^ j) r-cross (worth-cross f q F h) (pow-succ' L j)
+        (one-le-pow (suc j) L (pow-pos (low f)))
         (le-trans (pow-le-pow-left (cut-le f w) (suc j)) (w-is .0))
 
     r-most : (x : Float) → T (fits f x) → T (finite x) → num x ^ suc j * den q ≤ num q * den x ^ suc j → num x * den r ≤ num r * den x
@@ -85,10 +86,17 @@ module _ (f : Format) (j : ℕ) (q : Float) (F : T (fits f q)) (h : T (finite q)
         let X = worth f x in
         let b = toBits f x in
         let power : X ^ suc j ≤ N =
-        raise (suc j) (num x) (den x) (num q) (den q) X (worth f q) L (L ^ j) (worth-cross f x G g) (worth-cross f q F h) (pow-succ' L j) (mul-pos (one-le-pow (suc j) (den x) (den-pos x)) (den-pos q)) l in
-        let most : X ≤ R = cut-most (prec f) w (two-le-pos (prec f) (two f)) (sig f b) (place f b) (sig-lt f b) (le-of-lt-one X w (power-lt (suc j) X (w + 1) N power (w-is .1))) in
+        raise (suc j) (num x) (den x) (num q) (den q) X (worth f q) L (L ^ j) (worth-cross f x G g) (worth-cross f q F h) (pow-succ' L j)
+        (mul-pos (one-le-pow (suc j) (den x) (den-pos x)) (den-pos q)) l in
+        let most : X ≤ R = cut-most (prec f) w (two-le-pos (prec f) (two f)) (sig f b) (place f b) (sig-lt f b)
+        (le-of-lt-one X w (power-lt (suc j) X (w + 1) N power (w-is .1))) in
         transfer (num x) (num r) (den x) (den r) X R L L (pow-pos (low f)) (pow-pos (low f)) (worth-cross f x G g) r-cross (mul-le-mul-right L most)
 
     pub root-largest : LargestRoot f (suc j) q (cutTo f (root (suc j) (worth f q * (2 ^ low f) ^ j)))
     unfolding r w N L
-    root-largest = record { held = cut-fits f w; whole = value-finite r false (kept f w * 2 ^ gone f w) (2 ^ low f) (cut-value f w W); low = r-low; most = r-most }
+    root-largest = record {
+      held = cut-fits f w;
+      whole = value-finite r false (kept f w * 2 ^ gone f w) (2 ^ low f) (cut-value f w W);
+      low = r-low;
+      most = r-most;
+    }

@@ -1,5 +1,5 @@
--- `rooted f n` is a nearest value of the format to the square root of n: for any other value Y of the format the root lies on its side of the middle between the two,
--- as squares of whole numbers say. All in smallest values. Assumes nothing.
+-- `rooted f n` is a nearest value of the format to the square root of n: for any other value Y of the format the root lies on its side of the middle between
+-- the two, as squares of whole numbers say. All in smallest values. Assumes nothing.
 use mathlib.Core.Path.{_≡_, refl, sym, ap, ap₂, _∙_, subst}
 use mathlib.Core.Logic.{_⊎_, inl, inr}
 use mathlib.Core.Bool.{false}
@@ -81,7 +81,8 @@ module _ (f : Format) (n : ℕ) where
   keptRoot-le =
       let k = size (root 2 n) - prec f in
       let q = root 2 n / 2 ^ k in
-      le-trans (mul-le-mul-right (2 ^ k) (nearest-le q (compare (n * 4) ((2 * q + 1) * 2 ^ k * ((2 * q + 1) * 2 ^ k))))) (le-trans (le-of-eq (suc-mul q (2 ^ k))) (more (q * 2 ^ k) (root 2 n) (2 ^ k) (div-mul-le-self (root 2 n) (2 ^ k))))
+      le-trans (mul-le-mul-right (2 ^ k) (nearest-le q (compare (n * 4) ((2 * q + 1) * 2 ^ k * ((2 * q + 1) * 2 ^ k)))))
+      (le-trans (le-of-eq (suc-mul q (2 ^ k))) (more (q * 2 ^ k) (root 2 n) (2 ^ k) (div-mul-le-self (root 2 n) (2 ^ k))))
     where
       more : (a b d : ℕ) → a ≤ b → a + d ≤ b + d
       more a b d h = omega arith
@@ -114,7 +115,9 @@ module _ (f : Format) (n : ℕ) where
 
     above : root 2 n < q * D + D
     unfolding D q
-    above = let k = size (root 2 n) - prec f in go (root 2 n) (root 2 n / 2 ^ k * 2 ^ k) (root 2 n % 2 ^ k) (2 ^ k) (div-add-mod' (root 2 n) (2 ^ k)) (mod-lt (root 2 n) (pow-pos k))
+    above =
+        let k = size (root 2 n) - prec f in go (root 2 n) (root 2 n / 2 ^ k * 2 ^ k) (root 2 n % 2 ^ k) (2 ^ k) (div-add-mod' (root 2 n) (2 ^ k))
+        (mod-lt (root 2 n) (pow-pos k))
       where
         go : (w a r d : ℕ) → a + r ≡ w → r < d → w < a + d
         go w a r d e l = omega arith
@@ -127,18 +130,23 @@ module _ (f : Format) (n : ℕ) where
 
     floor-side : n * 4 ≤ (2 * q + 1) * D * ((2 * q + 1) * D) → Sides n (q * D) (c * 2 ^ j)
     unfolding D q
-    floor-side h = at-floor n (root 2 n) (q * D) D ((2 * q + 1) * D) (c * 2 ^ j) (square-root-is n .0) (square-root-is n .1) (div-mul-le-self (root 2 n) D) above middle off h
+    floor-side h =
+        at-floor n (root 2 n) (q * D) D ((2 * q + 1) * D) (c * 2 ^ j) (square-root-is n .0) (square-root-is n .1)
+        (div-mul-le-self (root 2 n) D) above middle off h
 
     next-side : (2 * q + 1) * D * ((2 * q + 1) * D) ≤ n * 4 → Sides n (q * D + D) (c * 2 ^ j)
     unfolding D q
-    next-side h = at-next n (root 2 n) (q * D) D ((2 * q + 1) * D) (c * 2 ^ j) (square-root-is n .0) (square-root-is n .1) (div-mul-le-self (root 2 n) D) above middle off h
+    next-side h =
+        at-next n (root 2 n) (q * D) D ((2 * q + 1) * D) (c * 2 ^ j) (square-root-is n .0) (square-root-is n .1)
+        (div-mul-le-self (root 2 n) D) above middle off h
 
     by-last : (b : ℕ) → b < 2 → n * 4 ≡ (2 * q + 1) * D * ((2 * q + 1) * D) → Sides n ((q + b) * D) (c * 2 ^ j)
     by-last zero h e = subst (λ (x : ℕ). Sides n (x * D) (c * 2 ^ j)) (none q) (floor-side (le-of-eq e))
       where
         none : (q : ℕ) → q ≡ q + 0
         none q = omega arith
-    by-last (suc zero) h e = subst (λ (x : ℕ). Sides n x (c * 2 ^ j)) (sym (add-mul q 1 D ∙ ap (λ (x : ℕ). q * D + x) (one-mul D))) (next-side (le-of-eq (sym e)))
+    by-last (suc zero) h e =
+        subst (λ (x : ℕ). Sides n x (c * 2 ^ j)) (sym (add-mul q 1 D ∙ ap (λ (x : ℕ). q * D + x) (one-mul D))) (next-side (le-of-eq (sym e)))
     by-last (suc (suc b)) h e = absurd (no b h)
       where
         no : (b : ℕ) → suc (suc b) < 2 → ⊥

@@ -57,15 +57,20 @@ near-le n (suc t) v hi = last (under n t hi (one-less n t (subst (λ (x : ℕ). 
 
 -- ---- the value
 -- h is 2 * r or 2 * r - 1
-by-root : (n r h j : ℕ) → IsRoot 2 (n * 4) h → 16777216 ≤ h → h < 33554432 → halve h (n * 4 - h * h) ≡ r → rooted binary32 (n * (2 ^ suc j * 2 ^ suc j)) ≡ units binary32 false r (suc j)
+by-root : (n r h j : ℕ) → IsRoot 2 (n * 4) h → 16777216 ≤ h → h < 33554432 → halve h (n * 4 - h * h) ≡ r
+    → rooted binary32 (n * (2 ^ suc j * 2 ^ suc j)) ≡ units binary32 false r (suc j)
 by-root n r h j i lo hi e =
-    ap (λ (x : ℕ). rooted binary32 x) (ap (λ (x : ℕ). n * (x * x)) (pow-suc 2 j) ∙ ap (λ (x : ℕ). n * x) (mul-mul-mul-comm (2 ^ j) 2 (2 ^ j) 2 ∙ mul-comm (2 ^ j * 2 ^ j) 4) ∙ sym (mul-assoc n 4 (2 ^ j * 2 ^ j)))
+    ap (λ (x : ℕ). rooted binary32 x)
+    (ap (λ (x : ℕ). n * (x * x)) (pow-suc 2 j) ∙ ap (λ (x : ℕ). n * x) (mul-mul-mul-comm (2 ^ j) 2 (2 ^ j) 2 ∙ mul-comm (2 ^ j * 2 ^ j) 4)
+    ∙ sym (mul-assoc n 4 (2 ^ j * 2 ^ j)))
     ∙ rooted-at binary32 (n * 4) h j i lo hi
     ∙ ap (λ (x : ℕ). units binary32 false x (suc j)) e
 
-at-or-above : (n r j : ℕ) → IsNear n r → 70368744177664 ≤ n → n < 281474976710656 → r * r ≤ n → rooted binary32 (n * (2 ^ suc j * 2 ^ suc j)) ≡ units binary32 false r (suc j)
+at-or-above : (n r j : ℕ) → IsNear n r → 70368744177664 ≤ n → n < 281474976710656 → r * r ≤ n
+    → rooted binary32 (n * (2 ^ suc j * 2 ^ suc j)) ≡ units binary32 false r (suc j)
 at-or-above n r j v lo hi l =
-    by-root n r (2 * r) j (square-root (n * 4) (2 * r) (root-lo (r * r) (2 * r * (2 * r)) (four r) l) (root-hi (r * r) (2 * r * (2 * r)) ((2 * r + 1) * (2 * r + 1)) (four r) (square-suc (2 * r)) (v .above)))
+    by-root n r (2 * r) j (square-root (n * 4) (2 * r) (root-lo (r * r) (2 * r * (2 * r)) (four r) l)
+    (root-hi (r * r) (2 * r * (2 * r)) ((2 * r + 1) * (2 * r + 1)) (four r) (square-suc (2 * r)) (v .above)))
     (twice (near-ge n r v lo hi)) (twice-lt (square-lt r 16777216 n l hi)) (halve-even r (n * 4 - 2 * r * (2 * r)))
   where
     root-lo : (a b : ℕ) → b ≡ 4 * a → a ≤ n → b ≤ n * 4
@@ -80,7 +85,8 @@ at-or-above n r j v lo hi l =
     twice-lt : r < 16777216 → 2 * r < 33554432
     twice-lt h = omega arith
 
-just-below : (n t j : ℕ) → t * t + t < n → n < (t + 1) * (t + 1) → 70368744177664 ≤ n → n < 281474976710656 → rooted binary32 (n * (2 ^ suc j * 2 ^ suc j)) ≡ units binary32 false (suc t) (suc j)
+just-below : (n t j : ℕ) → t * t + t < n → n < (t + 1) * (t + 1) → 70368744177664 ≤ n → n < 281474976710656
+    → rooted binary32 (n * (2 ^ suc j * 2 ^ suc j)) ≡ units binary32 false (suc t) (suc j)
 just-below n t j b l lo hi =
     let h = 2 * t + 1 in
     let s : h * h ≡ 4 * (t * t) + 2 * t + 2 * t + 1 = square-suc (2 * t) ∙ ap (λ (x : ℕ). x + 2 * t + 2 * t + 1) (four t) in
@@ -112,7 +118,8 @@ just-below n t j b l lo hi =
     odd-lt : t < 16777216 → 2 * t + 1 < 33554432
     odd-lt h = omega arith
 
-pub rooted-near : (n r j : ℕ) → IsNear n r → 70368744177664 ≤ n → n < 281474976710656 → rooted binary32 (n * (2 ^ suc j * 2 ^ suc j)) ≡ units binary32 false r (suc j)
+pub rooted-near : (n r j : ℕ) → IsNear n r → 70368744177664 ≤ n → n < 281474976710656
+    → rooted binary32 (n * (2 ^ suc j * 2 ^ suc j)) ≡ units binary32 false r (suc j)
 rooted-near n r j v lo hi = go (leb (r * r) n) (leb→le (r * r) n) (nleb→lt (r * r) n)
   where
     plus : (t : ℕ) → suc t ≡ t + 1

@@ -43,8 +43,10 @@ module _ (k : ℕ) (K : 0 < k) where
 
   rootIn-is : (d n : ℕ) → n < (2 ^ k) ^ d → IsRoot k n (rootIn k d n)
   unfolding rootIn
-  rootIn-is zero n h = (le-trans (le-of-eq (zero-power k K)) zero-le, lt-of-lt-of-le (subst (λ (x : ℕ). n < x) (pow-zero (2 ^ k)) h) (one-le-pow k 1 (pow-pos 0)))
-  rootIn-is (suc d) n h = next-root k n (rootIn k d (n / 2 ^ k)) (rootIn-is d (n / 2 ^ k) (div-lt-iff-lt-mul (pow-pos k) .1 (subst (λ (x : ℕ). n < x) (pow-suc (2 ^ k) d) h)))
+  rootIn-is zero n h =
+      (le-trans (le-of-eq (zero-power k K)) zero-le, lt-of-lt-of-le (subst (λ (x : ℕ). n < x) (pow-zero (2 ^ k)) h) (one-le-pow k 1 (pow-pos 0)))
+  rootIn-is (suc d) n h =
+      next-root k n (rootIn k d (n / 2 ^ k)) (rootIn-is d (n / 2 ^ k) (div-lt-iff-lt-mul (pow-pos k) .1 (subst (λ (x : ℕ). n < x) (pow-suc (2 ^ k) d) h)))
 
   pub root-is : (n : ℕ) → IsRoot k n (root k n)
   unfolding root
@@ -57,11 +59,15 @@ module _ (k : ℕ) (K : 0 < k) where
 
     w-ge : s * 2 ^ j ≤ root k N
     unfolding N
-    w-ge = le-of-lt-one (s * 2 ^ j) (root k N) (power-lt k (s * 2 ^ j) (root k N + 1) N (le-trans (le-of-eq (mul-pow s (2 ^ j) k)) (mul-le-mul-right ((2 ^ j) ^ k) (r .0))) (root-is N .1))
+    w-ge =
+        le-of-lt-one (s * 2 ^ j) (root k N)
+        (power-lt k (s * 2 ^ j) (root k N + 1) N (le-trans (le-of-eq (mul-pow s (2 ^ j) k)) (mul-le-mul-right ((2 ^ j) ^ k) (r .0))) (root-is N .1))
 
     w-lt : root k N < (s + 1) * 2 ^ j
     unfolding N
-    w-lt = power-lt k (root k N) ((s + 1) * 2 ^ j) N (root-is N .0) (subst (λ (x : ℕ). N < x) (sym (mul-pow (s + 1) (2 ^ j) k)) (mul-lt-mul-of-pos-right (r .1) (one-le-pow k (2 ^ j) (pow-pos j))))
+    w-lt =
+        power-lt k (root k N) ((s + 1) * 2 ^ j) N (root-is N .0)
+        (subst (λ (x : ℕ). N < x) (sym (mul-pow (s + 1) (2 ^ j) k)) (mul-lt-mul-of-pos-right (r .1) (one-le-pow k (2 ^ j) (pow-pos j))))
 
     pub root-shift : root k (n * (2 ^ j) ^ k) / 2 ^ j ≡ s
     unfolding N

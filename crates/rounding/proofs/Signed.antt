@@ -91,7 +91,8 @@ pub sum-rounds : (f : Format) (s : Bool) (a : ℕ) (t : Bool) (b c : ℕ) → su
 unfolding sum sumSign sumSize
 sum-rounds f s a t b c = go (Bool·beq s t) (ltb a b)
   where
-    go : (e l : Bool) → cond e (round f s (a + b) c) (cond l (round f t (b - a) c) (round f (s && ltb b a) (a - b) c)) ≡ round f (cond e s (cond l t (s && ltb b a))) (cond e (a + b) (cond l (b - a) (a - b))) c
+    go : (e l : Bool) → cond e (round f s (a + b) c) (cond l (round f t (b - a) c) (round f (s && ltb b a) (a - b) c)) ≡ round f
+        (cond e s (cond l t (s && ltb b a))) (cond e (a + b) (cond l (b - a) (a - b))) c
     go true l = refl
     go false true = refl
     go false false = refl
@@ -132,11 +133,15 @@ pub zero-sign : (s : Bool) (a : ℕ) (t : Bool) (b : ℕ) → sumSize s a t b �
 unfolding sumSign sumSize
 zero-sign false a false b h = refl
 zero-sign true a true b h = refl
-zero-sign false a true b h = by-order a b (λ l. absurd (some l (sym (ap (λ (c : Bool). cond c (b - a) (a - b)) (lt-ltb a b l)) ∙ h))) (λ l. ap (λ (c : Bool). cond c true false) (le-ltb a b l))
+zero-sign false a true b h =
+    by-order a b (λ l. absurd (some l (sym (ap (λ (c : Bool). cond c (b - a) (a - b)) (lt-ltb a b l)) ∙ h)))
+    (λ l. ap (λ (c : Bool). cond c true false) (le-ltb a b l))
   where
     some : a < b → b - a ≡ 0 → ⊥
     some l e = omega arith
-zero-sign true a false b h = by-order a b (λ l. ap (λ (c : Bool). cond c false (ltb b a)) (lt-ltb a b l)) (λ l. ap (λ (c : Bool). cond c false (ltb b a)) (le-ltb a b l) ∙ le-ltb b a (least l (sym (ap (λ (c : Bool). cond c (b - a) (a - b)) (le-ltb a b l)) ∙ h)))
+zero-sign true a false b h =
+    by-order a b (λ l. ap (λ (c : Bool). cond c false (ltb b a)) (lt-ltb a b l))
+    (λ l. ap (λ (c : Bool). cond c false (ltb b a)) (le-ltb a b l) ∙ le-ltb b a (least l (sym (ap (λ (c : Bool). cond c (b - a) (a - b)) (le-ltb a b l)) ∙ h)))
   where
     least : b ≤ a → a - b ≡ 0 → a ≤ b
     least l e = omega arith
@@ -144,7 +149,9 @@ zero-sign true a false b h = by-order a b (λ l. ap (λ (c : Bool). cond c false
 -- ---- a common factor w stays outside
 module _ (s : Bool) (a : ℕ) (t : Bool) (b w : ℕ) (W : 0 < w) where
   test-scale : (a b : ℕ) → ltb (a * w) (b * w) ≡ ltb a b
-  test-scale a b = by-order a b (λ h. lt-ltb (a * w) (b * w) (mul-lt-mul-of-pos-right h W) ∙ sym (lt-ltb a b h)) (λ h. le-ltb (a * w) (b * w) (mul-le-mul-right w h) ∙ sym (le-ltb a b h))
+  test-scale a b =
+      by-order a b (λ h. lt-ltb (a * w) (b * w) (mul-lt-mul-of-pos-right h W) ∙ sym (lt-ltb a b h))
+      (λ h. le-ltb (a * w) (b * w) (mul-le-mul-right w h) ∙ sym (le-ltb a b h))
 
   less-scale : (a b : ℕ) → a * w - b * w ≡ (a - b) * w
   less-scale a b = ap₂ (λ (x y : ℕ). x - y) (mul-comm a w) (mul-comm b w) ∙ sym (mul-sub w a b) ∙ mul-comm w (a - b)
@@ -156,7 +163,9 @@ module _ (s : Bool) (a : ℕ) (t : Bool) (b w : ℕ) (W : 0 < w) where
   size-scale : sumSize s (a * w) t (b * w) ≡ sumSize s a t b * w
   unfolding sumSize
   size-scale =
-      ap₂ (λ (x y : ℕ). cond (Bool·beq s t) x y) (sym (add-mul a b w)) (ap₂ (λ (x y : ℕ). cond (ltb (a * w) (b * w)) x y) (less-scale b a) (less-scale a b) ∙ ap (λ (l : Bool). cond l ((b - a) * w) ((a - b) * w)) (test-scale a b))
+      ap₂ (λ (x y : ℕ). cond (Bool·beq s t) x y) (sym (add-mul a b w))
+      (ap₂ (λ (x y : ℕ). cond (ltb (a * w) (b * w)) x y) (less-scale b a) (less-scale a b)
+      ∙ ap (λ (l : Bool). cond l ((b - a) * w) ((a - b) * w)) (test-scale a b))
       ∙ outside (Bool·beq s t) (ltb a b)
     where
       outside : (e l : Bool) → cond e ((a + b) * w) (cond l ((b - a) * w) ((a - b) * w)) ≡ cond e (a + b) (cond l (b - a) (a - b)) * w

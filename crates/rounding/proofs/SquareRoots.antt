@@ -78,7 +78,8 @@ by-half n h q u r e U = go (eq-zero-or-one (h % 2) (mod-lt h (zero-lt-suc 1)))
           let s : M ≡ n = sym (ap (λ (x : ℕ). x * x) (odd z)) ∙ g in
           at Ordering·eq (ap (λ (x : ℕ). x * u) (sym s)) ∙ sym (ap₂ (λ (x y : ℕ). halve x y) (odd z) (none (h * h) g) ∙ halve-tie q)
       | inr g ↦
-          at Ordering·gt (mul-lt-mul-of-pos-right (subst (λ (x : ℕ). x * x < n) (odd z) g) U) ∙ sym (ap (λ (x : ℕ). halve x (n - h * h)) (odd z) ∙ halve-over q (n - h * h) (left (h * h) g))
+          at Ordering·gt (mul-lt-mul-of-pos-right (subst (λ (x : ℕ). x * x < n) (odd z) g) U)
+          ∙ sym (ap (λ (x : ℕ). halve x (n - h * h)) (odd z) ∙ halve-over q (n - h * h) (left (h * h) g))
     ]
       where
         none : (a : ℕ) → a ≡ n → n - a ≡ 0
@@ -104,11 +105,15 @@ module _ (f : Format) (n h j : ℕ) (r : IsRoot 2 n h) (lo : 2 ^ prec f ≤ h) (
 
   k-is : size w - prec f ≡ suc j
   k-is =
-      size-at (prec f) w (suc j) (two-le-pos (prec f) (two f)) (subst (λ (x : ℕ). x < 2 ^ prec f) (sym w-div) (half-lt h (2 ^ prec f) (subst (λ (x : ℕ). h < x) (pow-suc 2 (prec f)) hi)))
-      (inr (subst (λ (x : ℕ). 2 ^ (prec f - 1) ≤ x) (sym w-div) (half-ge h (2 ^ (prec f - 1)) (2 ^ prec f) (top-digit (prec f) (two-le-pos (prec f) (two f))) lo)))
+      size-at (prec f) w (suc j) (two-le-pos (prec f) (two f))
+      (subst (λ (x : ℕ). x < 2 ^ prec f) (sym w-div) (half-lt h (2 ^ prec f) (subst (λ (x : ℕ). h < x) (pow-suc 2 (prec f)) hi)))
+      (inr (subst (λ (x : ℕ). 2 ^ (prec f - 1) ≤ x) (sym w-div)
+      (half-ge h (2 ^ (prec f - 1)) (2 ^ prec f) (top-digit (prec f) (two-le-pos (prec f) (two f))) lo)))
 
   mid-is : (q : ℕ) → (2 * q + 1) * 2 ^ suc j * ((2 * q + 1) * 2 ^ suc j) ≡ (2 * q + 1) * (2 * q + 1) * (2 ^ j * 2 ^ j * 4)
-  mid-is q = mul-mul-mul-comm (2 * q + 1) (2 ^ suc j) (2 * q + 1) (2 ^ suc j) ∙ ap (λ (x : ℕ). (2 * q + 1) * (2 * q + 1) * x) (ap (λ (x : ℕ). x * x) (pow-suc 2 j) ∙ mul-mul-mul-comm (2 ^ j) 2 (2 ^ j) 2)
+  mid-is q =
+      mul-mul-mul-comm (2 * q + 1) (2 ^ suc j) (2 * q + 1) (2 ^ suc j)
+      ∙ ap (λ (x : ℕ). (2 * q + 1) * (2 * q + 1) * x) (ap (λ (x : ℕ). x * x) (pow-suc 2 j) ∙ mul-mul-mul-comm (2 ^ j) 2 (2 ^ j) 2)
 
   pub rooted-at : rooted f (n * (2 ^ j * 2 ^ j)) ≡ units f false (halve h (n - h * h)) (suc j)
   unfolding rooted w N

@@ -29,11 +29,13 @@ module _ (s t : Bool) (N a B z x k : ℕ) (l : a ≤ z) (zeros : N % 2 ^ k ≡ 0
   there : z - a + a ≡ z
   there = omega (arith, l)
 
-  stands : (k ≤ z - a → (suc z ≤ 161) ⊎ (x + 33554432 ≤ B)) → sum binary32 s (x * 2 ^ z) t (B * 2 ^ z) (2 ^ 311) ≡ sum binary32 s (N * 2 ^ a) t (B * 2 ^ z) (2 ^ 311)
+  stands : (k ≤ z - a → (suc z ≤ 161) ⊎ (x + 33554432 ≤ B))
+      → sum binary32 s (x * 2 ^ z) t (B * 2 ^ z) (2 ^ 311) ≡ sum binary32 s (N * 2 ^ a) t (B * 2 ^ z) (2 ^ 311)
   stands c = elim h [
     | inl e ↦
         ap (λ (M : ℕ). sum binary32 s M t (B * 2 ^ z) (2 ^ 311))
-        (ap (λ (y : ℕ). x * 2 ^ y) (sym there) ∙ ap (λ (y : ℕ). x * y) (pow-add 2 (z - a) a) ∙ sym (mul-assoc x (2 ^ (z - a)) (2 ^ a)) ∙ ap (λ (y : ℕ). y * 2 ^ a) (sym e))
+        (ap (λ (y : ℕ). x * 2 ^ y) (sym there) ∙ ap (λ (y : ℕ). x * y) (pow-add 2 (z - a) a) ∙ sym (mul-assoc x (2 ^ (z - a)) (2 ^ a))
+        ∙ ap (λ (y : ℕ). y * 2 ^ a) (sym e))
     | inr b ↦
         sym (sum-jam binary32 s (N * 2 ^ a) x t B z 161 (scaled (z - a) a z N x there (inr b)) even
         (elim (c (le-of-suc-le-suc (deep N k (suc (z - a)) (b .0) zeros (b .1)))) [ inl y ↦ inl y | inr y ↦ inr (inr y) ]))
@@ -187,7 +189,8 @@ found : (c : tie.After-jam2) → let j = c .before .before .before in
 found c =
     let j = c .before .before .before in
     let a = j .before .args in
-    brought (a .s) (a .t) (a .p) (a .pe) (a .q) (a .qe) (c .before .jam .result) (c .jam2 .result) (j .before .pre) (j .if1 .z) (higher j) (c .before .jam .ensures) (c .jam2 .ensures)
+    brought (a .s) (a .t) (a .p) (a .pe) (a .q) (a .qe) (c .before .jam .result) (c .jam2 .result) (j .before .pre) (j .if1 .z) (higher j)
+    (c .before .jam .ensures) (c .jam2 .ensures)
 
 total-requires : tie.Need-total-requires
 total-requires c κs = let f = found c in (f .x-lt, (f .y-lt, f .z-lt))

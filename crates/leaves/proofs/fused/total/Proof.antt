@@ -24,8 +24,10 @@ near z h = omega arith
 rounded-requires : tie.Need-rounded-requires
 rounded-requires c κs =
     let st = c .before .before in
-    let a = st .args in
-    (lt-of-le-of-lt (le-of-eq (c .sum-size .ensures)) (sumSize-lt (a .s) (a .x) (a .t) (a .y) (2 ^ 61) (st .pre .0) (st .pre .1 .0)), (near (a .z) (st .pre .1 .1), lit< tt))
+    let a = st .args in (
+      lt-of-le-of-lt (le-of-eq (c .sum-size .ensures)) (sumSize-lt (a .s) (a .x) (a .t) (a .y) (2 ^ 61) (st .pre .0) (st .pre .1 .0)),
+      (near (a .z) (st .pre .1 .1), lit< tt),
+    )
 
 returns : tie.Need-returns
 returns c =

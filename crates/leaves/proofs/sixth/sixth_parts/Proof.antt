@@ -39,14 +39,17 @@ join-requires c κs =
     let a = c .before .before .args in
     let h = c .before .shift in
     let t = a .m * 2 ^ h .result in
-    let s = c .settle .result in
-    (le-of-lt (digits-lt t s (h .ensures .2) (found c)), (low-k (a .e) (h .result) (c .before .before .pre .1 .1), inr (digits-ge t s (h .ensures .1) (found c))))
+    let s = c .settle .result in (
+      le-of-lt (digits-lt t s (h .ensures .2) (found c)),
+      (low-k (a .e) (h .result) (c .before .before .pre .1 .1), inr (digits-ge t s (h .ensures .1) (found c))),
+    )
 
 returns : tie.Need-returns
 returns c =
     let a = c .before .before .before .args in
     let h = c .before .before .shift in
-    c .join .ensures ∙ parts-value (a .m) (a .e) (h .result) (c .before .settle .result) (h .ensures .0) (h .ensures .1) (h .ensures .2) (h .ensures .3) (found (c .before))
+    c .join .ensures ∙ parts-value (a .m) (a .e) (h .result) (c .before .settle .result) (h .ensures .0) (h .ensures .1) (h .ensures .2) (h .ensures .3)
+    (found (c .before))
 
 pub sixth-parts-spec : {M : Type 1} → statement M
 sixth-parts-spec =
