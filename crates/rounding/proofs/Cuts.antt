@@ -3,9 +3,9 @@
 use mathlib.Core.Path.{_≡_, refl, sym, ap, _∙_, subst}
 use mathlib.Core.Logic.{_⊎_, inl, inr}
 use mathlib.Core.Bool.{false}
-use Prim.Native.Nat.{ℕ, suc, _+_, _-_, _*_, _/_, _^_, _≤_, _<_}
+use Prim.Native.Nat.{ℕ, suc, _+_, _-_, _*_, _/_, _%_, _^_, _≤_, _<_}
 use native.Mathlib.Nat.{mul-comm, mul-assoc, mul-right-comm, mul-pos, mul-lt-mul-of-pos-right, lt-of-mul-lt-mul-right, eq-zero-or-pos, le-div-iff-mul-le}
-use native.Mathlib.Nat.{div-mul-le-self, lt-of-lt-of-le, lt-of-le-of-lt, le-of-eq, le-of-lt}
+use native.Mathlib.Nat.{div-mul-le-self, div-add-mod', mod-lt, suc-mul, mul-le-mul-right, lt-of-lt-of-le, lt-of-le-of-lt, le-trans, le-of-eq, le-of-lt}
 use native.Mathlib.Omega.{arith}
 use lib.Dec.{T}
 use lib.Pow.{pow-pos}
@@ -15,7 +15,8 @@ use lib.Ieee.Fits.{two, two-le-pos, kept-lt}
 use lib.Ieee.Positive.{num, den, den-pos}
 use lib.Ieee.Scale.{finite}
 use Rattle.rounding.specs.Roots.{cutTo, nextAbove}
-use Rattle.rounding.proofs.Grid.{leading}
+use Rattle.rounding.proofs.Basics.{le-or-lt}
+use Rattle.rounding.proofs.Grid.{leading, on-grid}
 use Rattle.rounding.proofs.Packing.{finite-bits, units-in, units-fits, units-bits, units-finite}
 use Rattle.rounding.proofs.Rounding.{size-at}
 use Rattle.rounding.proofs.Values.{cross, value-finite}
@@ -40,6 +41,24 @@ module _ (f : Format) (w : ℕ) where
   pub cut-le : kept * 2 ^ gone ≤ w
   unfolding kept
   cut-le = div-mul-le-self w (2 ^ gone)
+
+  pub cut-gt : w < kept * 2 ^ gone + 2 ^ gone
+  unfolding kept
+  cut-gt = go w (w / 2 ^ gone * 2 ^ gone) (w % 2 ^ gone) (2 ^ gone) (div-add-mod' w (2 ^ gone)) (mod-lt w (pow-pos gone))
+    where
+      go : (w a r d : ℕ) → a + r ≡ w → r < d → w < a + d
+      go w a r d e l = omega arith
+
+  -- each value of the format lies at the cut or below, or at the next or above
+  pub cut-off : (c j : ℕ) → c < 2 ^ prec f → (c * 2 ^ j ≤ kept * 2 ^ gone) ⊎ (kept * 2 ^ gone + 2 ^ gone ≤ c * 2 ^ j)
+  unfolding kept gone
+  cut-off c j C = elim (on-grid (prec f) w (two-le-pos (prec f) (two f)) c j C) [
+    | inl y ↦ elim (le-or-lt (y .0) kept) [
+      | inl l ↦ inl (le-trans (le-of-eq (y .1)) (mul-le-mul-right (2 ^ gone) l))
+      | inr l ↦ inr (le-trans (le-of-eq (sym (suc-mul kept (2 ^ gone)))) (le-trans (mul-le-mul-right (2 ^ gone) l) (le-of-eq (sym (y .1)))))
+    ]
+    | inr y ↦ inl (le-trans (le-of-lt (y .0)) (mul-le-mul-right (2 ^ gone) (le-div-iff-mul-le (pow-pos gone) .1 (y .1))))
+  ]
 
   kept-fits : kept < 2 ^ prec f
   unfolding kept gone

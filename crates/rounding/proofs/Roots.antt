@@ -1,7 +1,8 @@
 -- Laws of the whole part of a root: it is right, an order of powers is one of the numbers, and the root comes from an n of fewer digits. Assumes nothing.
 use mathlib.Core.Path.{_≡_, sym, ap, _∙_, subst}
 use Prim.Native.Nat.{ℕ, zero, suc, _+_, _*_, _/_, _^_, _≤_, _<_, zero-le}
-use native.Mathlib.Nat.{mul-zero, one-mul, pow-zero, pow-suc, pow-le-pow-left, one-le-pow, le-div-iff-mul-le, div-lt-iff-lt-mul, div-eq-of-lt-le}
+use native.Mathlib.Nat.{mul-zero, one-mul, mul-mul-mul-comm, pow-zero, pow-suc, pow-le-pow-left, one-le-pow, le-div-iff-mul-le, div-lt-iff-lt-mul}
+use native.Mathlib.Nat.{div-eq-of-lt-le}
 use native.Mathlib.Nat.{lt-of-lt-of-le, lt-of-le-of-lt, lt-of-not-le, not-le-of-lt, le-trans, le-of-eq, mul-le-mul-right, mul-lt-mul-of-pos-right}
 use native.Mathlib.Omega.{arith}
 use mathlib.Core.Bool.{Bool, true, false, not, cond}
@@ -33,14 +34,14 @@ next-root k n r ih = go (leb ((2 * r + 1) ^ k) n) (leb→le ((2 * r + 1) ^ k) n)
     go true l u = (l tt, subst (λ (x : ℕ). n < x) (power (r + 1) (2 * r + 1 + 1) (up r)) (div-lt-iff-lt-mul (pow-pos k) .0 (ih .1)))
     go false l u = (subst (λ (x : ℕ). x ≤ n) (power r (2 * r) (twice r)) (le-div-iff-mul-le (pow-pos k) .0 (ih .0)), u tt)
 
-module _ (k : ℕ) (K : 0 < k) where
-  zero-power : (k : ℕ) → 0 < k → 0 ^ k ≡ 0
-  zero-power zero h = absurd (no h)
-    where
-      no : 0 < 0 → ⊥
-      no h = omega arith
-  zero-power (suc j) h = pow-suc 0 j ∙ mul-zero (0 ^ j)
+zero-power : (k : ℕ) → 0 < k → 0 ^ k ≡ 0
+zero-power zero h = absurd (no h)
+  where
+    no : 0 < 0 → ⊥
+    no h = omega arith
+zero-power (suc j) h = pow-suc 0 j ∙ mul-zero (0 ^ j)
 
+module _ (k : ℕ) (K : 0 < k) where
   rootIn-is : (d n : ℕ) → n < (2 ^ k) ^ d → IsRoot k n (rootIn k d n)
   unfolding rootIn
   rootIn-is zero n h =
@@ -76,6 +77,9 @@ module _ (k : ℕ) (K : 0 < k) where
 -- ---- the square
 pub square : (a : ℕ) → a ^ 2 ≡ a * a
 square a = pow-suc a 1 ∙ ap (λ (x : ℕ). x * a) (pow-suc a 0 ∙ ap (λ (x : ℕ). x * a) (pow-zero a) ∙ one-mul a)
+
+pub double-square : (a : ℕ) → 2 * a * (2 * a) ≡ 4 * (a * a)
+double-square a = mul-mul-mul-comm 2 a 2 a
 
 pub square-root : (n r : ℕ) → r * r ≤ n → n < (r + 1) * (r + 1) → IsRoot 2 n r
 square-root n r l u = (subst (λ (x : ℕ). x ≤ n) (sym (square r)) l, subst (λ (x : ℕ). n < x) (sym (square (r + 1))) u)
