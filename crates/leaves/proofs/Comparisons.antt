@@ -83,7 +83,8 @@ above-no-nan (inf s) h = tt
 above-no-nan (fin s m e) h = tt
 
 -- which x it is: a numerator above 0, with no sign
-pub positive-is : (x : Float) (s : Bool) (A L : ℕ) → lt plain x ≡ true → HasValue x s A L → (m : ℕ) × (e : ℤ) × (x ≡ fin false (suc m) e) × (suc m * up e * L ≡ A * down e)
+pub positive-is : (x : Float) (s : Bool) (A L : ℕ) → lt plain x ≡ true → HasValue x s A L
+    → (m : ℕ) × (e : ℤ) × (x ≡ fin false (suc m) e) × (suc m * up e * L ≡ A * down e)
 unfolding lt
 positive-is nan s A L h v = absurd v
 positive-is (inf t) s A L h v = absurd v
@@ -93,7 +94,9 @@ positive-is (fin false (suc m) e) s A L h v = (m, e, refl, v .1)
 
 pos-of : (m : ℕ) (e : ℤ) (A : ℕ) → suc m * up e * 2 ^ 149 ≡ A * down e → 0 < A
 pos-of m e A h = elim (eq-zero-or-pos A) [
-  | inl z ↦ absurd (none (A * down e) (ap (λ (x : ℕ). x * down e) z ∙ zero-mul (down e)) (subst (λ (x : ℕ). 0 < x) h (mul-pos (mul-pos (zero-lt-suc m) (up-pos e)) (pow-pos 149))))
+  | inl z ↦
+      absurd (none (A * down e) (ap (λ (x : ℕ). x * down e) z ∙ zero-mul (down e))
+      (subst (λ (x : ℕ). 0 < x) h (mul-pos (mul-pos (zero-lt-suc m) (up-pos e)) (pow-pos 149))))
   | inr p ↦ p
 ]
 
@@ -130,7 +133,8 @@ only-zero (inf s) h = no (sym h)
 only-zero (fin s zero e) h = (s, e, refl)
 only-zero (fin s (suc m) e) h =
     let n = suc m * up e * 1 in
-    absurd (none n (eqb→eq n (0 * down e) (yes (eqb n (0 * down e)) (left-of (eqb n (0 * down e)) (Bool·beq s false || eqb n 0) h)) ∙ zero-mul (down e)) (some m e))
+    absurd (none n (eqb→eq n (0 * down e) (yes (eqb n (0 * down e)) (left-of (eqb n (0 * down e)) (Bool·beq s false || eqb n 0) h)) ∙ zero-mul (down e))
+    (some m e))
 
 or-true : (b : Bool) → (b || true) ≡ true
 or-true true = refl
@@ -156,7 +160,8 @@ rootless (fin true (suc m) e) h k = below-zero
 rootless (fin false (suc m) e) h k = no (sym (above-zero m e) ∙ h)
 
 -- so a function that gives NaN for each of those gives NaN
-pub elsewhere : (f : Float → Float) → f nan ≡ nan → f (inf true) ≡ nan → ((m : ℕ) (e : ℤ) → f (fin true (suc m) e) ≡ nan) → (x : Float) → lt plain x ≡ false → eq x plain ≡ false → f x ≡ nan
+pub elsewhere : (f : Float → Float) → f nan ≡ nan → f (inf true) ≡ nan → ((m : ℕ) (e : ℤ) → f (fin true (suc m) e) ≡ nan) → (x : Float) → lt plain x ≡ false
+    → eq x plain ≡ false → f x ≡ nan
 elsewhere f a b c x h k = go (rootless x h k)
   where
     go : {x : Float} → Rootless x → f x ≡ nan

@@ -6,17 +6,18 @@ use lib.IntN.{ℤ, pos}
 use lib.Dec.{T}
 use lib.Ieee.{Float, nan, inf, fin, Format, binary32, up, down, unlike, sum, neg, fits, isNan, lt}
 use lib.Ieee.Bits.{ofBits-fits}
-use lib.Ieee.Fits.{round-fits, inf-fits, nan-fits, neg-fits, add-fits, cond-fits, kept-lt}
+use lib.Ieee.Fits.{round-fits, inf-fits, nan-fits, neg-fits, add-fits, cond-fits}
 use Rattle.rounding.specs.Roots.{root, rooted}
+use Rattle.rounding.proofs.Cuts.{cut-fits}
 use Rattle.rounding.proofs.Packing.{units-in}
 use Rattle.rounding.proofs.RootNearest.{keptRoot, keptRoot-digits, rooted-is}
-use Rattle.rounding.proofs.Signed.{sumSign, sumSize, sum-rounds}
+use Rattle.rounding.specs.Sums.{sumSign, sumSize}
+use Rattle.rounding.proofs.Signed.{sum-rounds}
 use Rattle.leaves.specs.Bits.{floatOf}
 use Rattle.leaves.specs.Fma.{fma32, fmaOf}
-use Rattle.leaves.specs.Sixth.{wholeSixth, cutTo, sixthRootOf}
+use Rattle.leaves.specs.Sixth.{sixthRootOf}
 use Rattle.leaves.specs.Small.{absOf, lessOf, minOf, maxOf, clampOf, ceilOf}
 use Rattle.leaves.specs.Sqrt.{sqrt32, sqrtOf}
-use native.Mathlib.Nat.{le-of-lt}
 use lib.Ieee.{size}
 
 sum-fits : (f : Format) (s : Bool) (a : ℕ) (t : Bool) (b c : ℕ) → T (fits f (sum f s a t b c))
@@ -30,10 +31,13 @@ fma-fits (fin s m e) nan z = nan-fits binary32
 fma-fits (fin s m e) (inf t) z = add-fits binary32 _ z
 fma-fits (fin s m e) (fin t n d) nan = nan-fits binary32
 fma-fits (fin s m e) (fin t n d) (inf u) = inf-fits binary32 u
-fma-fits (fin s m e) (fin t n d) (fin u o g) = sum-fits binary32 (unlike s t) (m * up e * (n * up d) * down g) u (o * up g * (down e * down d)) (down e * down d * down g)
+fma-fits (fin s m e) (fin t n d) (fin u o g) =
+    sum-fits binary32 (unlike s t) (m * up e * (n * up d) * down g) u (o * up g * (down e * down d)) (down e * down d * down g)
 
 rooted-fits : (n : ℕ) → T (fits binary32 (rooted binary32 n))
-rooted-fits n = subst (λ (x : Float). T (fits binary32 x)) (sym (rooted-is binary32 n)) (units-in binary32 false (keptRoot binary32 n) (size (root n) - 24) (keptRoot-digits binary32 n))
+rooted-fits n =
+    subst (λ (x : Float). T (fits binary32 x)) (sym (rooted-is binary32 n))
+    (units-in binary32 false (keptRoot binary32 n) (size (root 2 n) - 24) (keptRoot-digits binary32 n))
 
 pub sqrt-fits : (x : Float) → T (fits binary32 x) → T (fits binary32 (sqrt32 x))
 unfolding sqrtOf
@@ -43,10 +47,6 @@ sqrt-fits (inf false) h = h
 sqrt-fits (fin s zero e) h = h
 sqrt-fits (fin true (suc m) e) h = nan-fits binary32
 sqrt-fits (fin false (suc m) e) h = rooted-fits (suc m * up e * 2 ^ 149 * 2 ^ 149 / down e)
-
-cut-fits : (w : ℕ) → T (fits binary32 (cutTo binary32 w))
-unfolding cutTo
-cut-fits w = units-in binary32 false (w / 2 ^ (size w - 24)) (size w - 24) (le-of-lt (kept-lt 24 w))
 
 zero-fits : T (fits binary32 (fin false 0 (pos 0)))
 unfolding fits
@@ -59,7 +59,7 @@ sixth-root-fits (inf true) = nan-fits binary32
 sixth-root-fits (inf false) = inf-fits binary32 false
 sixth-root-fits (fin s zero e) = zero-fits
 sixth-root-fits (fin true (suc m) e) = nan-fits binary32
-sixth-root-fits (fin false (suc m) e) = cut-fits (wholeSixth (suc m * up e * 2 ^ 894 / down e))
+sixth-root-fits (fin false (suc m) e) = cut-fits binary32 (root 6 (suc m * up e * 2 ^ 894 / down e))
 
 unsigned : (m : ℕ) (e : ℤ) → T (fits binary32 (fin true m e)) → T (fits binary32 (fin false m e))
 unfolding neg

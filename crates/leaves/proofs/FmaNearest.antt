@@ -13,7 +13,8 @@ use lib.Ieee.Order.{drop, kept}
 use lib.Ieee.Positive.{den-pos}
 use lib.Ieee.Scale.{finite, round-same}
 use Rattle.rounding.specs.Nearest.{signed, NearestTo}
-use Rattle.rounding.proofs.Signed.{signed-times, sumSign, sumSize, sum-rounds, sum-signed, zero-sign}
+use Rattle.rounding.specs.Sums.{sumSign, sumSize}
+use Rattle.rounding.proofs.Signed.{signed-times, sum-rounds, sum-signed, zero-sign}
 use Rattle.rounding.proofs.Nearest.{round-nearest}
 use Rattle.leaves.specs.Single.{_⊕_, one32}
 use Rattle.leaves.specs.Fma.{fma32, fmaOf}
@@ -50,7 +51,9 @@ fma-rounds (fin s m e) (fin t n d) (fin u o g) X Y Z =
       is = sum-rounds binary32 (unlike s t) A u C (down e * down d * down g);
       exact =
           sum-signed (unlike s t) A u C
-          ∙ sym (ap₂ (λ (a b : ℤ). a +ℤ b) (ap (λ (k : ℤ). k *ℤ pos (down g)) (signed-mul s (m * up e) t (n * up d)) ∙ signed-times (unlike s t) (m * up e * (n * up d)) (down g)) (signed-times u (o * up g) (down e * down d)));
+          ∙ sym (ap₂ (λ (a b : ℤ). a +ℤ b)
+          (ap (λ (k : ℤ). k *ℤ pos (down g)) (signed-mul s (m * up e) t (n * up d)) ∙ signed-times (unlike s t) (m * up e * (n * up d)) (down g))
+          (signed-times u (o * up g) (down e * down d)));
       at-zero = zero-sign (unlike s t) A u C;
     }
 fma-rounds nan y z X Y Z = absurd X
@@ -107,11 +110,13 @@ module _ (x y z : Float) (X : T (finite x)) (Y : T (finite y)) (Z : T (finite z)
   fma-zero h =
       let r = fma-rounds x y z X Y Z in
       let m : r .M ≡ 0 = sym (abs-signed (r .S) (r .M)) ∙ ap natAbs (r .exact ∙ h) in
-      r .is ∙ ap₂ (λ (s : Bool) (a : ℕ). round binary32 s a (exactDen x y z)) (r .at-zero m) m ∙ round-zero (unlike (negativeOf x) (negativeOf y) && negativeOf z) (exactDen x y z) (exactDen-pos x y z)
+      r .is ∙ ap₂ (λ (s : Bool) (a : ℕ). round binary32 s a (exactDen x y z)) (r .at-zero m) m
+      ∙ round-zero (unlike (negativeOf x) (negativeOf y) && negativeOf z) (exactDen x y z) (exactDen-pos x y z)
 
   -- any other sum: above 0 and below
   pub fma-positive : (n : ℕ) → exactNum x y z ≡ pos (suc n) → negativeOf (fma32 x y z) ≡ false
-  fma-positive n h = let r = fma-rounds x y z X Y Z in ap negativeOf (r .is) ∙ round-sign binary32 (r .S) (r .M) (exactDen x y z) ∙ plus (r .S) (r .M) (r .exact ∙ h)
+  fma-positive n h =
+      let r = fma-rounds x y z X Y Z in ap negativeOf (r .is) ∙ round-sign binary32 (r .S) (r .M) (exactDen x y z) ∙ plus (r .S) (r .M) (r .exact ∙ h)
     where
       plus : (s : Bool) (a : ℕ) → signed s a ≡ pos (suc n) → s ≡ false
       plus false a e = refl
@@ -119,7 +124,8 @@ module _ (x y z : Float) (X : T (finite x)) (Y : T (finite y)) (Z : T (finite z)
       plus true (suc a) e = cc
 
   pub fma-negative : (n : ℕ) → exactNum x y z ≡ negsuc n → negativeOf (fma32 x y z) ≡ true
-  fma-negative n h = let r = fma-rounds x y z X Y Z in ap negativeOf (r .is) ∙ round-sign binary32 (r .S) (r .M) (exactDen x y z) ∙ minus (r .S) (r .M) (r .exact ∙ h)
+  fma-negative n h =
+      let r = fma-rounds x y z X Y Z in ap negativeOf (r .is) ∙ round-sign binary32 (r .S) (r .M) (exactDen x y z) ∙ minus (r .S) (r .M) (r .exact ∙ h)
     where
       minus : (s : Bool) (a : ℕ) → signed s a ≡ negsuc n → s ≡ true
       minus true a e = refl

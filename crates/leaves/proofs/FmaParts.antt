@@ -63,8 +63,10 @@ fma-bits x y z X Y Z h k l =
     let a = toBits binary32 x in
     let b = toBits binary32 y in
     let c = toBits binary32 z in
-    sym (fma-value x y z (leb 2147483648 a) (leb 2147483648 b) (leb 2147483648 c) (sig binary32 a * 2 ^ place binary32 a) (sig binary32 b * 2 ^ place binary32 b) (sig binary32 c * 2 ^ place binary32 c)
-    (2 ^ 149) (2 ^ 13) (2 ^ 162) (2 ^ 311) (decode binary32 x X (yes x h)) (decode binary32 y Y (yes y k)) (decode binary32 z Z (yes z l)) refl refl (pow-pos 311))
+    sym (fma-value x y z (leb 2147483648 a) (leb 2147483648 b) (leb 2147483648 c) (sig binary32 a * 2 ^ place binary32 a)
+    (sig binary32 b * 2 ^ place binary32 b) (sig binary32 c * 2 ^ place binary32 c)
+    (2 ^ 149) (2 ^ 13) (2 ^ 162) (2 ^ 311) (decode binary32 x X (yes x h)) (decode binary32 y Y (yes y k)) (decode binary32 z Z (yes z l)) refl refl
+    (pow-pos 311))
   where
     yes : (v : Float) → finite v ≡ true → T (finite v)
     yes v e = subst (λ (b : Bool). T b) (sym e) tt

@@ -1,7 +1,8 @@
 -- The limb law: a product's limbs, with the carries. Assumes nothing.
 use mathlib.Core.Path.{_≡_, refl, sym, ap, _∙_}
 use Prim.Native.Nat.{ℕ, suc, _+_, _-_, _*_, _/_, _%_, _^_, _≤_, _<_}
-use native.Mathlib.Nat.{add-mul, mul-right-comm, mul-le-mul, le-of-eq, lt-of-le-of-lt, lt-of-lt-of-le, le-trans, lt-of-mul-lt-mul-right, one-mul, pow-zero, pow-suc, pow-le-pow-left, pow-le-pow-right}
+use native.Mathlib.Nat.{add-mul, mul-right-comm, mul-le-mul, le-of-eq, lt-of-le-of-lt, lt-of-lt-of-le, le-trans, lt-of-mul-lt-mul-right, one-mul, pow-zero}
+use native.Mathlib.Nat.{pow-suc, pow-le-pow-left, pow-le-pow-right}
 use native.Mathlib.Omega.{arith}
 use lib.Dec.{leb, eqb, lit≤, lit<}
 use borrow.Author.Tests.{le-leb, lt-leb, eqb-true, eqb-false}
@@ -60,8 +61,10 @@ limb-lt : (x : ℕ) → x % 2 ^ 36 < 2 ^ 36
 limb-lt x = omega arith
 
 pub times-is : (a b c d s : ℕ) → whole a b c d * s < 2 ^ 144
-    → Limbs (a * s % 2 ^ 36) ((b * s + a * s / 2 ^ 36) % 2 ^ 36) ((c * s + (b * s + a * s / 2 ^ 36) / 2 ^ 36) % 2 ^ 36) (d * s + (c * s + (b * s + a * s / 2 ^ 36) / 2 ^ 36) / 2 ^ 36)
-    × (whole (a * s % 2 ^ 36) ((b * s + a * s / 2 ^ 36) % 2 ^ 36) ((c * s + (b * s + a * s / 2 ^ 36) / 2 ^ 36) % 2 ^ 36) (d * s + (c * s + (b * s + a * s / 2 ^ 36) / 2 ^ 36) / 2 ^ 36) ≡ whole a b c d * s)
+    → Limbs (a * s % 2 ^ 36) ((b * s + a * s / 2 ^ 36) % 2 ^ 36) ((c * s + (b * s + a * s / 2 ^ 36) / 2 ^ 36) % 2 ^ 36)
+    (d * s + (c * s + (b * s + a * s / 2 ^ 36) / 2 ^ 36) / 2 ^ 36)
+    × (whole (a * s % 2 ^ 36) ((b * s + a * s / 2 ^ 36) % 2 ^ 36) ((c * s + (b * s + a * s / 2 ^ 36) / 2 ^ 36) % 2 ^ 36)
+    (d * s + (c * s + (b * s + a * s / 2 ^ 36) / 2 ^ 36) / 2 ^ 36) ≡ whole a b c d * s)
 times-is a b c d s h =
     let x = a * s in
     let y = b * s + x / 2 ^ 36 in

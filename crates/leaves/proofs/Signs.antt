@@ -1,4 +1,5 @@
--- Laws of the small leaves: which float is the NaN, where its sign stands, and `absOf`, `lessOf`, `minOf`, `maxOf`, `clampOf` by the tests that the code makes. Assumes nothing.
+-- Laws of the small leaves: which float is the NaN, where its sign stands, and `absOf`, `lessOf`, `minOf`, `maxOf`, `clampOf` by the tests that the code
+-- makes. Assumes nothing.
 use mathlib.Core.Path.{_≡_, refl, sym, ap, ap₂, _∙_, subst}
 use mathlib.Core.Bool.{Bool, true, false, not, _&&_, _||_, Bool·beq, cond}
 use Prim.Native.Nat.{ℕ, _+_, _*_, _<_, _≤_}
@@ -48,10 +49,13 @@ unfolding neg
 fits-true f m e h = neg-fits f (fin false m e) h
 
 pub sign-test : (s : Bool) (m : ℕ) (e : ℤ) → T (fits binary32 (fin s m e)) → leb 2147483648 (toBits binary32 (fin s m e)) ≡ s
-sign-test true m e h = le-leb 2147483648 (toBits binary32 (fin true m e)) (subst (λ (x : ℕ). 2147483648 ≤ x) (sym (sign-bit binary32 m e)) (le-add-right 2147483648 (toBits binary32 (fin false m e))))
+sign-test true m e h =
+    le-leb 2147483648 (toBits binary32 (fin true m e))
+    (subst (λ (x : ℕ). 2147483648 ≤ x) (sym (sign-bit binary32 m e)) (le-add-right 2147483648 (toBits binary32 (fin false m e))))
 sign-test false m e h =
     lt-leb 2147483648 (toBits binary32 (fin false m e))
-    (half (toBits binary32 (fin false m e)) (subst (λ (x : ℕ). x < 4294967296) (sign-bit binary32 m e) (toBits-lt binary32 (fin true m e) (fits-true binary32 m e h))))
+    (half (toBits binary32 (fin false m e))
+    (subst (λ (x : ℕ). x < 4294967296) (sign-bit binary32 m e) (toBits-lt binary32 (fin true m e) (fits-true binary32 m e h))))
   where
     half : (a : ℕ) → 2147483648 + a < 4294967296 → a < 2147483648
     half a l = omega arith

@@ -3,7 +3,9 @@ use mathlib.Core.Path.{_≡_, refl, sym, ap, ap₂, _∙_, subst}
 use mathlib.Core.Logic.{_⊎_, inl, inr}
 use mathlib.Core.Bool.{Bool, true, false, not, _&&_, _||_, cond}
 use Prim.Native.Nat.{ℕ, zero, suc, _+_, _-_, _*_, _/_, _%_, _^_, _<_, _≤_, zero-le}
-use native.Mathlib.Nat.{zero-mul, mul-one, mul-assoc, mul-comm, mul-right-comm, add-mul, one-mul, mul-le-mul-right, mul-lt-mul-of-pos-right, le-of-mul-le-mul-right, lt-of-mul-lt-mul-right, eq-of-mul-eq-mul-right, le-trans, le-of-eq, le-of-lt, lt-of-lt-of-le, lt-of-le-of-lt, lt-of-not-le, lt-irrefl, div-add-mod', mod-lt, div-eq-of-lt, div-eq-of-lt-le, div-one}
+use native.Mathlib.Nat.{zero-mul, mul-one, mul-assoc, mul-comm, mul-right-comm, add-mul, one-mul, mul-le-mul-right, mul-lt-mul-of-pos-right}
+use native.Mathlib.Nat.{le-of-mul-le-mul-right, lt-of-mul-lt-mul-right, eq-of-mul-eq-mul-right, le-trans, le-of-eq, le-of-lt, lt-of-lt-of-le, lt-of-le-of-lt}
+use native.Mathlib.Nat.{lt-of-not-le, lt-irrefl, div-add-mod', mod-lt, div-eq-of-lt, div-eq-of-lt-le, div-one}
 use native.Mathlib.Omega.{arith}
 use lib.IntN.{ℤ, pos}
 use lib.Dec.{T, leb, ltb, eqb, ltb→lt, eqb→eq}
@@ -54,7 +56,9 @@ up-none t w W e = sym (div-eq-of-lt (last e))
     last e = omega (arith, W)
 
 pub up-one : (t w : ℕ) → t ≤ w → (t ≡ 0 → ⊥) → 1 ≡ (t + w - 1) / w
-up-one t w h n = sym (div-eq-of-lt-le w (subst (λ (x : ℕ). x ≤ t + w - 1) (sym (one-mul w)) (low n)) (subst (λ (x : ℕ). t + w - 1 < x) (sym (add-mul 1 1 w ∙ ap₂ (λ (a b : ℕ). a + b) (one-mul w) (one-mul w))) (high h n)))
+up-one t w h n =
+    sym (div-eq-of-lt-le w (subst (λ (x : ℕ). x ≤ t + w - 1) (sym (one-mul w)) (low n))
+    (subst (λ (x : ℕ). t + w - 1 < x) (sym (add-mul 1 1 w ∙ ap₂ (λ (a b : ℕ). a + b) (one-mul w) (one-mul w))) (high h n)))
   where
     low : (t ≡ 0 → ⊥) → w ≤ t + w - 1
     low n = omega arith
@@ -73,7 +77,9 @@ up-le t w W = go t
     go (suc t) = last ((suc t + w - 1) / w) (up-bounds (suc t) w W .1)
       where
         last : (q : ℕ) → q * w < suc t + w → q ≤ suc t
-        last q h = less q t (lt-of-not-le (λ (g : suc (suc t) ≤ q). lt-irrefl (q * w) (lt-of-lt-of-le h (le-trans (far t w W (suc (suc t) * w) (t * w) (two t w) (many t w W)) (mul-le-mul-right w g)))))
+        last q h =
+            less q t (lt-of-not-le (λ (g : suc (suc t) ≤ q). lt-irrefl (q * w)
+            (lt-of-lt-of-le h (le-trans (far t w W (suc (suc t) * w) (t * w) (two t w) (many t w W)) (mul-le-mul-right w g)))))
           where
             two : (t w : ℕ) → suc (suc t) * w ≡ t * w + w + w
             two t w = ap (λ (x : ℕ). x * w) (plus t) ∙ add-mul t 2 w ∙ double (t * w) w
@@ -95,7 +101,8 @@ module _ (x : Float) (s : Bool) (t p : ℕ) (v : HasValue x s (t * 2 ^ p) (2 ^ 1
   pub digits-cross : (d : ℕ) → d + p ≡ 149 → num x * 2 ^ d ≡ t * den x
   digits-cross d e =
       eq-of-mul-eq-mul-right (2 ^ p) (pow-pos p) (num x * 2 ^ d) (t * den x)
-      (mul-assoc (num x) (2 ^ d) (2 ^ p) ∙ ap (λ (y : ℕ). num x * y) (sym (pow-add 2 d p) ∙ ap (λ (y : ℕ). 2 ^ y) e) ∙ cross x s (t * 2 ^ p) (2 ^ 149) v ∙ mul-right-comm t (2 ^ p) (den x))
+      (mul-assoc (num x) (2 ^ d) (2 ^ p) ∙ ap (λ (y : ℕ). num x * y) (sym (pow-add 2 d p) ∙ ap (λ (y : ℕ). 2 ^ y) e) ∙ cross x s (t * 2 ^ p) (2 ^ 149) v
+      ∙ mul-right-comm t (2 ^ p) (den x))
 
   pub digits-up : (d : ℕ) → d + p ≡ 149 → (num x + den x - 1) / den x ≡ (t + 2 ^ d - 1) / 2 ^ d
   digits-up d e = up-same (num x) (den x) t (2 ^ d) (den-pos x) (pow-pos d) (digits-cross d e)
@@ -113,9 +120,11 @@ module _ (x : Float) (s : Bool) (t p : ℕ) (v : HasValue x s (t * 2 ^ p) (2 ^ 1
       ∙ mul-right-comm (t * 2 ^ j) (2 ^ 149) (den x))
 
 -- the parts as the code has them
-pub pattern-value : (x : Float) → T (fits binary32 x) → T (finite x) → (s : Bool) (t p : ℕ) → s ≡ leb 2147483648 (toBits binary32 x) → t ≡ sig binary32 (toBits binary32 x) → p ≡ place binary32 (toBits binary32 x) → HasValue x s (t * 2 ^ p) (2 ^ 149)
+pub pattern-value : (x : Float) → T (fits binary32 x) → T (finite x) → (s : Bool) (t p : ℕ) → s ≡ leb 2147483648 (toBits binary32 x)
+    → t ≡ sig binary32 (toBits binary32 x) → p ≡ place binary32 (toBits binary32 x) → HasValue x s (t * 2 ^ p) (2 ^ 149)
 pattern-value x F f s t p h e g =
-    subst (λ (b : Bool). HasValue x b (t * 2 ^ p) (2 ^ 149)) (sym h) (subst (λ (y : ℕ). HasValue x (leb 2147483648 (toBits binary32 x)) y (2 ^ 149)) (ap₂ (λ (a b : ℕ). a * 2 ^ b) (sym e) (sym g)) (decode binary32 x F f))
+    subst (λ (b : Bool). HasValue x b (t * 2 ^ p) (2 ^ 149)) (sym h)
+    (subst (λ (y : ℕ). HasValue x (leb 2147483648 (toBits binary32 x)) y (2 ^ 149)) (ap₂ (λ (a b : ℕ). a * 2 ^ b) (sym e) (sym g)) (decode binary32 x F f))
 
 pub no-nan-of : (x : Float) → T (finite x) → T (not (isNan x))
 unfolding isNan
@@ -141,18 +150,21 @@ whole-round : (s : Bool) (q : ℕ) → round binary32 s (q * 2 ^ 150) (2 ^ 150) 
 whole-round s q = round-same binary32 s (q * 2 ^ 150) (2 ^ 150) q 1 (pow-pos 150) (pow-pos 0) (mul-one (q * 2 ^ 150))
 
 module _ (x : Float) (t p : ℕ) where
-  pub ceil-below : HasValue x true (t * 2 ^ p) (2 ^ 149) → (d q : ℕ) → d + p ≡ 149 → q ≡ t / 2 ^ d → round binary32 true (q * 2 ^ 150) (2 ^ (150 + 0)) ≡ ceilOf x
+  pub ceil-below : HasValue x true (t * 2 ^ p) (2 ^ 149) → (d q : ℕ) → d + p ≡ 149 → q ≡ t / 2 ^ d
+      → round binary32 true (q * 2 ^ 150) (2 ^ (150 + 0)) ≡ ceilOf x
   ceil-below v d q e h =
       whole-round true q ∙ ap (λ (y : ℕ). round binary32 true y 1) (h ∙ sym (digits-down x true t p v d e)) ∙ sym (ceil-finite x true (t * 2 ^ p) (2 ^ 149) v)
 
-  pub ceil-above : HasValue x false (t * 2 ^ p) (2 ^ 149) → (d q : ℕ) → d + p ≡ 149 → q ≡ (t + 2 ^ d - 1) / 2 ^ d → round binary32 false (q * 2 ^ 150) (2 ^ (150 + 0)) ≡ ceilOf x
+  pub ceil-above : HasValue x false (t * 2 ^ p) (2 ^ 149) → (d q : ℕ) → d + p ≡ 149 → q ≡ (t + 2 ^ d - 1) / 2 ^ d
+      → round binary32 false (q * 2 ^ 150) (2 ^ (150 + 0)) ≡ ceilOf x
   ceil-above v d q e h =
       whole-round false q ∙ ap (λ (y : ℕ). round binary32 false y 1) (h ∙ sym (digits-up x false t p v d e)) ∙ sym (ceil-finite x false (t * 2 ^ p) (2 ^ 149) v)
 
   -- x is whole
   pub ceil-whole : (s : Bool) → HasValue x s (t * 2 ^ p) (2 ^ 149) → (j : ℕ) → 149 + j ≡ p → round binary32 s (t * 2 ^ (p + 1)) (2 ^ (150 + 0)) ≡ ceilOf x
   ceil-whole s v j e =
-      ap (λ (y : ℕ). round binary32 s y (2 ^ 150)) (ap (λ (y : ℕ). t * y) (ap (λ (y : ℕ). 2 ^ y) (level j p e) ∙ pow-add 2 j 150) ∙ sym (mul-assoc t (2 ^ j) (2 ^ 150)))
+      ap (λ (y : ℕ). round binary32 s y (2 ^ 150))
+      (ap (λ (y : ℕ). t * y) (ap (λ (y : ℕ). 2 ^ y) (level j p e) ∙ pow-add 2 j 150) ∙ sym (mul-assoc t (2 ^ j) (2 ^ 150)))
       ∙ whole-round s (t * 2 ^ j)
       ∙ ap (λ (y : ℕ). round binary32 s y 1) (go s)
       ∙ sym (ceil-finite x s (t * 2 ^ p) (2 ^ 149) v)
@@ -203,7 +215,8 @@ pub place-small : (x : Float) (s : Bool) (t p : ℕ) → HasValue x s (t * 2 ^ p
 place-small x s t p v h l = elim l [
   | inl z ↦ le-trans (le-of-eq z) zero-le
   | inr g ↦
-      let a : t * 2 ^ p * den x ≤ 2 ^ 165 * den x = le-trans (le-of-eq (sym (cross x s (t * 2 ^ p) (2 ^ 149) v))) (le-trans (mul-le-mul-right (2 ^ 149) h) (le-of-eq (mul-right-comm 65536 (den x) (2 ^ 149)))) in
+      let a : t * 2 ^ p * den x ≤ 2 ^ 165 * den x = le-trans (le-of-eq (sym (cross x s (t * 2 ^ p) (2 ^ 149) v)))
+      (le-trans (mul-le-mul-right (2 ^ 149) h) (le-of-eq (mul-right-comm 65536 (den x) (2 ^ 149)))) in
       let b : t * 2 ^ p ≤ 2 ^ 165 = le-of-mul-le-mul-right a (den-pos x) in
       let c : 2 ^ (23 + p) ≤ 2 ^ 165 = le-trans (le-of-eq (pow-add 2 23 p)) (le-trans (mul-le-mul-right (2 ^ p) g) b) in
       cut p (back (23 + p) 165 c)
@@ -224,13 +237,16 @@ whole-up-is x a b h k = ap₂ (λ (p q : Bool). cond (p && q) ((num x + den x - 
 
 -- ---- so it is the least whole number not below x, and at most 65,536
 pub whole-up-least : (x : Float) → le zero32 x ≡ true → le x limit32 ≡ true → (num x ≤ wholeUpOf x * den x) × (wholeUpOf x * den x < num x + den x)
-whole-up-least x h k = subst (λ (r : ℕ). (num x ≤ r * den x) × (r * den x < num x + den x)) (whole-up-is x true true h k) (up-bounds (num x) (den x) (den-pos x))
+whole-up-least x h k =
+    subst (λ (r : ℕ). (num x ≤ r * den x) × (r * den x < num x + den x)) (whole-up-is x true true h k) (up-bounds (num x) (den x) (den-pos x))
 
 pub whole-up-le : (x : Float) → le zero32 x ≡ true → le x limit32 ≡ true → wholeUpOf x ≤ 65536
 whole-up-le x h k =
     last (wholeUpOf x)
     (lt-of-mul-lt-mul-right (den x)
-    (lt-of-lt-of-le (whole-up-least x h k .1) (le-trans (more (num x) (65536 * den x) (den x) (in-range x h k .1)) (le-of-eq (sym (add-mul 65536 1 (den x) ∙ ap (λ (y : ℕ). 65536 * den x + y) (one-mul (den x))))))))
+    (lt-of-lt-of-le (whole-up-least x h k .1)
+    (le-trans (more (num x) (65536 * den x) (den x) (in-range x h k .1))
+    (le-of-eq (sym (add-mul 65536 1 (den x) ∙ ap (λ (y : ℕ). 65536 * den x + y) (one-mul (den x))))))))
   where
     more : (a b d : ℕ) → a ≤ b → a + d ≤ b + d
     more a b d h = omega arith

@@ -8,8 +8,11 @@ use Rattle.rounding.specs.Parts.{sig, place}
 
 unfoldable pub fmaBits : ℕ → ℕ → ℕ → Float
 fmaBits a b c =
-    sum binary32 (unlike (leb (top binary32) a) (leb (top binary32) b)) (sig binary32 a * 2 ^ place binary32 a * (sig binary32 b * 2 ^ place binary32 b) * 2 ^ 13) (leb (top binary32) c)
-    (sig binary32 c * 2 ^ place binary32 c * 2 ^ 162) (2 ^ 311)
+    sum binary32 (unlike (leb (top binary32) a) (leb (top binary32) b))
+    (sig binary32 a * 2 ^ place binary32 a * (sig binary32 b * 2 ^ place binary32 b) * 2 ^ 13)
+    (leb (top binary32) c)
+    (sig binary32 c * 2 ^ place binary32 c * 2 ^ 162)
+    (2 ^ 311)
 
 -- what the alignment needs of a product p * 2 ^ pe and an addend q * 2 ^ qe
 pub record Aligns (p pe q qe : ℕ) : Type 0 where

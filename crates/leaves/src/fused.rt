@@ -2,44 +2,64 @@
 // its count of leading zeros and rounded once.
 use crate::parts;
 ghost use mathlib.Core.Path.{_≡_};
-ghost use Prim.Native.Nat.{_+_, _*_, _^_, _<_};
-ghost use lib.Dec.{eqb};
+ghost use Prim.Native.Nat.{_+_, _-_, _*_, _^_, _<_};
+ghost use lib.Dec.{eqb, ltb};
 ghost use lib.Ieee.{binary32, sum};
 ghost use Rattle.rounding.specs.Parts as Parts;
+ghost use Rattle.rounding.specs.Sums.{sumSign, sumSize};
 ghost use mathlib.Core.Bool.{cond};
 ghost use Rattle.leaves.specs.Fma.{fma32};
 ghost use Rattle.leaves.specs.Aligned.{fmaBits, Aligns};
 
-// x * 2 ^ z and y * 2 ^ z, with their signs, in units of 2 ^ -311. Exact cancelling gives +0.
+// How far x and y lie apart.
+fn gap(x: u64, y: u64) -> u64
+    ensures { λ r. ⌜ r ≡ cond (ltb x y) (y - x) (x - y) ⌝ }
+{
+    if x < y { y - x } else { x - y }
+}
+
+// The size of the sum of x and y with their signs. Both outcomes are worked out and one is chosen:
+// signs are as random as the input, and a branch on them would be guessed wrong half the time.
+fn sum_size(s: bool, x: u64, t: bool, y: u64) -> u64
+    requires { ⌜ x < 2 ^ 61 ⌝ }
+    requires { ⌜ y < 2 ^ 61 ⌝ }
+    ensures { λ r. ⌜ r ≡ sumSize s x t y ⌝ }
+{
+    let d = gap(x, y);
+    if s == t { x + y } else { d }
+}
+
+// The sign of that sum. Exact cancelling gives +0.
+fn sum_sign(s: bool, x: u64, t: bool, y: u64) -> bool
+    ensures { λ r. ⌜ r ≡ sumSign s x t y ⌝ }
+{
+    if x < y {
+        return t;
+    }
+    if y < x {
+        return s;
+    }
+    s & t
+}
+
+// x * 2 ^ z and y * 2 ^ z, with their signs, in units of 2 ^ -311.
 fn total(s: bool, x: u64, t: bool, y: u64, z: u64) -> f32
     requires { ⌜ x < 2 ^ 61 ⌝ }
     requires { ⌜ y < 2 ^ 61 ⌝ }
     requires { ⌜ z < 1024 ⌝ }
     ensures { λ r. ⌜ r ≡ sum binary32 s (x * 2 ^ z) t (y * 2 ^ z) (2 ^ 311) ⌝ }
 {
-    if s == t {
-        return parts::rounded(s, x + y, z, 161);
-    }
-    if x < y {
-        return parts::rounded(t, y - x, z, 161);
-    }
-    if y < x {
-        return parts::rounded(s, x - y, z, 161);
-    }
-    parts::rounded(false, 0, z, 161)
+    parts::rounded(sum_sign(s, x, t, y), sum_size(s, x, t, y), z, 161)
 }
 
-// p * 2 ^ pe and q * 2 ^ qe, the one with the lower exponent brought to the other's. Where that
-// loses something the sum is so large that what is lost only says which way to round.
+// p * 2 ^ pe and q * 2 ^ qe, both brought to the higher exponent, which leaves one as it is. Where
+// the other loses something the sum is so large that what is lost only says which way to round.
 fn align(s: bool, p: u64, pe: u64, t: bool, q: u64, qe: u64) -> f32
     requires { ⌜ Aligns p pe q qe ⌝ }
     ensures { λ r. ⌜ r ≡ sum binary32 s (p * 2 ^ pe) t (q * 2 ^ qe) (2 ^ 311) ⌝ }
 {
-    if pe < qe {
-        total(s, parts::jam(p, qe - pe), t, q, qe)
-    } else {
-        total(s, p, t, parts::jam(q, pe - qe), pe)
-    }
+    let z = if pe < qe { qe } else { pe };
+    total(s, parts::jam(p, z - pe), t, parts::jam(q, z - qe), z)
 }
 
 // The exponent of a product, 0 where the product is 0, so that it loses no addend.

@@ -41,20 +41,6 @@ pub fn place(b: u32) -> u64
     if x == 0 { 0 } else { (x - 1) as u64 }
 }
 
-// h / 2, a half going by what lies below it, r: up, or at r = 0 to the even one.
-fn halve(h: u64, r: u64) -> u64
-    ensures { λ q. ⌜ q ≡ Halves.halve h r ⌝ }
-{
-    let q = h / 2;
-    if h % 2 == 0 {
-        return q;
-    }
-    if r == 0 {
-        return q + q % 2;
-    }
-    q + 1
-}
-
 // The f32 of the sign s and q * 2 ^ k smallest values. The sum carries into the exponent's field by
 // itself, and subnormals need no case.
 pub fn join(s: bool, q: u64, k: u64) -> f32
@@ -69,17 +55,19 @@ pub fn join(s: bool, q: u64, k: u64) -> f32
     f32::from_bits(b as u32)
 }
 
-// w without its d last digits, rounded by them, times 2 ^ k smallest values.
+// w without its d + 1 last digits, rounded by them, times 2 ^ k smallest values. One less than a half
+// of the last digit that stays is added, and one more where that is odd: a tie goes to the even one.
 fn cut(s: bool, w: u64, d: u64, k: u64) -> f32
     requires { ⌜ d < 63 ⌝ }
     requires { ⌜ k < 0x1_0000 ⌝ }
+    requires { ⌜ w < 2 ^ 62 ⌝ }
     requires { ⌜ w / 2 ^ d < 0x200_0000 ⌝ }
     requires { ⌜ (k ≡ 0) ⊎ (0x100_0000 ≤ w / 2 ^ d) ⌝ }
     ensures { λ r. ⌜ r ≡ units binary32 s (Halves.halve (w / 2 ^ d) (w % 2 ^ d)) k ⌝ }
 {
-    let h = w >> d;
-    let r = w - (h << d);
-    join(s, halve(h, r), k)
+    let odd = (w >> d) / 2 % 2;
+    let q = (w + ((1u64 << d) - 1) + odd) >> (d + 1);
+    join(s, q, k)
 }
 
 // By how much m is shifted left to have 62 digits.
@@ -116,7 +104,7 @@ pub fn rounded(s: bool, m: u64, z: u64, y: u64) -> f32
 
 // x / 2 ^ d, its last digit set where something was lost: the sticky digit.
 pub fn jam(x: u64, d: u64) -> u64
-    ensures { λ r. ⌜ Alike (suc d) x (r * 2 ^ d) × (r ≤ x / 2 ^ d + 1) ⌝ }
+    ensures { λ r. ⌜ Alike (suc d) x (r * 2 ^ d) × (r ≤ x / 2 ^ d + 1) × (d ≡ 0 → r ≡ x) ⌝ }
 {
     if d > 63 {
         return if x == 0 { 0 } else { 1 };

@@ -4,8 +4,8 @@ use crate::power;
 ghost use mathlib.Core.Path.{_≡_};
 ghost use Prim.Native.Nat.{_+_, _-_, _*_, _%_, _^_, _<_, _≤_};
 ghost use lib.Ieee.{binary32};
-ghost use Rattle.leaves.specs.Sixth.{wholeSixth, cutTo, sixthRootOf};
-ghost use Rattle.leaves.specs.Power.{IsSixthRoot};
+ghost use Rattle.rounding.specs.Roots.{root, IsRoot, cutTo};
+ghost use Rattle.leaves.specs.Sixth.{sixthRootOf};
 
 // The sixth power of a number of ten digits.
 fn short_power(s: u64) -> u64
@@ -19,7 +19,7 @@ fn short_power(s: u64) -> u64
 // The ten leading digits of the root below, by halving over numbers that fit 64 digits.
 fn leading(t: u64) -> u64
     requires { ⌜ t < 2 ^ 36 ⌝ }
-    ensures { λ r. ⌜ (r < 1024) × IsSixthRoot (t * 2 ^ 24) r ⌝ }
+    ensures { λ r. ⌜ (r < 1024) × IsRoot 6 (t * 2 ^ 24) r ⌝ }
 {
     let n = t * 0x100_0000;
     let mut lo = 0u64;
@@ -38,7 +38,7 @@ fn leading(t: u64) -> u64
 // The largest r with r ^ 6 at most t * 2 ^ 108, by halving from its ten leading digits on.
 fn settle(t: u64) -> u64
     requires { ⌜ t < 2 ^ 36 ⌝ }
-    ensures { λ r. ⌜ IsSixthRoot (t * 2 ^ 108) r ⌝ }
+    ensures { λ r. ⌜ IsRoot 6 (t * 2 ^ 108) r ⌝ }
 {
     let mut lo = leading(t) * 0x4000;
     let mut hi = lo + 0x4000;
@@ -69,7 +69,7 @@ fn sixth_parts(m: u64, e: u64) -> f32
     requires { ⌜ 0 < m ⌝ }
     requires { ⌜ m < 2 ^ 24 ⌝ }
     requires { ⌜ e < 1024 ⌝ }
-    ensures { λ r. ⌜ r ≡ cutTo binary32 (wholeSixth (m * 2 ^ e * 2 ^ 745)) ⌝ }
+    ensures { λ r. ⌜ r ≡ cutTo binary32 (root 6 (m * 2 ^ e * 2 ^ 745)) ⌝ }
 {
     let l = shift(m, e);
     parts::join(false, settle(m << l), (e + 637 - l) / 6)

@@ -37,7 +37,9 @@ less-back a b h = lt-of-not-le (λ (g : b ≤ a). lt-irrefl (2 ^ a) (lt-of-lt-of
 
 pub mul-pow : (a b n : ℕ) → (a * b) ^ n ≡ a ^ n * b ^ n
 mul-pow a b zero = pow-zero (a * b) ∙ sym (ap₂ (λ (x y : ℕ). x * y) (pow-zero a) (pow-zero b))
-mul-pow a b (suc n) = pow-suc (a * b) n ∙ ap (λ (x : ℕ). x * (a * b)) (mul-pow a b n) ∙ mul-mul-mul-comm (a ^ n) (b ^ n) a b ∙ sym (ap₂ (λ (x y : ℕ). x * y) (pow-suc a n) (pow-suc b n))
+mul-pow a b (suc n) =
+    pow-suc (a * b) n ∙ ap (λ (x : ℕ). x * (a * b)) (mul-pow a b n) ∙ mul-mul-mul-comm (a ^ n) (b ^ n) a b
+    ∙ sym (ap₂ (λ (x y : ℕ). x * y) (pow-suc a n) (pow-suc b n))
 
 pub pow-pow : (a k n : ℕ) → (a ^ k) ^ n ≡ a ^ (k * n)
 pow-pow a k zero = pow-zero (a ^ k) ∙ sym (ap (λ (x : ℕ). a ^ x) (mul-zero k) ∙ pow-zero a)

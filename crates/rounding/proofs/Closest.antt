@@ -114,7 +114,8 @@ module _ (n u : ℕ) (U : 0 < u) where
 
       go : (c : Ordering) → Cmp c (n % u * 2) u → gap (nearest (n / u) c * u) n ≤ gap (Y * u) n
       go Ordering·lt h = near-down n u (n / u * u) (n % u) (Y * u) split (mod-lt n U) (less h) o
-      go Ordering·gt h = subst (λ (B : ℕ). gap B n ≤ gap (Y * u) n) (sym (suc-mul (n / u) u)) (near-up n u (n / u * u) (n % u) (Y * u) split (mod-lt n U) (half h) o)
+      go Ordering·gt h =
+          subst (λ (B : ℕ). gap B n ≤ gap (Y * u) n) (sym (suc-mul (n / u) u)) (near-up n u (n / u * u) (n % u) (Y * u) split (mod-lt n U) (half h) o)
       go Ordering·eq h = elim (plus-last (n / u) u (n / u % 2) (last-lt (n / u))) [
         | inl z ↦ subst (λ (B : ℕ). gap B n ≤ gap (Y * u) n) (sym z) (near-down n u (n / u * u) (n % u) (Y * u) split (mod-lt n U) (even h) o)
         | inr z ↦ subst (λ (B : ℕ). gap B n ≤ gap (Y * u) n) (sym z) (near-up n u (n / u * u) (n % u) (Y * u) split (mod-lt n U) (level h) o)
@@ -127,7 +128,8 @@ module _ (n u : ℕ) (U : 0 < u) where
       o : Off u (n / u * u) (Y * u)
       o = off u (n / u) Y
 
-      go : (c : Ordering) → Cmp c (n % u * 2) u → gap (nearest (n / u) c * u) n ≡ gap (Y * u) n → (Y * u ≡ nearest (n / u) c * u → ⊥) → nearest (n / u) c % 2 ≡ 0
+      go : (c : Ordering) → Cmp c (n % u * 2) u → gap (nearest (n / u) c * u) n ≡ gap (Y * u) n → (Y * u ≡ nearest (n / u) c * u → ⊥)
+          → nearest (n / u) c % 2 ≡ 0
       go Ordering·lt h g d = absurd (d (no-tie-down n u (n / u * u) (n % u) (Y * u) split (mod-lt n U) h o g))
       go Ordering·gt h g d =
           let e : suc (n / u) * u ≡ n / u * u + u = suc-mul (n / u) u in

@@ -33,9 +33,15 @@ module _ (p w : ℕ) (P : 0 < p) where
 
       go : (k : ℕ) → size w - p ≡ k → ((Y : ℕ) × (c * 2 ^ j ≡ Y * 2 ^ k)) ⊎ ((c * 2 ^ j < 2 ^ (p - 1) * 2 ^ k) × (2 ^ (p - 1) * 2 ^ k ≤ w))
       go k e = elim (le-or-lt k j) [
-        | inl l ↦ inl (c * 2 ^ (j - k), sym (mul-assoc c (2 ^ (j - k)) (2 ^ k) ∙ ap (λ (x : ℕ). c * x) (sym (pow-add 2 (j - k) k) ∙ ap (λ (x : ℕ). 2 ^ x) (back j k l))))
+        | inl l ↦
+            inl (
+              c * 2 ^ (j - k),
+              sym (mul-assoc c (2 ^ (j - k)) (2 ^ k)
+                  ∙ ap (λ (x : ℕ). c * x) (sym (pow-add 2 (j - k) k) ∙ ap (λ (x : ℕ). 2 ^ x) (back j k l))),
+            )
         | inr l ↦ inr (
-          lt-of-lt-of-le (mul-lt-mul-of-pos-right C (pow-pos j)) (le-trans (le-of-eq (sym (pow-add 2 p j))) (le-trans (pow-mono (less k l)) (le-of-eq (pow-add 2 (p - 1) k)))),
+          lt-of-lt-of-le (mul-lt-mul-of-pos-right C (pow-pos j))
+              (le-trans (le-of-eq (sym (pow-add 2 p j))) (le-trans (pow-mono (less k l)) (le-of-eq (pow-add 2 (p - 1) k)))),
           leading k e (some k l),
         )
       ]
@@ -43,6 +49,7 @@ module _ (p w : ℕ) (P : 0 < p) where
   -- w cut to its p leading digits is at least each such value up to w
   pub cut-most : (c j : ℕ) → c < 2 ^ p → c * 2 ^ j ≤ w → c * 2 ^ j ≤ w / 2 ^ (size w - p) * 2 ^ (size w - p)
   cut-most c j C h = elim (on-grid c j C) [
-    | inl y ↦ le-trans (le-of-eq (y .1)) (mul-le-mul-right (2 ^ (size w - p)) (le-div-iff-mul-le (pow-pos (size w - p)) .1 (le-trans (le-of-eq (sym (y .1))) h)))
+    | inl y ↦
+        le-trans (le-of-eq (y .1)) (mul-le-mul-right (2 ^ (size w - p)) (le-div-iff-mul-le (pow-pos (size w - p)) .1 (le-trans (le-of-eq (sym (y .1))) h)))
     | inr y ↦ le-trans (le-of-lt (y .0)) (mul-le-mul-right (2 ^ (size w - p)) (le-div-iff-mul-le (pow-pos (size w - p)) .1 (y .1)))
   ]

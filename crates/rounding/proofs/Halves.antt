@@ -1,7 +1,7 @@
 -- Laws of `halve`: rounding a fraction sees its number of halves, their parity, and whether anything lies above them. Assumes nothing.
 use mathlib.Core.Path.{_≡_, refl, sym, ap, ap₂, _∙_, subst}
 use Prim.Native.Nat.{ℕ, zero, suc, _+_, _-_, _*_, _/_, _%_, _≤_, _<_, compare, Ordering, Ordering·lt, Ordering·eq, Ordering·gt}
-use native.Mathlib.Nat.{div-add-mod', mod-lt, mul-assoc, add-mul, one-mul, suc-ne-zero, le-of-eq, le-of-lt, le-suc, le-refl}
+use native.Mathlib.Nat.{div-add-mod', mod-lt, mul-assoc, add-mul, suc-mul, one-mul, suc-ne-zero, zero-lt-suc, le-of-eq, le-of-lt, le-suc, le-refl}
 use native.Mathlib.Omega.{arith}
 use mathlib.Core.Bool.{not}
 use lib.Dec.{T, isLe, isEq, eqb, leb→le, nleb→lt, eqb→eq, eqb-refl}
@@ -79,13 +79,16 @@ closest-halves n u U = go (compare (n % u * 2) u) (cmp (n % u * 2) u)
   where
     go : (o : Ordering) → Cmp o (n % u * 2) u → nearest (n / u) o ≡ halve (n * 2 / u) (n * 2 % u)
     go Ordering·lt h =
-        sym (parted n u (2 * (n / u)) (n % u * 2) (twice n (n / u) u (n % u) (2 * (n / u) * u) (div-add-mod' n u) (mul-assoc 2 (n / u) u)) h ∙ halve-even (n / u) (n % u * 2))
+        sym (parted n u (2 * (n / u)) (n % u * 2) (twice n (n / u) u (n % u) (2 * (n / u) * u) (div-add-mod' n u) (mul-assoc 2 (n / u) u)) h
+        ∙ halve-even (n / u) (n % u * 2))
     go Ordering·eq h =
-        sym (parted n u (2 * (n / u) + 1) (n % u * 2 - u) (over n (n / u) u (n % u) ((2 * (n / u) + 1) * u) (div-add-mod' n u) (two-more (n / u) u) (le-of-eq (sym h))) (short (n % u) u (mod-lt n U))
+        sym (parted n u (2 * (n / u) + 1) (n % u * 2 - u)
+        (over n (n / u) u (n % u) ((2 * (n / u) + 1) * u) (div-add-mod' n u) (two-more (n / u) u) (le-of-eq (sym h))) (short (n % u) u (mod-lt n U))
         ∙ ap (λ (x : ℕ). halve (2 * (n / u) + 1) x) (none (n % u) u h)
         ∙ halve-tie (n / u))
     go Ordering·gt h =
-        sym (parted n u (2 * (n / u) + 1) (n % u * 2 - u) (over n (n / u) u (n % u) ((2 * (n / u) + 1) * u) (div-add-mod' n u) (two-more (n / u) u) (le-of-lt h)) (short (n % u) u (mod-lt n U))
+        sym (parted n u (2 * (n / u) + 1) (n % u * 2 - u)
+        (over n (n / u) u (n % u) ((2 * (n / u) + 1) * u) (div-add-mod' n u) (two-more (n / u) u) (le-of-lt h)) (short (n % u) u (mod-lt n U))
         ∙ halve-over (n / u) (n % u * 2 - u) (left (n % u) u h))
 
 -- r counts only by whether it is 0
@@ -123,3 +126,103 @@ halve-ge h r = go (h % 2) r (h / 2)
     go zero r q = le-refl q
     go (suc b) zero q = tie q
     go (suc b) (suc r) q = le-suc q
+
+-- ---- by one addition: of D less one, and one more where the whole part is odd, so that a half goes to the even number
+module _ (w D : ℕ) (P : 0 < D) where
+  h : ℕ
+  h = w / D
+
+  a : ℕ
+  a = w / D / 2
+
+  N : ℕ
+  N = w + (D - 1) + a % 2
+
+  at : (b r : ℕ) → N ≡ b * (D * 2) + r → r < D * 2 → N / (D * 2) ≡ b
+  at b r e l = ap (λ (x : ℕ). x / (D * 2)) e ∙ digits-div b l
+
+  last-lt : a % 2 < 2
+  last-lt = mod-lt a (zero-lt-suc 1)
+
+  whole : h * D + w % D ≡ w
+  unfolding h
+  whole = div-add-mod' w D
+
+  even : h ≡ 2 * a → N / (D * 2) ≡ halve h (w % D)
+  unfolding N
+  even e =
+      at a (w % D + (D - 1) + a % 2)
+      (split w (h * D) (w % D) (a * D) (a * (D * 2)) D (a % 2) whole (ap (λ (x : ℕ). x * D) e ∙ mul-assoc 2 a D) (sym (mul-assoc a D 2)))
+      (fits (w % D) D (a % 2) (mod-lt w P) last-lt)
+      ∙ sym (ap (λ (x : ℕ). halve x (w % D)) e ∙ halve-even a (w % D))
+    where
+      split : (w hD r p q D u : ℕ) → hD + r ≡ w → hD ≡ 2 * p → q ≡ p * 2 → w + (D - 1) + u ≡ q + (r + (D - 1) + u)
+      split w hD r p q D u e f g = omega arith
+
+      fits : (r D u : ℕ) → r < D → u < 2 → r + (D - 1) + u < D * 2
+      fits r D u k l = omega arith
+
+  odd : h ≡ 2 * a + 1 → (r : ℕ) → w % D ≡ r → N / (D * 2) ≡ halve h r
+  unfolding N
+  odd e zero z = tie (a % 2) refl last-lt ∙ sym (ap (λ (x : ℕ). halve x 0) e ∙ halve-tie a)
+    where
+      same : (w hD r p q D u : ℕ) → hD + r ≡ w → r ≡ 0 → hD ≡ 2 * p + D → q ≡ p * 2 → u ≡ 0 → w + (D - 1) + u ≡ q + (D + (D - 1))
+      same w hD r p q D u e f g k l = omega arith
+
+      next : (w hD r p q D u : ℕ) → hD + r ≡ w → r ≡ 0 → hD ≡ 2 * p + D → q ≡ p * 2 + D * 2 → u ≡ 1 → 0 < D → w + (D - 1) + u ≡ q + 0
+      next w hD r p q D u e f g k l P = omega arith
+
+      under : (D : ℕ) → 0 < D → D + (D - 1) < D * 2
+      under D P = omega arith
+
+      none : (D : ℕ) → 0 < D → 0 < D * 2
+      none D P = omega arith
+
+      plus : (c b : ℕ) → b ≡ 0 → c ≡ c + b
+      plus c b e = omega arith
+
+      one : (c b : ℕ) → b ≡ 1 → suc c ≡ c + b
+      one c b e = omega arith
+
+      tie : (b : ℕ) → a % 2 ≡ b → b < 2 → N / (D * 2) ≡ a + a % 2
+      tie zero k l =
+          at a (D + (D - 1)) (same w (h * D) (w % D) (a * D) (a * (D * 2)) D (a % 2) whole z (ap (λ (x : ℕ). x * D) e ∙ two-more a D)
+          (sym (mul-assoc a D 2)) k) (under D P)
+          ∙ plus a (a % 2) k
+      tie (suc zero) k l =
+          at (suc a) 0 (next w (h * D) (w % D) (a * D) (suc a * (D * 2)) D (a % 2) whole z (ap (λ (x : ℕ). x * D) e ∙ two-more a D)
+          (suc-mul a (D * 2) ∙ ap (λ (x : ℕ). x + D * 2) (sym (mul-assoc a D 2))) k P) (none D P)
+          ∙ one a (a % 2) k
+      tie (suc (suc b)) k l = absurd (no b l)
+        where
+          no : (b : ℕ) → suc (suc b) < 2 → ⊥
+          no b l = omega arith
+  odd e (suc r) z =
+      at (suc a) (r + a % 2) (over-half w (h * D) (w % D) r (a * D) (suc a * (D * 2)) D (a % 2) whole z (ap (λ (x : ℕ). x * D) e ∙ two-more a D)
+      (suc-mul a (D * 2) ∙ ap (λ (x : ℕ). x + D * 2) (sym (mul-assoc a D 2))) P)
+      (fits r (w % D) D (a % 2) z (mod-lt w P) last-lt)
+      ∙ sym (ap (λ (x : ℕ). halve x (suc r)) e ∙ halve-over a (suc r) (zero-lt-suc r))
+    where
+      over-half : (w hD m r p q D u : ℕ) → hD + m ≡ w → m ≡ suc r → hD ≡ 2 * p + D → q ≡ p * 2 + D * 2 → 0 < D → w + (D - 1) + u ≡ q + (r + u)
+      over-half w hD m r p q D u e f g k P = omega arith
+
+      fits : (r m D u : ℕ) → m ≡ suc r → m < D → u < 2 → r + u < D * 2
+      fits r m D u e k l = omega arith
+
+  pub halve-adds : (w + (D - 1) + w / D / 2 % 2) / (D * 2) ≡ halve (w / D) (w % D)
+  unfolding N a h
+  halve-adds = by-last (h % 2) refl (mod-lt h (zero-lt-suc 1))
+    where
+      halves : (h b : ℕ) → h % 2 ≡ b → h ≡ 2 * (h / 2) + b
+      halves h b e = omega arith
+
+      by-last : (b : ℕ) → h % 2 ≡ b → b < 2 → N / (D * 2) ≡ halve h (w % D)
+      by-last zero e l = even (halves h 0 e ∙ plain (2 * a))
+        where
+          plain : (x : ℕ) → x + 0 ≡ x
+          plain x = omega arith
+      by-last (suc zero) e l = odd (halves h 1 e) (w % D) refl
+      by-last (suc (suc b)) e l = absurd (no b l)
+        where
+          no : (b : ℕ) → suc (suc b) < 2 → ⊥
+          no b l = omega arith

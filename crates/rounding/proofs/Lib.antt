@@ -7,9 +7,12 @@ pub mod Values
 pub mod Sums
 pub mod Lifts
 pub mod Roots
+pub mod SquareRoots
 pub mod RootTest
 pub mod Signed
 pub mod Grid
 pub mod Closest
 pub mod Nearest
 pub mod RootNearest
+pub mod Cuts
+pub mod RootLargest

@@ -1,11 +1,12 @@
--- Rounding gives a nearest value of the format, and at a tie the one whose significand is even: once, for every format. The plan: in units of the smallest value
--- a / b is n / b, the result is R = q * 2 ^ k, and any value of the format is c * 2 ^ j with c of prec digits. That is a multiple of 2 ^ k, of which `closest`
--- takes a nearest; or it lies below 2 ^ (prec - 1 + k), itself a multiple of 2 ^ k that n / b reaches, and so is farther still. Assumes nothing.
+-- Rounding gives a nearest value of the format, and at a tie the one whose significand is even: once, for every format. The plan: in units of the smallest
+-- value a / b is n / b, the result is R = q * 2 ^ k, and any value of the format is c * 2 ^ j with c of prec digits. That is a multiple of 2 ^ k, of which
+-- `closest` takes a nearest; or it lies below 2 ^ (prec - 1 + k), itself a multiple of 2 ^ k that n / b reaches, and so is farther still. Assumes nothing.
 use mathlib.Core.Path.{_≡_, refl, sym, ap, ap₂, _∙_, subst}
 use mathlib.Core.Logic.{_⊎_, inl, inr}
 use mathlib.Core.Bool.{Bool, true, false, cond}
 use Prim.Native.Nat.{ℕ, suc, _+_, _-_, _*_, _/_, _%_, _^_, _≤_, _<_, compare}
-use native.Mathlib.Nat.{mul-assoc, mul-comm, mul-right-comm, mul-pos, mul-lt-mul-of-pos-right, mul-le-mul-right, le-of-mul-le-mul-right, eq-of-mul-eq-mul-right, zero-mul, pow-suc, div-mul-le-self, div-div-eq-div-mul, le-div-iff-mul-le, le-trans, le-of-eq, eq-zero-or-pos}
+use native.Mathlib.Nat.{mul-assoc, mul-comm, mul-right-comm, mul-pos, mul-lt-mul-of-pos-right, mul-le-mul-right, le-of-mul-le-mul-right}
+use native.Mathlib.Nat.{eq-of-mul-eq-mul-right, zero-mul, pow-suc, div-mul-le-self, div-div-eq-div-mul, le-div-iff-mul-le, le-trans, le-of-eq, eq-zero-or-pos}
 use native.Mathlib.Omega.{arith}
 use lib.IntN.{ℤ, pos, natAbs, _-ℤ_, _*ℤ_}
 use lib.Dec.{T, leb, ltb, ltb→lt}
@@ -45,7 +46,9 @@ module _ (p n b : ℕ) (P : 0 < p) (B : 0 < b) where
 
   near-multiple : (Y : ℕ) → gap (R * b) n ≤ gap (Y * 2 ^ drop p n b * b) n
   unfolding R k
-  near-multiple Y = subst (λ (x : ℕ). gap x n ≤ gap (Y * 2 ^ drop p n b * b) n) (sym (times-u (kept p n b))) (subst (λ (x : ℕ). gap (kept p n b * (b * 2 ^ drop p n b)) n ≤ gap x n) (sym (times-u Y)) (closest-near n (b * 2 ^ drop p n b) U Y))
+  near-multiple Y =
+      subst (λ (x : ℕ). gap x n ≤ gap (Y * 2 ^ drop p n b * b) n) (sym (times-u (kept p n b)))
+      (subst (λ (x : ℕ). gap (kept p n b * (b * 2 ^ drop p n b)) n ≤ gap x n) (sym (times-u Y)) (closest-near n (b * 2 ^ drop p n b) U Y))
 
   -- below a multiple that n / b reaches: farther than it
   farther : (X L : ℕ) → X * b < L → L ≤ n → gap L n < gap (X * b) n
@@ -55,7 +58,9 @@ module _ (p n b : ℕ) (P : 0 < p) (B : 0 < b) where
       go A h = omega (arith, l)
 
   under : (X : ℕ) → X < 2 ^ (p - 1) * 2 ^ drop p n b → 2 ^ (p - 1) * 2 ^ drop p n b * b ≤ n → gap (R * b) n < gap (X * b) n
-  under X h l = go (gap (R * b) n) (gap (2 ^ (p - 1) * 2 ^ drop p n b * b) n) (gap (X * b) n) (near-multiple (2 ^ (p - 1))) (farther X (2 ^ (p - 1) * 2 ^ drop p n b * b) (mul-lt-mul-of-pos-right h B) l)
+  under X h l =
+      go (gap (R * b) n) (gap (2 ^ (p - 1) * 2 ^ drop p n b * b) n) (gap (X * b) n) (near-multiple (2 ^ (p - 1)))
+      (farther X (2 ^ (p - 1) * 2 ^ drop p n b * b) (mul-lt-mul-of-pos-right h B) l)
     where
       go : (x y z : ℕ) → x ≤ y → y < z → x < z
       go x y z h k = omega arith
@@ -125,12 +130,17 @@ module _ (p n b : ℕ) (P : 0 < p) (B : 0 < b) where
       none : (X : ℕ) → 0 < b → X * b ≡ 0 → X ≡ 0
       none X h e = eq-of-mul-eq-mul-right b h X 0 (e ∙ sym (zero-mul b))
 
-  tie-signed : (s t : Bool) (c j : ℕ) → c < 2 ^ p → apart s (R * b) s n ≡ apart t (c * 2 ^ j * b) s n → (c * 2 ^ j ≡ R → (t ≡ s) ⊎ (R ≡ 0) → ⊥) → kept p n b % 2 ≡ 0
+  tie-signed : (s t : Bool) (c j : ℕ) → c < 2 ^ p → apart s (R * b) s n ≡ apart t (c * 2 ^ j * b) s n → (c * 2 ^ j ≡ R → (t ≡ s) ⊎ (R ≡ 0) → ⊥)
+      → kept p n b % 2 ≡ 0
   unfolding apart
   tie-signed true true c j C g d = tie-grid c j C g (λ e. d e (inl refl))
   tie-signed false false c j C g d = tie-grid c j C g (λ e. d e (inl refl))
-  tie-signed true false c j C g d = let z = other-side (c * 2 ^ j) g in tie-multiple 0 (z .1) (λ e. d (z .0 ∙ sym (zero-mul (2 ^ drop p n b)) ∙ e) (inr (sym (sym (zero-mul (2 ^ drop p n b)) ∙ e))))
-  tie-signed false true c j C g d = let z = other-side (c * 2 ^ j) g in tie-multiple 0 (z .1) (λ e. d (z .0 ∙ sym (zero-mul (2 ^ drop p n b)) ∙ e) (inr (sym (sym (zero-mul (2 ^ drop p n b)) ∙ e))))
+  tie-signed true false c j C g d =
+      let z = other-side (c * 2 ^ j) g in tie-multiple 0 (z .1)
+      (λ e. d (z .0 ∙ sym (zero-mul (2 ^ drop p n b)) ∙ e) (inr (sym (sym (zero-mul (2 ^ drop p n b)) ∙ e))))
+  tie-signed false true c j C g d =
+      let z = other-side (c * 2 ^ j) g in tie-multiple 0 (z .1)
+      (λ e. d (z .0 ∙ sym (zero-mul (2 ^ drop p n b)) ∙ e) (inr (sym (sym (zero-mul (2 ^ drop p n b)) ∙ e))))
 
 -- ---- a float that is X / L, with the sign t
 far-scale : (x : Float) (t : Bool) (X L : ℕ) (s : Bool) (a b : ℕ) → HasValue x t X L → farFrom x (signed s a) b * L ≡ apart t (X * b) s (a * L) * den x
@@ -163,7 +173,8 @@ even-bits : (f : Format) (s : Bool) (k q : ℕ) → q % 2 ≡ 0 → (cond s (top
 even-bits f s k q e =
     let h = 2 ^ (prec f - 2) in
     let H : hid f ≡ h * 2 = ap (λ (x : ℕ). 2 ^ x) (one (prec f) (two f)) ∙ pow-suc 2 (prec f - 2) in
-    go s (k * hid f) (k * h) (top f) (h * suc (ones f)) (ap (λ (x : ℕ). k * x) H ∙ sym (mul-assoc k h 2)) (ap (λ (x : ℕ). x * suc (ones f)) H ∙ mul-right-comm h 2 (suc (ones f)))
+    go s (k * hid f) (k * h) (top f) (h * suc (ones f)) (ap (λ (x : ℕ). k * x) H ∙ sym (mul-assoc k h 2))
+    (ap (λ (x : ℕ). x * suc (ones f)) H ∙ mul-right-comm h 2 (suc (ones f)))
   where
     one : (p : ℕ) → 2 ≤ p → p - 1 ≡ suc (p - 2)
     one p h = omega arith
@@ -203,12 +214,16 @@ module _ (f : Format) (s : Bool) (a b : ℕ) (B : 0 < b) (finished : T (finite (
       same = div-div-eq-div-mul (a * 2 ^ low f) b (2 ^ j)
 
       most : q ≤ 2 ^ prec f
-      most = le-trans (nearest-le (a * 2 ^ low f / (b * 2 ^ j)) (compare (a * 2 ^ low f % (b * 2 ^ j) * 2) (b * 2 ^ j))) (subst (λ (x : ℕ). x < 2 ^ prec f) same (kept-lt (prec f) (a * 2 ^ low f / b)))
+      most =
+          le-trans (nearest-le (a * 2 ^ low f / (b * 2 ^ j)) (compare (a * 2 ^ low f % (b * 2 ^ j) * 2) (b * 2 ^ j)))
+          (subst (λ (x : ℕ). x < 2 ^ prec f) same (kept-lt (prec f) (a * 2 ^ low f / b)))
 
       full : (j ≡ 0) ⊎ (hid f ≤ q)
       full = elim (eq-zero-or-pos j) [
         | inl z ↦ inl z
-        | inr h ↦ inr (le-trans (subst (λ (x : ℕ). hid f ≤ x) same (le-div-iff-mul-le (pow-pos j) .1 (leading (prec f) (a * 2 ^ low f / b) P j refl h))) (nearest-ge (a * 2 ^ low f / (b * 2 ^ j)) (compare (a * 2 ^ low f % (b * 2 ^ j) * 2) (b * 2 ^ j))))
+        | inr h ↦
+            inr (le-trans (subst (λ (x : ℕ). hid f ≤ x) same (le-div-iff-mul-le (pow-pos j) .1 (leading (prec f) (a * 2 ^ low f / b) P j refl h)))
+            (nearest-ge (a * 2 ^ low f / (b * 2 ^ j)) (compare (a * 2 ^ low f % (b * 2 ^ j) * 2) (b * 2 ^ j))))
       ]
 
   module _ (x : Float) (F : T (fits f x)) (g : T (finite x)) where
@@ -222,21 +237,31 @@ module _ (f : Format) (s : Bool) (a b : ℕ) (B : 0 < b) (finished : T (finite (
     -- both distances, in the same units
     r-far : farFrom (round f s a b) (signed s a) b * den x * 2 ^ low f ≡ apart s (R (prec f) n b P B * b) s n * (den (round f s a b) * den x)
     unfolding n
-    r-far = mul-right-comm (farFrom (round f s a b) (signed s a) b) (den x) (2 ^ low f) ∙ ap (λ (y : ℕ). y * den x) (far-scale (round f s a b) s (R (prec f) n b P B) (2 ^ low f) s a b r-value) ∙ mul-assoc (apart s (R (prec f) n b P B * b) s n) (den (round f s a b)) (den x)
+    r-far =
+        mul-right-comm (farFrom (round f s a b) (signed s a) b) (den x) (2 ^ low f)
+        ∙ ap (λ (y : ℕ). y * den x) (far-scale (round f s a b) s (R (prec f) n b P B) (2 ^ low f) s a b r-value)
+        ∙ mul-assoc (apart s (R (prec f) n b P B * b) s n) (den (round f s a b)) (den x)
 
     x-far : farFrom x (signed s a) b * den (round f s a b) * 2 ^ low f ≡ apart t (worth f x * b) s n * (den (round f s a b) * den x)
     unfolding n
-    x-far = mul-right-comm (farFrom x (signed s a) b) (den (round f s a b)) (2 ^ low f) ∙ ap (λ (y : ℕ). y * den (round f s a b)) (far-scale x t (worth f x) (2 ^ low f) s a b x-value) ∙ mul-assoc (apart t (worth f x * b) s n) (den x) (den (round f s a b)) ∙ ap (λ (y : ℕ). apart t (worth f x * b) s n * y) (mul-comm (den x) (den (round f s a b)))
+    x-far =
+        mul-right-comm (farFrom x (signed s a) b) (den (round f s a b)) (2 ^ low f)
+        ∙ ap (λ (y : ℕ). y * den (round f s a b)) (far-scale x t (worth f x) (2 ^ low f) s a b x-value)
+        ∙ mul-assoc (apart t (worth f x * b) s n) (den x) (den (round f s a b))
+        ∙ ap (λ (y : ℕ). apart t (worth f x * b) s n * y) (mul-comm (den x) (den (round f s a b)))
 
     nearer : farFrom (round f s a b) (signed s a) b * den x ≤ farFrom x (signed s a) b * den (round f s a b)
     unfolding worth
     nearer =
         le-of-mul-le-mul-right
-        (le-trans (le-of-eq r-far) (le-trans (mul-le-mul-right (den (round f s a b) * den x) (near-signed (prec f) n b P B s t (sig f (toBits f x)) (place f (toBits f x)) (sig-lt f (toBits f x)))) (le-of-eq (sym x-far))))
+        (le-trans (le-of-eq r-far) (le-trans
+        (mul-le-mul-right (den (round f s a b) * den x)
+        (near-signed (prec f) n b P B s t (sig f (toBits f x)) (place f (toBits f x)) (sig-lt f (toBits f x)))) (le-of-eq (sym x-far))))
         (pow-pos (low f))
 
     -- the same value
-    same-value : worth f x ≡ R (prec f) n b P B → (t ≡ s) ⊎ (R (prec f) n b P B ≡ 0) → signedNum x *ℤ pos (den (round f s a b)) ≡ signedNum (round f s a b) *ℤ pos (den x)
+    same-value : worth f x ≡ R (prec f) n b P B → (t ≡ s) ⊎ (R (prec f) n b P B ≡ 0)
+        → signedNum x *ℤ pos (den (round f s a b)) ≡ signedNum (round f s a b) *ℤ pos (den x)
     same-value e o =
         let r = round f s a b in
         let L = 2 ^ low f in
@@ -244,14 +269,17 @@ module _ (f : Format) (s : Bool) (a b : ℕ) (B : 0 < b) (finished : T (finite (
         let rc : num r * L ≡ R (prec f) n b P B * den r = cross r s (R (prec f) n b P B) L r-value in
         let c : num x * den r ≡ num r * den x =
         eq-of-mul-eq-mul-right L (pow-pos (low f)) (num x * den r) (num r * den x)
-        (mul-right-comm (num x) (den r) L ∙ ap (λ (y : ℕ). y * den r) (xc ∙ ap (λ (y : ℕ). y * den x) e) ∙ mul-right-comm (R (prec f) n b P B) (den x) (den r) ∙ ap (λ (y : ℕ). y * den x) (sym rc) ∙ mul-right-comm (num r) L (den x)) in
+        (mul-right-comm (num x) (den r) L ∙ ap (λ (y : ℕ). y * den r) (xc ∙ ap (λ (y : ℕ). y * den x) e) ∙ mul-right-comm (R (prec f) n b P B) (den x) (den r)
+        ∙ ap (λ (y : ℕ). y * den x) (sym rc) ∙ mul-right-comm (num r) L (den x)) in
         ap (λ (z : ℤ). z *ℤ pos (den r)) (signedNum-is x t (worth f x) L x-value)
         ∙ signed-times t (num x) (den r)
         ∙ sides (num x * den r) (num r * den x) c (zero-of (num x) (worth f x) (den x) (den r) xc e) o
         ∙ sym (ap (λ (z : ℤ). z *ℤ pos (den x)) (signedNum-is r s (R (prec f) n b P B) L r-value) ∙ signed-times s (num r) (den x))
       where
         zero-of : (N X d c : ℕ) → N * 2 ^ low f ≡ X * d → X ≡ R (prec f) n b P B → R (prec f) n b P B ≡ 0 → N * c ≡ 0
-        zero-of N X d c h e z = ap (λ (y : ℕ). y * c) (eq-of-mul-eq-mul-right (2 ^ low f) (pow-pos (low f)) N 0 (h ∙ ap (λ (y : ℕ). y * d) (e ∙ z) ∙ zero-mul d ∙ sym (zero-mul (2 ^ low f)))) ∙ zero-mul c
+        zero-of N X d c h e z =
+            ap (λ (y : ℕ). y * c) (eq-of-mul-eq-mul-right (2 ^ low f) (pow-pos (low f)) N 0
+            (h ∙ ap (λ (y : ℕ). y * d) (e ∙ z) ∙ zero-mul d ∙ sym (zero-mul (2 ^ low f)))) ∙ zero-mul c
 
         nought : (t s : Bool) → signed t 0 ≡ signed s 0
         nought true true = refl
@@ -265,12 +293,14 @@ module _ (f : Format) (s : Bool) (a b : ℕ) (B : 0 < b) (finished : T (finite (
           | inr h ↦ ap (λ (y : ℕ). signed t y) (z h) ∙ nought t s ∙ ap (λ (y : ℕ). signed s y) (sym (sym c ∙ z h))
         ]
 
-    tied : farFrom (round f s a b) (signed s a) b * den x ≡ farFrom x (signed s a) b * den (round f s a b) → (signedNum x *ℤ pos (den (round f s a b)) ≡ signedNum (round f s a b) *ℤ pos (den x) → ⊥) → toBits f (round f s a b) % 2 ≡ 0
+    tied : farFrom (round f s a b) (signed s a) b * den x ≡ farFrom x (signed s a) b * den (round f s a b)
+        → (signedNum x *ℤ pos (den (round f s a b)) ≡ signedNum (round f s a b) *ℤ pos (den x) → ⊥) → toBits f (round f s a b) % 2 ≡ 0
     unfolding worth q n
     tied e d =
         r-even
         (tie-signed (prec f) n b P B s t (sig f (toBits f x)) (place f (toBits f x)) (sig-lt f (toBits f x))
-        (eq-of-mul-eq-mul-right (den (round f s a b) * den x) (mul-pos (den-pos (round f s a b)) (den-pos x)) (apart s (R (prec f) n b P B * b) s n) (apart t (worth f x * b) s n)
+        (eq-of-mul-eq-mul-right (den (round f s a b) * den x) (mul-pos (den-pos (round f s a b)) (den-pos x)) (apart s (R (prec f) n b P B * b) s n)
+        (apart t (worth f x * b) s n)
         (sym r-far ∙ ap (λ (y : ℕ). y * 2 ^ low f) e ∙ x-far))
         (λ h o. d (same-value h o)))
 

@@ -26,13 +26,17 @@ less-one x = omega arith
 
 fields-value : (f : Format) (s : Bool) (x t : ℕ) → T (finite (ofFields f s x t)) → HasValue (ofFields f s x t) s ((lead f x + t) * 2 ^ (x - 1)) (2 ^ low f)
 unfolding ofFields
-fields-value f s zero t h = subst (λ (y : ℕ). HasValue (odd (prec f) s t 0 (low f)) s (y * 2 ^ 0) (2 ^ low f)) (sym (zero-add t)) (odd-sign (prec f) s t 0 (low f))
+fields-value f s zero t h =
+    subst (λ (y : ℕ). HasValue (odd (prec f) s t 0 (low f)) s (y * 2 ^ 0) (2 ^ low f)) (sym (zero-add t)) (odd-sign (prec f) s t 0 (low f))
 fields-value f s (suc x) t h =
-    subst (λ (b : Bool). HasValue (cond (eqb (suc x) (ones f)) (cond (eqb t 0) (inf s) nan) (odd (prec f) s (hid f + t) x (low f))) s ((cond b 0 (hid f) + t) * 2 ^ (suc x - 1)) (2 ^ low f)) (sym (eqb·suc-zero x))
-    (subst (λ (y : ℕ). HasValue (cond (eqb (suc x) (ones f)) (cond (eqb t 0) (inf s) nan) (odd (prec f) s (hid f + t) x (low f))) s ((hid f + t) * 2 ^ y) (2 ^ low f)) (sym (less-one x))
+    subst (λ (b : Bool). HasValue (cond (eqb (suc x) (ones f)) (cond (eqb t 0) (inf s) nan) (odd (prec f) s (hid f + t) x (low f))) s
+    ((cond b 0 (hid f) + t) * 2 ^ (suc x - 1)) (2 ^ low f)) (sym (eqb·suc-zero x))
+    (subst (λ (y : ℕ). HasValue (cond (eqb (suc x) (ones f)) (cond (eqb t 0) (inf s) nan) (odd (prec f) s (hid f + t) x (low f))) s ((hid f + t) * 2 ^ y)
+    (2 ^ low f)) (sym (less-one x))
     (go (eqb (suc x) (ones f)) (eqb t 0) h))
   where
-    go : (b c : Bool) → T (finite (cond b (cond c (inf s) nan) (odd (prec f) s (hid f + t) x (low f)))) → HasValue (cond b (cond c (inf s) nan) (odd (prec f) s (hid f + t) x (low f))) s ((hid f + t) * 2 ^ x) (2 ^ low f)
+    go : (b c : Bool) → T (finite (cond b (cond c (inf s) nan) (odd (prec f) s (hid f + t) x (low f))))
+        → HasValue (cond b (cond c (inf s) nan) (odd (prec f) s (hid f + t) x (low f))) s ((hid f + t) * 2 ^ x) (2 ^ low f)
     go true true k = absurd k
     go true false k = absurd k
     go false c k = odd-sign (prec f) s (hid f + t) x (low f)
@@ -47,16 +51,20 @@ pattern-value f n h =
     subst (λ (v : Float). HasValue v (leb (top f) n) ((lead f (field f n) + n % hid f) * 2 ^ (field f n - 1)) (2 ^ low f)) (sym (ofBits-is f n))
     (fields-value f (leb (top f) n) (field f n) (n % hid f) (subst (λ (v : Float). T (finite v)) (ofBits-is f n) h))
 
-pub decode : (f : Format) (v : Float) → T (fits f v) → T (finite v) → HasValue v (leb (top f) (toBits f v)) (sig f (toBits f v) * 2 ^ place f (toBits f v)) (2 ^ low f)
+pub decode : (f : Format) (v : Float) → T (fits f v) → T (finite v)
+    → HasValue v (leb (top f) (toBits f v)) (sig f (toBits f v) * 2 ^ place f (toBits f v)) (2 ^ low f)
 decode f v F h =
     let n = toBits f v in
     let e : ofBits f n ≡ v = ofBits-toBits f v F in
-    subst (λ (w : Float). HasValue w (leb (top f) n) (sig f n * 2 ^ place f n) (2 ^ low f)) e (pattern-value f n (subst (λ (w : Float). T (finite w)) (sym e) h))
+    subst (λ (w : Float). HasValue w (leb (top f) n) (sig f n * 2 ^ place f n) (2 ^ low f)) e
+    (pattern-value f n (subst (λ (w : Float). T (finite w)) (sym e) h))
 
 -- ---- bounds
 pub sig-lt : (f : Format) (n : ℕ) → sig f n < 2 ^ prec f
 unfolding sig
-sig-lt f n = go (eqb (field f n) 0) (hid f) (n % hid f) (2 ^ prec f) (mod-lt n (pow-pos (prec f - 1))) (top-digit (prec f) (two-le-pos (prec f) (two f)) ∙ mul-comm (2 ^ (prec f - 1)) 2)
+sig-lt f n =
+    go (eqb (field f n) 0) (hid f) (n % hid f) (2 ^ prec f) (mod-lt n (pow-pos (prec f - 1)))
+    (top-digit (prec f) (two-le-pos (prec f) (two f)) ∙ mul-comm (2 ^ (prec f - 1)) 2)
   where
     no : (h t w : ℕ) → t < h → w ≡ 2 * h → 0 + t < w
     no h t w l e = omega arith
@@ -70,7 +78,9 @@ sig-lt f n = go (eqb (field f n) 0) (hid f) (n % hid f) (2 ^ prec f) (mod-lt n (
 
 pub place-le : (f : Format) (n : ℕ) → place f n ≤ 2 * emax f
 unfolding place
-place-le f n = cut (field f n) (emax f) (div-lt-iff-lt-mul (pow-pos (prec f - 1)) .1 (subst (λ (a : ℕ). n % top f < a) (mul-comm (hid f) (suc (ones f))) (mod-lt n (mul-pos (pow-pos (prec f - 1)) (zero-lt-suc (ones f))))))
+place-le f n =
+    cut (field f n) (emax f) (div-lt-iff-lt-mul (pow-pos (prec f - 1)) .1
+    (subst (λ (a : ℕ). n % top f < a) (mul-comm (hid f) (suc (ones f))) (mod-lt n (mul-pos (pow-pos (prec f - 1)) (zero-lt-suc (ones f))))))
   where
     cut : (x e : ℕ) → x < suc (2 * e + 1) → x - 1 ≤ 2 * e
     cut x e h = omega arith

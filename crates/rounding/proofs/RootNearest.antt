@@ -1,19 +1,18 @@
--- `rooted f n` is a nearest value of the format to the root of n: for any other value Y of the format the root lies on its side of the middle between the two,
--- as squares of whole numbers say. All in smallest values. Assumes nothing.
+-- `rooted f n` is a nearest value of the format to the square root of n: for any other value Y of the format the root lies on its side of the middle between
+-- the two, as squares of whole numbers say. All in smallest values. Assumes nothing.
 use mathlib.Core.Path.{_≡_, refl, sym, ap, ap₂, _∙_, subst}
 use mathlib.Core.Logic.{_⊎_, inl, inr}
 use mathlib.Core.Bool.{false}
 use Prim.Native.Nat.{ℕ, zero, suc, _+_, _-_, _*_, _/_, _%_, _^_, _≤_, _<_, compare, Ordering, Ordering·lt, Ordering·eq, Ordering·gt}
-use native.Mathlib.Nat.{mul-assoc, mul-comm, mul-mul-mul-comm, mul-le-mul, mul-le-mul-right, add-mul, one-mul, suc-mul, div-mul-le-self, div-add-mod', mod-lt, le-div-iff-mul-le, le-trans, le-of-eq, le-of-lt}
+use native.Mathlib.Nat.{mul-assoc, mul-comm, mul-le-mul, mul-le-mul-right, add-mul, one-mul, suc-mul, div-mul-le-self}
+use native.Mathlib.Nat.{le-trans, le-of-eq, le-of-lt}
 use native.Mathlib.Omega.{arith}
-use lib.Pow.{pow-pos}
 use lib.Ieee.{Format, prec, size, nearest, units}
-use lib.Ieee.Fits.{two, two-le-pos, nearest-le, kept-lt}
+use lib.Ieee.Fits.{nearest-le, kept-lt}
 use Rattle.rounding.specs.Roots.{root, rooted}
 use Rattle.rounding.proofs.Halves.{Cmp, cmp}
-use Rattle.rounding.proofs.Grid.{on-grid}
-use Rattle.rounding.proofs.Basics.{le-or-lt}
-use Rattle.rounding.proofs.Roots.{root-is}
+use Rattle.rounding.proofs.Cuts.{gone, kept, cut-le, cut-gt, cut-off}
+use Rattle.rounding.proofs.Roots.{double-square, square-root-is}
 
 -- the root lies on R's side of the middle between R and Y
 abbrev pub Sides : ℕ → ℕ → ℕ → Type 0
@@ -23,7 +22,7 @@ squares : (a b : ℕ) → a ≤ b → a * a ≤ b * b
 squares a b h = mul-le-mul h h
 
 four : (a : ℕ) → 2 * a * (2 * a) ≡ a * a * 4
-four a = mul-mul-mul-comm 2 a 2 a ∙ mul-comm 4 (a * a)
+four a = double-square a ∙ mul-comm 4 (a * a)
 
 -- F is the root w cut to a multiple of D, mid / 2 the middle from there to the next, and Y lies at F or below, or at the next or above
 module _ (n w F D mid Y : ℕ) (lo : w * w ≤ n) (hi : n < (w + 1) * (w + 1)) (fl : F ≤ w) (fu : w < F + D) (m : mid ≡ F + F + D) (o : (Y ≤ F) ⊎ (F + D ≤ Y)) where
@@ -67,20 +66,21 @@ module _ (f : Format) (n : ℕ) where
   -- what `rooted` keeps, and how many digits it drops
   pub keptRoot : ℕ
   keptRoot =
-      let k = size (root n) - prec f in
-      let q = root n / 2 ^ k in
+      let k = size (root 2 n) - prec f in
+      let q = root 2 n / 2 ^ k in
       nearest q (compare (n * 4) ((2 * q + 1) * 2 ^ k * ((2 * q + 1) * 2 ^ k)))
 
-  pub rooted-is : rooted f n ≡ units f false keptRoot (size (root n) - prec f)
+  pub rooted-is : rooted f n ≡ units f false keptRoot (size (root 2 n) - prec f)
   unfolding rooted keptRoot
   rooted-is = refl
 
-  pub keptRoot-le : keptRoot * 2 ^ (size (root n) - prec f) ≤ root n + 2 ^ (size (root n) - prec f)
+  pub keptRoot-le : keptRoot * 2 ^ (size (root 2 n) - prec f) ≤ root 2 n + 2 ^ (size (root 2 n) - prec f)
   unfolding keptRoot
   keptRoot-le =
-      let k = size (root n) - prec f in
-      let q = root n / 2 ^ k in
-      le-trans (mul-le-mul-right (2 ^ k) (nearest-le q (compare (n * 4) ((2 * q + 1) * 2 ^ k * ((2 * q + 1) * 2 ^ k))))) (le-trans (le-of-eq (suc-mul q (2 ^ k))) (more (q * 2 ^ k) (root n) (2 ^ k) (div-mul-le-self (root n) (2 ^ k))))
+      let k = size (root 2 n) - prec f in
+      let q = root 2 n / 2 ^ k in
+      le-trans (mul-le-mul-right (2 ^ k) (nearest-le q (compare (n * 4) ((2 * q + 1) * 2 ^ k * ((2 * q + 1) * 2 ^ k)))))
+      (le-trans (le-of-eq (suc-mul q (2 ^ k))) (more (q * 2 ^ k) (root 2 n) (2 ^ k) (div-mul-le-self (root 2 n) (2 ^ k))))
     where
       more : (a b d : ℕ) → a ≤ b → a + d ≤ b + d
       more a b d h = omega arith
@@ -88,35 +88,16 @@ module _ (f : Format) (n : ℕ) where
   pub keptRoot-digits : keptRoot ≤ 2 ^ prec f
   unfolding keptRoot
   keptRoot-digits =
-      let k = size (root n) - prec f in
-      let q = root n / 2 ^ k in
-      le-trans (nearest-le q (compare (n * 4) ((2 * q + 1) * 2 ^ k * ((2 * q + 1) * 2 ^ k)))) (kept-lt (prec f) (root n))
+      let k = size (root 2 n) - prec f in
+      let q = root 2 n / 2 ^ k in
+      le-trans (nearest-le q (compare (n * 4) ((2 * q + 1) * 2 ^ k * ((2 * q + 1) * 2 ^ k)))) (kept-lt (prec f) (root 2 n))
 
   module _ (c j : ℕ) (C : c < 2 ^ prec f) where
     D : ℕ
-    D = 2 ^ (size (root n) - prec f)
+    D = 2 ^ (size (root 2 n) - prec f)
 
     q : ℕ
-    q = root n / 2 ^ (size (root n) - prec f)
-
-    off : (c * 2 ^ j ≤ q * D) ⊎ (q * D + D ≤ c * 2 ^ j)
-    unfolding D q
-    off =
-        let k = size (root n) - prec f in
-        elim (on-grid (prec f) (root n) (two-le-pos (prec f) (two f)) c j C) [
-          | inl y ↦ elim (le-or-lt (y .0) (root n / 2 ^ k)) [
-            | inl l ↦ inl (le-trans (le-of-eq (y .1)) (mul-le-mul-right (2 ^ k) l))
-            | inr l ↦ inr (le-trans (le-of-eq (sym (suc-mul (root n / 2 ^ k) (2 ^ k)))) (le-trans (mul-le-mul-right (2 ^ k) l) (le-of-eq (sym (y .1)))))
-          ]
-          | inr y ↦ inl (le-trans (le-of-lt (y .0)) (mul-le-mul-right (2 ^ k) (le-div-iff-mul-le (pow-pos k) .1 (y .1))))
-        ]
-
-    above : root n < q * D + D
-    unfolding D q
-    above = let k = size (root n) - prec f in go (root n) (root n / 2 ^ k * 2 ^ k) (root n % 2 ^ k) (2 ^ k) (div-add-mod' (root n) (2 ^ k)) (mod-lt (root n) (pow-pos k))
-      where
-        go : (w a r d : ℕ) → a + r ≡ w → r < d → w < a + d
-        go w a r d e l = omega arith
+    q = root 2 n / 2 ^ (size (root 2 n) - prec f)
 
     middle : (2 * q + 1) * D ≡ q * D + q * D + D
     middle = add-mul (2 * q) 1 D ∙ ap₂ (λ (x y : ℕ). x + y) (mul-assoc 2 q D ∙ double (q * D)) (one-mul D)
@@ -125,25 +106,30 @@ module _ (f : Format) (n : ℕ) where
         double a = omega arith
 
     floor-side : n * 4 ≤ (2 * q + 1) * D * ((2 * q + 1) * D) → Sides n (q * D) (c * 2 ^ j)
-    unfolding D q
-    floor-side h = at-floor n (root n) (q * D) D ((2 * q + 1) * D) (c * 2 ^ j) (root-is n .0) (root-is n .1) (div-mul-le-self (root n) D) above middle off h
+    unfolding D q kept gone
+    floor-side h =
+        at-floor n (root 2 n) (q * D) D ((2 * q + 1) * D) (c * 2 ^ j) (square-root-is n .0) (square-root-is n .1)
+        (cut-le f (root 2 n)) (cut-gt f (root 2 n)) middle (cut-off f (root 2 n) c j C) h
 
     next-side : (2 * q + 1) * D * ((2 * q + 1) * D) ≤ n * 4 → Sides n (q * D + D) (c * 2 ^ j)
-    unfolding D q
-    next-side h = at-next n (root n) (q * D) D ((2 * q + 1) * D) (c * 2 ^ j) (root-is n .0) (root-is n .1) (div-mul-le-self (root n) D) above middle off h
+    unfolding D q kept gone
+    next-side h =
+        at-next n (root 2 n) (q * D) D ((2 * q + 1) * D) (c * 2 ^ j) (square-root-is n .0) (square-root-is n .1)
+        (cut-le f (root 2 n)) (cut-gt f (root 2 n)) middle (cut-off f (root 2 n) c j C) h
 
     by-last : (b : ℕ) → b < 2 → n * 4 ≡ (2 * q + 1) * D * ((2 * q + 1) * D) → Sides n ((q + b) * D) (c * 2 ^ j)
     by-last zero h e = subst (λ (x : ℕ). Sides n (x * D) (c * 2 ^ j)) (none q) (floor-side (le-of-eq e))
       where
         none : (q : ℕ) → q ≡ q + 0
         none q = omega arith
-    by-last (suc zero) h e = subst (λ (x : ℕ). Sides n x (c * 2 ^ j)) (sym (add-mul q 1 D ∙ ap (λ (x : ℕ). q * D + x) (one-mul D))) (next-side (le-of-eq (sym e)))
+    by-last (suc zero) h e =
+        subst (λ (x : ℕ). Sides n x (c * 2 ^ j)) (sym (add-mul q 1 D ∙ ap (λ (x : ℕ). q * D + x) (one-mul D))) (next-side (le-of-eq (sym e)))
     by-last (suc (suc b)) h e = absurd (no b h)
       where
         no : (b : ℕ) → suc (suc b) < 2 → ⊥
         no b h = omega arith
 
-    pub root-sides : Sides n (keptRoot * 2 ^ (size (root n) - prec f)) (c * 2 ^ j)
+    pub root-sides : Sides n (keptRoot * 2 ^ (size (root 2 n) - prec f)) (c * 2 ^ j)
     unfolding keptRoot D q
     root-sides = go (compare (n * 4) ((2 * q + 1) * D * ((2 * q + 1) * D))) (cmp (n * 4) ((2 * q + 1) * D * ((2 * q + 1) * D)))
       where

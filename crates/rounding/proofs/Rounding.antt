@@ -2,7 +2,9 @@
 use mathlib.Core.Path.{_≡_, sym, ap, ap₂, _∙_, subst}
 use mathlib.Core.Logic.{_⊎_, inl, inr}
 use Prim.Native.Nat.{ℕ, suc, _+_, _-_, _*_, _/_, _%_, _^_, _≤_, _<_, zero-le, _∣_}
-use native.Mathlib.Nat.{div-add-mod', mod-lt, mul-assoc, mul-comm, mul-right-comm, mul-pos, pow-suc, mul-div-mul-right, div-div-eq-div-mul, div-lt-iff-lt-mul, le-div-iff-mul-le, lt-of-lt-of-le, lt-of-not-le, not-le-of-lt, le-antisymm, zero-lt-suc, zero-mul, eq-zero-or-pos, lt-irrefl, mul-lt-mul-of-pos-right, add-mul, add-sub-of-le, le-trans, lt-of-le-of-lt, le-add-right, mod-mod-of-dvd, dvd-mul-right, zero-mod}
+use native.Mathlib.Nat.{div-add-mod', mod-lt, mul-assoc, mul-comm, mul-right-comm, mul-pos, pow-suc, mul-div-mul-right, div-div-eq-div-mul, div-lt-iff-lt-mul}
+use native.Mathlib.Nat.{le-div-iff-mul-le, lt-of-lt-of-le, lt-of-not-le, not-le-of-lt, le-antisymm, zero-lt-suc, zero-mul, eq-zero-or-pos, lt-irrefl}
+use native.Mathlib.Nat.{mul-lt-mul-of-pos-right, add-mul, add-sub-of-le, le-trans, lt-of-le-of-lt, le-add-right, mod-mod-of-dvd, dvd-mul-right, zero-mod}
 use native.Mathlib.Omega.{arith}
 use mathlib.Core.Bool.{Bool}
 use lib.Arith.{digits-mod}
@@ -62,7 +64,8 @@ round-halves f s num den k D hi lo =
 -- ---- the same of N / 2 ^ (low + 1 + y): the halves of the last digit that stays are N / 2 ^ (y + k)
 scaled-mod : (a b c : ℕ) → 0 < b → 0 < c → a * c % (b * c) ≡ a % b * c
 scaled-mod a b c B C =
-    ap (λ (x : ℕ). x % (b * c)) (ap (λ (x : ℕ). x * c) (sym (div-add-mod' a b)) ∙ add-mul (a / b * b) (a % b) c ∙ ap (λ (x : ℕ). x + a % b * c) (mul-assoc (a / b) b c))
+    ap (λ (x : ℕ). x % (b * c)) (ap (λ (x : ℕ). x * c) (sym (div-add-mod' a b)) ∙ add-mul (a / b * b) (a % b) c
+    ∙ ap (λ (x : ℕ). x + a % b * c) (mul-assoc (a / b) b c))
     ∙ digits-mod (a / b) (mul-lt-mul-of-pos-right (mod-lt a B) C)
 
 zero-of-mul : (a c : ℕ) → 0 < c → a * c ≡ 0 → a ≡ 0
@@ -95,8 +98,8 @@ module _ (f : Format) (s : Bool) (N y k : ℕ) where
       (zero-of-mul (N % 2 ^ (y + k)) (2 ^ suc (low f)) (pow-pos (suc (low f))))
       (λ e. ap (λ (x : ℕ). x * 2 ^ suc (low f)) e ∙ zero-mul (2 ^ suc (low f))))
 
--- ---- two numbers N and M that lie strictly between the same two multiples of 2 ^ t round alike, where a half of the last digit that stays is a multiple of 2 ^ t
--- how many digits of N go: there is a k as `round-pow` asks
+-- ---- two numbers N and M that lie strictly between the same two multiples of 2 ^ t round alike, where a half of the last digit that stays is a multiple of
+-- 2 ^ t how many digits of N go: there is a k as `round-pow` asks
 pub level : (p N y : ℕ) → (k : ℕ) × (N / 2 ^ (y + k) < 2 ^ suc p) × ((k ≡ 0) ⊎ (2 ^ p ≤ N / 2 ^ (y + k)))
 level p N y =
     let w = N / 2 ^ y in
@@ -106,7 +109,9 @@ level p N y =
       subst (λ (x : ℕ). x < 2 ^ suc p) e (kept-lt (suc p) w),
       elim (eq-zero-or-pos k) [
         | inl z ↦ inl z
-        | inr g ↦ inr (subst (λ (x : ℕ). 2 ^ p ≤ x) e (le-div-iff-mul-le (pow-pos k) .1 (subst (λ (x : ℕ). x ≤ w) (pow-add 2 p k) (size-reaches w (p + k) (below (size w) p g)))))
+        | inr g ↦
+            inr (subst (λ (x : ℕ). 2 ^ p ≤ x) e
+            (le-div-iff-mul-le (pow-pos k) .1 (subst (λ (x : ℕ). x ≤ w) (pow-add 2 p k) (size-reaches w (p + k) (below (size w) p g)))))
       ],
     )
   where
@@ -118,7 +123,8 @@ coarser N a b h = elim (eq-zero-or-pos (N % 2 ^ (a + b))) [
   | inl z ↦
       absurd (lt-irrefl 0
       (subst (λ (x : ℕ). 0 < x)
-      (sym (mod-mod-of-dvd (2 ^ a) N (subst (λ (x : ℕ). 2 ^ a ∣ x) (sym (pow-add 2 a b)) (dvd-mul-right (2 ^ a) (2 ^ b)))) ∙ ap (λ (x : ℕ). x % 2 ^ a) z ∙ zero-mod (2 ^ a)) h))
+      (sym (mod-mod-of-dvd (2 ^ a) N (subst (λ (x : ℕ). 2 ^ a ∣ x) (sym (pow-add 2 a b)) (dvd-mul-right (2 ^ a) (2 ^ b)))) ∙ ap (λ (x : ℕ). x % 2 ^ a) z
+      ∙ zero-mod (2 ^ a)) h))
   | inr p ↦ p
 ]
 
@@ -136,17 +142,21 @@ sticky f s N M y t c e n m =
     let k = lv .0 in
     let t-le : t ≤ y + k = elim c [
       | inl l ↦ le-trans l (le-add-right y k)
-      | inr g ↦ reach t p y k (less-back (t + p) (suc p + (y + k)) (lt-of-le-of-lt g (subst (λ (x : ℕ). M < x) (sym (pow-add 2 (suc p) (y + k))) (div-lt-iff-lt-mul (pow-pos (y + k)) .0 (lv .1)))))
+      | inr g ↦
+          reach t p y k (less-back (t + p) (suc p + (y + k))
+          (lt-of-le-of-lt g (subst (λ (x : ℕ). M < x) (sym (pow-add 2 (suc p) (y + k))) (div-lt-iff-lt-mul (pow-pos (y + k)) .0 (lv .1)))))
     ] in
     let d = y + k - t in
     let j : t + d ≡ y + k = add-sub-of-le t-le in
-    let same : N / 2 ^ (y + k) ≡ M / 2 ^ (y + k) = ap (λ (x : ℕ). N / 2 ^ x) (sym j) ∙ sym (shr-shr N t d) ∙ ap (λ (x : ℕ). x / 2 ^ d) e ∙ shr-shr M t d ∙ ap (λ (x : ℕ). M / 2 ^ x) j in
+    let same : N / 2 ^ (y + k) ≡ M / 2 ^ (y + k) = ap (λ (x : ℕ). N / 2 ^ x) (sym j) ∙ sym (shr-shr N t d) ∙ ap (λ (x : ℕ). x / 2 ^ d) e ∙ shr-shr M t d
+    ∙ ap (λ (x : ℕ). M / 2 ^ x) j in
     let n' : 0 < N % 2 ^ (y + k) = subst (λ (x : ℕ). 0 < N % 2 ^ x) j (coarser N t d n) in
     let m' : 0 < M % 2 ^ (y + k) = subst (λ (x : ℕ). 0 < M % 2 ^ x) j (coarser M t d m) in
     round-pow f s N y k (subst (λ (x : ℕ). x < 2 ^ suc p) (sym same) (lv .1)) (subst (λ (x : ℕ). (k ≡ 0) ⊎ (2 ^ p ≤ x)) (sym same) (lv .2))
     ∙ ap (λ (x : ℕ). units f s x k)
     (ap (λ (x : ℕ). halve x (N % 2 ^ (y + k))) same
-    ∙ halve-sticky (M / 2 ^ (y + k)) (N % 2 ^ (y + k)) (M % 2 ^ (y + k)) (λ z. absurd (not-zero (N % 2 ^ (y + k)) n' z)) (λ z. absurd (not-zero (M % 2 ^ (y + k)) m' z)))
+    ∙ halve-sticky (M / 2 ^ (y + k)) (N % 2 ^ (y + k)) (M % 2 ^ (y + k)) (λ z. absurd (not-zero (N % 2 ^ (y + k)) n' z))
+    (λ z. absurd (not-zero (M % 2 ^ (y + k)) m' z)))
     ∙ sym (round-pow f s M y k (lv .1) (lv .2))
 
 -- ---- m * 2 ^ z, where m is first shifted left by l and then cut by d digits: in code, l brings m to a fixed number of digits
@@ -158,15 +168,20 @@ module _ (f : Format) (s : Bool) (m z l y k d : ℕ) (e : y + k + l ≡ d + z) w
   cut-by = sym (pow-add 2 (y + k) l) ∙ ap (λ (x : ℕ). 2 ^ x) e ∙ pow-add 2 d z
 
   same-div : m * 2 ^ z / 2 ^ (y + k) ≡ m * 2 ^ l / 2 ^ d
-  same-div = sym (mul-div-mul-right (m * 2 ^ z) (2 ^ (y + k)) (pow-pos l)) ∙ ap₂ (λ (a b : ℕ). a / b) shifted cut-by ∙ mul-div-mul-right (m * 2 ^ l) (2 ^ d) (pow-pos z)
+  same-div =
+      sym (mul-div-mul-right (m * 2 ^ z) (2 ^ (y + k)) (pow-pos l)) ∙ ap₂ (λ (a b : ℕ). a / b) shifted cut-by
+      ∙ mul-div-mul-right (m * 2 ^ l) (2 ^ d) (pow-pos z)
 
   same-mod : m * 2 ^ z % 2 ^ (y + k) * 2 ^ l ≡ m * 2 ^ l % 2 ^ d * 2 ^ z
-  same-mod = sym (scaled-mod (m * 2 ^ z) (2 ^ (y + k)) (2 ^ l) (pow-pos (y + k)) (pow-pos l)) ∙ ap₂ (λ (a b : ℕ). a % b) shifted cut-by ∙ scaled-mod (m * 2 ^ l) (2 ^ d) (2 ^ z) (pow-pos d) (pow-pos z)
+  same-mod =
+      sym (scaled-mod (m * 2 ^ z) (2 ^ (y + k)) (2 ^ l) (pow-pos (y + k)) (pow-pos l)) ∙ ap₂ (λ (a b : ℕ). a % b) shifted cut-by
+      ∙ scaled-mod (m * 2 ^ l) (2 ^ d) (2 ^ z) (pow-pos d) (pow-pos z)
 
   pub round-at : m * 2 ^ l / 2 ^ d < 2 ^ suc (prec f) → (k ≡ 0) ⊎ (2 ^ prec f ≤ m * 2 ^ l / 2 ^ d)
       → round f s (m * 2 ^ z) (2 ^ (suc (low f) + y)) ≡ units f s (halve (m * 2 ^ l / 2 ^ d) (m * 2 ^ l % 2 ^ d)) k
   round-at hi lo =
-      round-pow f s (m * 2 ^ z) y k (subst (λ (x : ℕ). x < 2 ^ suc (prec f)) (sym same-div) hi) (subst (λ (x : ℕ). (k ≡ 0) ⊎ (2 ^ prec f ≤ x)) (sym same-div) lo)
+      round-pow f s (m * 2 ^ z) y k (subst (λ (x : ℕ). x < 2 ^ suc (prec f)) (sym same-div) hi)
+      (subst (λ (x : ℕ). (k ≡ 0) ⊎ (2 ^ prec f ≤ x)) (sym same-div) lo)
       ∙ ap (λ (x : ℕ). units f s x k)
       (ap (λ (x : ℕ). halve x (m * 2 ^ z % 2 ^ (y + k))) same-div
       ∙ halve-sticky (m * 2 ^ l / 2 ^ d) (m * 2 ^ z % 2 ^ (y + k)) (m * 2 ^ l % 2 ^ d)

@@ -2,13 +2,14 @@
 use mathlib.Core.Path.{_≡_, refl, sym, ap, ap₂, _∙_}
 use mathlib.Core.Bool.{Bool, true, false, not, _&&_, Bool·beq, cond}
 use Prim.Native.Nat.{ℕ, zero, suc, _+_, _-_, _*_, _≤_, _<_}
-use native.Mathlib.Nat.{add-comm, add-mul, mul-sub, mul-comm, zero-mul}
+use native.Mathlib.Nat.{add-comm, add-mul, mul-sub, mul-comm, zero-mul, mul-lt-mul-of-pos-right, mul-le-mul-right}
 use native.Mathlib.Omega.{arith}
 use lib.Dec.{T, ltb, ltb→lt, nltb→le}
 use borrow.Author.Tests.{lt-ltb, le-ltb}
 use lib.IntN.{ℤ, pos, negsuc, negℤ, natAbs, _+ℤ_, _-ℤ_, _*ℤ_, negℤ-negℤ, negℤ-+ℤ, +ℤ-comm}
 use lib.Ieee.{Format, round, sum}
 use Rattle.rounding.specs.Nearest.{signed}
+use Rattle.rounding.specs.Sums.{sumSign, sumSize}
 
 -- how far a and b lie apart, and the same of ±a and ±b
 abbrev pub gap : ℕ → ℕ → ℕ
@@ -86,17 +87,12 @@ apart-scale s a t b k = go (Bool·beq s t)
     go false = sym (add-mul a b k)
 
 -- ---- `sum` rounds the sum: its sign and its size
-unfoldable pub sumSign : Bool → ℕ → Bool → ℕ → Bool
-sumSign s a t b = cond (Bool·beq s t) s (cond (ltb a b) t (s && ltb b a))
-
-unfoldable pub sumSize : Bool → ℕ → Bool → ℕ → ℕ
-sumSize s a t b = cond (Bool·beq s t) (a + b) (cond (ltb a b) (b - a) (a - b))
-
 pub sum-rounds : (f : Format) (s : Bool) (a : ℕ) (t : Bool) (b c : ℕ) → sum f s a t b c ≡ round f (sumSign s a t b) (sumSize s a t b) c
 unfolding sum sumSign sumSize
 sum-rounds f s a t b c = go (Bool·beq s t) (ltb a b)
   where
-    go : (e l : Bool) → cond e (round f s (a + b) c) (cond l (round f t (b - a) c) (round f (s && ltb b a) (a - b) c)) ≡ round f (cond e s (cond l t (s && ltb b a))) (cond e (a + b) (cond l (b - a) (a - b))) c
+    go : (e l : Bool) → cond e (round f s (a + b) c) (cond l (round f t (b - a) c) (round f (s && ltb b a) (a - b) c)) ≡ round f
+        (cond e s (cond l t (s && ltb b a))) (cond e (a + b) (cond l (b - a) (a - b))) c
     go true l = refl
     go false true = refl
     go false false = refl
@@ -137,11 +133,63 @@ pub zero-sign : (s : Bool) (a : ℕ) (t : Bool) (b : ℕ) → sumSize s a t b �
 unfolding sumSign sumSize
 zero-sign false a false b h = refl
 zero-sign true a true b h = refl
-zero-sign false a true b h = by-order a b (λ l. absurd (some l (sym (ap (λ (c : Bool). cond c (b - a) (a - b)) (lt-ltb a b l)) ∙ h))) (λ l. ap (λ (c : Bool). cond c true false) (le-ltb a b l))
+zero-sign false a true b h =
+    by-order a b (λ l. absurd (some l (sym (ap (λ (c : Bool). cond c (b - a) (a - b)) (lt-ltb a b l)) ∙ h)))
+    (λ l. ap (λ (c : Bool). cond c true false) (le-ltb a b l))
   where
     some : a < b → b - a ≡ 0 → ⊥
     some l e = omega arith
-zero-sign true a false b h = by-order a b (λ l. ap (λ (c : Bool). cond c false (ltb b a)) (lt-ltb a b l)) (λ l. ap (λ (c : Bool). cond c false (ltb b a)) (le-ltb a b l) ∙ le-ltb b a (least l (sym (ap (λ (c : Bool). cond c (b - a) (a - b)) (le-ltb a b l)) ∙ h)))
+zero-sign true a false b h =
+    by-order a b (λ l. ap (λ (c : Bool). cond c false (ltb b a)) (lt-ltb a b l))
+    (λ l. ap (λ (c : Bool). cond c false (ltb b a)) (le-ltb a b l) ∙ le-ltb b a (least l (sym (ap (λ (c : Bool). cond c (b - a) (a - b)) (le-ltb a b l)) ∙ h)))
   where
     least : b ≤ a → a - b ≡ 0 → a ≤ b
     least l e = omega arith
+
+-- ---- a common factor w stays outside
+module _ (s : Bool) (a : ℕ) (t : Bool) (b w : ℕ) (W : 0 < w) where
+  test-scale : (a b : ℕ) → ltb (a * w) (b * w) ≡ ltb a b
+  test-scale a b =
+      by-order a b (λ h. lt-ltb (a * w) (b * w) (mul-lt-mul-of-pos-right h W) ∙ sym (lt-ltb a b h))
+      (λ h. le-ltb (a * w) (b * w) (mul-le-mul-right w h) ∙ sym (le-ltb a b h))
+
+  less-scale : (a b : ℕ) → a * w - b * w ≡ (a - b) * w
+  less-scale a b = ap₂ (λ (x y : ℕ). x - y) (mul-comm a w) (mul-comm b w) ∙ sym (mul-sub w a b) ∙ mul-comm w (a - b)
+
+  sign-scale : sumSign s (a * w) t (b * w) ≡ sumSign s a t b
+  unfolding sumSign
+  sign-scale = ap₂ (λ (l g : Bool). cond (Bool·beq s t) s (cond l t (s && g))) (test-scale a b) (test-scale b a)
+
+  size-scale : sumSize s (a * w) t (b * w) ≡ sumSize s a t b * w
+  unfolding sumSize
+  size-scale =
+      ap₂ (λ (x y : ℕ). cond (Bool·beq s t) x y) (sym (add-mul a b w))
+      (ap₂ (λ (x y : ℕ). cond (ltb (a * w) (b * w)) x y) (less-scale b a) (less-scale a b)
+      ∙ ap (λ (l : Bool). cond l ((b - a) * w) ((a - b) * w)) (test-scale a b))
+      ∙ outside (Bool·beq s t) (ltb a b)
+    where
+      outside : (e l : Bool) → cond e ((a + b) * w) (cond l ((b - a) * w) ((a - b) * w)) ≡ cond e (a + b) (cond l (b - a) (a - b)) * w
+      outside true l = refl
+      outside false true = refl
+      outside false false = refl
+
+  pub sum-scaled : (f : Format) (c : ℕ) → round f (sumSign s a t b) (sumSize s a t b * w) c ≡ sum f s (a * w) t (b * w) c
+  sum-scaled f c = sym (sum-rounds f s (a * w) t (b * w) c ∙ ap₂ (λ (x : Bool) (y : ℕ). round f x y c) sign-scale size-scale)
+
+pub sumSize-lt : (s : Bool) (a : ℕ) (t : Bool) (b c : ℕ) → a < c → b < c → sumSize s a t b < c + c
+unfolding sumSize
+sumSize-lt s a t b c h k = go (Bool·beq s t) (ltb a b)
+  where
+    both : a + b < c + c
+    both = omega (arith, h, k)
+
+    first : b - a < c + c
+    first = omega (arith, h, k)
+
+    second : a - b < c + c
+    second = omega (arith, h, k)
+
+    go : (e l : Bool) → cond e (a + b) (cond l (b - a) (a - b)) < c + c
+    go true l = both
+    go false true = first
+    go false false = second

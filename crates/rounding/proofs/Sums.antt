@@ -3,7 +3,9 @@
 use mathlib.Core.Path.{_≡_, refl, sym, ap, ap₂, _∙_, subst}
 use mathlib.Core.Logic.{_⊎_, inl, inr}
 use Prim.Native.Nat.{ℕ, suc, _+_, _-_, _*_, _/_, _%_, _^_, _≤_, _<_, zero-le}
-use native.Mathlib.Nat.{mul-comm, mul-assoc, mul-sub, add-mul, add-comm, mul-lt-mul-of-pos-right, lt-of-mul-lt-mul-right, lt-irrefl, le-of-lt, le-trans, add-sub-of-le, le-of-eq, suc-mul, mul-le-mul-right, sub-add-cancel, lt-of-lt-of-le, lt-of-le-of-lt, le-of-suc-le-suc, lt-of-not-le, pow-suc, mul-left-comm}
+use native.Mathlib.Nat.{mul-comm, mul-assoc, mul-sub, add-mul, add-comm, mul-lt-mul-of-pos-right, lt-of-mul-lt-mul-right, lt-irrefl, le-of-lt, le-trans}
+use native.Mathlib.Nat.{add-sub-of-le, le-of-eq, suc-mul, mul-le-mul-right, sub-add-cancel, lt-of-lt-of-le, lt-of-le-of-lt, le-of-suc-le-suc, lt-of-not-le}
+use native.Mathlib.Nat.{pow-suc, mul-left-comm}
 use native.Mathlib.Omega.{arith}
 use mathlib.Core.Bool.{Bool, true, false, not, _&&_, Bool·beq, cond}
 use lib.Dec.{T, ltb, ltb→lt, lt→ltb, nltb→le}
@@ -27,14 +29,19 @@ scaled-lt a b c a' b' c' C e d h = lt-of-mul-lt-mul-right c (subst (λ (x : ℕ)
 
 scaled-sub : (a b c a' b' c' : ℕ) → a * c' ≡ a' * c → b * c' ≡ b' * c → (b - a) * c' ≡ (b' - a') * c
 scaled-sub a b c a' b' c' e d =
-    mul-comm (b - a) c' ∙ mul-sub c' b a ∙ ap₂ (λ (x y : ℕ). x - y) (mul-comm c' b ∙ d ∙ mul-comm b' c) (mul-comm c' a ∙ e ∙ mul-comm a' c) ∙ sym (mul-sub c b' a') ∙ mul-comm c (b' - a')
+    mul-comm (b - a) c' ∙ mul-sub c' b a ∙ ap₂ (λ (x y : ℕ). x - y) (mul-comm c' b ∙ d ∙ mul-comm b' c) (mul-comm c' a ∙ e ∙ mul-comm a' c)
+    ∙ sym (mul-sub c b' a') ∙ mul-comm c (b' - a')
 
-pub sum-same : (f : Format) (s : Bool) (a : ℕ) (t : Bool) (b c a' b' c' : ℕ) → 0 < c → 0 < c' → a * c' ≡ a' * c → b * c' ≡ b' * c → sum f s a t b c ≡ sum f s a' t b' c'
+pub sum-same : (f : Format) (s : Bool) (a : ℕ) (t : Bool) (b c a' b' c' : ℕ) → 0 < c → 0 < c' → a * c' ≡ a' * c → b * c' ≡ b' * c
+    → sum f s a t b c ≡ sum f s a' t b' c'
 unfolding sum
 sum-same f s a t b c a' b' c' C C' e d =
-    let l : ltb a b ≡ ltb a' b' = same-test (ltb a b) (ltb a' b') (λ h. lt→ltb a' b' (scaled-lt a b c a' b' c' C' e d (ltb→lt a b h))) (λ h. lt→ltb a b (scaled-lt a' b' c' a b c C (sym e) (sym d) (ltb→lt a' b' h))) in
-    let g : ltb b a ≡ ltb b' a' = same-test (ltb b a) (ltb b' a') (λ h. lt→ltb b' a' (scaled-lt b a c b' a' c' C' d e (ltb→lt b a h))) (λ h. lt→ltb b a (scaled-lt b' a' c' b a c C (sym d) (sym e) (ltb→lt b' a' h))) in
-    ap₂ (λ (x y : Float). cond (Bool·beq s t) x y) (round-same f s (a + b) c (a' + b') c' C C' (add-mul a b c' ∙ ap₂ (λ (x y : ℕ). x + y) e d ∙ sym (add-mul a' b' c)))
+    let l : ltb a b ≡ ltb a' b' = same-test (ltb a b) (ltb a' b') (λ h. lt→ltb a' b' (scaled-lt a b c a' b' c' C' e d (ltb→lt a b h)))
+    (λ h. lt→ltb a b (scaled-lt a' b' c' a b c C (sym e) (sym d) (ltb→lt a' b' h))) in
+    let g : ltb b a ≡ ltb b' a' = same-test (ltb b a) (ltb b' a') (λ h. lt→ltb b' a' (scaled-lt b a c b' a' c' C' d e (ltb→lt b a h)))
+    (λ h. lt→ltb b a (scaled-lt b' a' c' b a c C (sym d) (sym e) (ltb→lt b' a' h))) in
+    ap₂ (λ (x y : Float). cond (Bool·beq s t) x y)
+    (round-same f s (a + b) c (a' + b') c' C C' (add-mul a b c' ∙ ap₂ (λ (x y : ℕ). x + y) e d ∙ sym (add-mul a' b' c)))
     (ap (λ (x : Bool). cond x (round f t (b - a) c) (round f (s && ltb b a) (a - b) c)) l
     ∙ ap₂ (λ (x y : Float). cond (ltb a' b') x y) (round-same f t (b - a) c (b' - a') c' C C' (scaled-sub a b c a' b' c' e d))
     (ap (λ (x : Bool). round f (s && x) (a - b) c) g ∙ round-same f (s && ltb b' a') (a - b) c (a' - b') c' C C' (scaled-sub b a c b' a' c' d e)))
@@ -58,11 +65,13 @@ between-div u j N h = let z = between-split u j N h in ap (λ (x : ℕ). x / u) 
 pub between-mod : (u j N : ℕ) → Between u j N → 0 < N % u
 between-mod u j N h = let z = between-split u j N h in subst (λ (x : ℕ). 0 < x) (sym (ap (λ (x : ℕ). x % u) (z .1) ∙ digits-mod j (z .3))) (z .2)
 
-pub alike-round : (f : Format) (s : Bool) (N M y t : ℕ) → Alike t N M → (0 < M → (t ≤ y) ⊎ (2 ^ (t + prec f) ≤ M)) → round f s N (2 ^ (suc (low f) + y)) ≡ round f s M (2 ^ (suc (low f) + y))
+pub alike-round : (f : Format) (s : Bool) (N M y t : ℕ) → Alike t N M → (0 < M → (t ≤ y) ⊎ (2 ^ (t + prec f) ≤ M))
+    → round f s N (2 ^ (suc (low f) + y)) ≡ round f s M (2 ^ (suc (low f) + y))
 alike-round f s N M y t a c = elim a [
   | inl e ↦ ap (λ (x : ℕ). round f s x (2 ^ (suc (low f) + y))) e
   | inr h ↦
-      sticky f s N M y t (c (lt-of-le-of-lt zero-le (h .2 .0))) (between-div (2 ^ t) (h .0) N (h .1) ∙ sym (between-div (2 ^ t) (h .0) M (h .2))) (between-mod (2 ^ t) (h .0) N (h .1)) (between-mod (2 ^ t) (h .0) M (h .2))
+      sticky f s N M y t (c (lt-of-le-of-lt zero-le (h .2 .0))) (between-div (2 ^ t) (h .0) N (h .1) ∙ sym (between-div (2 ^ t) (h .0) M (h .2)))
+      (between-mod (2 ^ t) (h .0) N (h .1)) (between-mod (2 ^ t) (h .0) M (h .2))
 ]
 
 pub alike-scale : (t a N M : ℕ) → Alike t N M → Alike (t + a) (N * 2 ^ a) (M * 2 ^ a)
@@ -75,7 +84,8 @@ alike-scale t a N M h = elim h [
     up j N b =
         let e : j * 2 ^ t * 2 ^ a ≡ j * 2 ^ (t + a) = mul-assoc j (2 ^ t) (2 ^ a) ∙ ap (λ (x : ℕ). j * x) (sym (pow-add 2 t a)) in (
           subst (λ (x : ℕ). x < N * 2 ^ a) e (mul-lt-mul-of-pos-right (b .0) (pow-pos a)),
-          subst (λ (x : ℕ). N * 2 ^ a < x) (add-mul (j * 2 ^ t) (2 ^ t) (2 ^ a) ∙ ap₂ (λ (x y : ℕ). x + y) e (sym (pow-add 2 t a))) (mul-lt-mul-of-pos-right (b .1) (pow-pos a)),
+          subst (λ (x : ℕ). N * 2 ^ a < x) (add-mul (j * 2 ^ t) (2 ^ t) (2 ^ a) ∙ ap₂ (λ (x y : ℕ). x + y) e (sym (pow-add 2 t a)))
+              (mul-lt-mul-of-pos-right (b .1) (pow-pos a)),
         )
 
 -- ---- a multiple of 2 ^ t, e * 2 ^ t, added or taken away
@@ -111,8 +121,11 @@ less-between u j e N l h =
 
 from-between : (u j e N : ℕ) → j < e → Between u j N → Between u (e - suc j) (e * u - N)
 from-between u j e N l h =
-    let d : (e - suc j) * u + suc j * u ≡ e * u = sym (add-mul (e - suc j) (suc j) u) ∙ ap (λ (x : ℕ). x * u) (sub-add-cancel l) in
-    (lo (j * u) (e * u) N ((e - suc j) * u) u (suc j * u) d (suc-mul j u) (h .1), hi (j * u) (e * u) N ((e - suc j) * u) u (suc j * u) d (suc-mul j u) (h .0) (h .1))
+    let d : (e - suc j) * u + suc j * u ≡ e * u = sym (add-mul (e - suc j) (suc j) u) ∙ ap (λ (x : ℕ). x * u) (sub-add-cancel l) in (
+      lo (j * u) (e * u) N ((e - suc j) * u) u (suc j * u) d (suc-mul j u) (h .1),
+      hi (j * u) (e * u) N ((e - suc j) * u) u (suc j * u) d (suc-mul j u) (h .0)
+          (h .1),
+    )
   where
     lo : (a b N c u d : ℕ) → c + d ≡ b → d ≡ a + u → N < a + u → c < b - N
     lo a b N c u d e g h = omega arith
@@ -164,7 +177,8 @@ beyond t e N M h l = elim h [
   | inl p ↦ subst (λ (x : ℕ). e * 2 ^ t < x) p l
   | inr z ↦
       lt-of-le-of-lt
-      (mul-le-mul-right (2 ^ t) (le-of-suc-le-suc (lt-of-mul-lt-mul-right (2 ^ t) (lt-of-lt-of-le l (le-trans (le-of-lt (z .1 .1)) (le-of-eq (sym (suc-mul (z .0) (2 ^ t)))))))))
+      (mul-le-mul-right (2 ^ t) (le-of-suc-le-suc
+      (lt-of-mul-lt-mul-right (2 ^ t) (lt-of-lt-of-le l (le-trans (le-of-lt (z .1 .1)) (le-of-eq (sym (suc-mul (z .0) (2 ^ t)))))))))
       (z .2 .0)
 ]
 
@@ -179,8 +193,10 @@ sum-alike f s N M r e y t h c =
     let B = e * 2 ^ t in
     let D = 2 ^ (suc (low f) + y) in
     let G = 2 ^ (t + prec f) in
-    let l : ltb N B ≡ ltb M B = same-test (ltb N B) (ltb M B) (λ k. lt→ltb M B (under t e N M h (ltb→lt N B k))) (λ k. lt→ltb N B (under t e M N (flip t N M h) (ltb→lt M B k))) in
-    let g : ltb B N ≡ ltb B M = same-test (ltb B N) (ltb B M) (λ k. lt→ltb B M (beyond t e N M h (ltb→lt B N k))) (λ k. lt→ltb B N (beyond t e M N (flip t N M h) (ltb→lt B M k))) in
+    let l : ltb N B ≡ ltb M B = same-test (ltb N B) (ltb M B) (λ k. lt→ltb M B (under t e N M h (ltb→lt N B k)))
+    (λ k. lt→ltb N B (under t e M N (flip t N M h) (ltb→lt M B k))) in
+    let g : ltb B N ≡ ltb B M = same-test (ltb B N) (ltb B M) (λ k. lt→ltb B M (beyond t e N M h (ltb→lt B N k)))
+    (λ k. lt→ltb B N (beyond t e M N (flip t N M h) (ltb→lt B M k))) in
     ap₂ (λ (x z : Float). cond (Bool·beq s r) x z) (alike-round f s (N + B) (M + B) y t (alike-add t e N M h) (λ _. plus M B G c))
     (ap (λ (x : Bool). cond x (round f r (B - N) D) (round f (s && ltb B N) (N - B) D)) l
     ∙ ap₂ (λ (x z : Float). cond (ltb M B) x z) (alike-round f r (B - N) (B - M) y t (alike-from t e N M h) (λ k. from M B G k c))
@@ -225,7 +241,8 @@ sum-comm f s a t b c = go s t (ltb a b) (ltb b a) (ltb→lt a b) (nltb→le a b)
     level h k = omega arith
 
     go : (s t l g : Bool) → (T l → a < b) → (T (not l) → b ≤ a) → (T g → b < a) → (T (not g) → a ≤ b)
-        → cond (Bool·beq s t) (round f s (a + b) c) (cond l (round f t (b - a) c) (round f (s && g) (a - b) c)) ≡ cond (Bool·beq t s) (round f t (b + a) c) (cond g (round f s (a - b) c) (round f (t && l) (b - a) c))
+        → cond (Bool·beq s t) (round f s (a + b) c) (cond l (round f t (b - a) c) (round f (s && g) (a - b) c)) ≡ cond (Bool·beq t s) (round f t (b + a) c)
+        (cond g (round f s (a - b) c) (round f (t && l) (b - a) c))
     go true true l g A B C D = ap (λ (x : ℕ). round f true x c) (add-comm a b)
     go false false l g A B C D = ap (λ (x : ℕ). round f false x c) (add-comm a b)
     go true false true true A B C D = absurd (clash (A tt) (C tt))
@@ -239,7 +256,9 @@ sum-comm f s a t b c = go s t (ltb a b) (ltb b a) (ltb→lt a b) (nltb→le a b)
 
 -- ---- a multiple of 2 ^ a lies strictly between two multiples of 2 ^ t only where t is the larger
 pub deep : (p a t j : ℕ) → p % 2 ^ a ≡ 0 → Between (2 ^ t) j p → a < t
-deep p a t j e h = lt-of-not-le (λ (g : t ≤ a). lt-irrefl 0 (subst (λ (x : ℕ). 0 < x) e (subst (λ (x : ℕ). 0 < p % 2 ^ x) (add-sub-of-le g) (coarser p t (a - t) (between-mod (2 ^ t) j p h)))))
+deep p a t j e h =
+    lt-of-not-le (λ (g : t ≤ a). lt-irrefl 0
+    (subst (λ (x : ℕ). 0 < x) e (subst (λ (x : ℕ). 0 < p % 2 ^ x) (add-sub-of-le g) (coarser p t (a - t) (between-mod (2 ^ t) j p h)))))
 
 -- ---- a sum of which one part, N, is x * 2 ^ z but for what was lost below 2 ^ z, and the other is B * 2 ^ z for an even B
 even-half : (B w W : ℕ) → B % 2 ≡ 0 → W ≡ 2 * w → B / 2 * W ≡ B * w
@@ -262,7 +281,9 @@ sum-jam f s N x r B z y h e c =
       | inl l ↦ inl l
       | inr d ↦ inr (elim d [
         | inl l ↦ inl (le-trans (le-of-eq (ap₂ (λ (u v : ℕ). u + v) b (sym G) ∙ sym (add-mul B (2 ^ suc (prec f)) w))) (mul-le-mul-right w l))
-        | inr l ↦ inr (le-trans (le-of-eq (ap (λ (v : ℕ). x * w + v) (sym G) ∙ sym (add-mul x (2 ^ suc (prec f)) w))) (le-trans (mul-le-mul-right w l) (le-of-eq (sym b))))
+        | inr l ↦
+            inr (le-trans (le-of-eq (ap (λ (v : ℕ). x * w + v) (sym G) ∙ sym (add-mul x (2 ^ suc (prec f)) w)))
+            (le-trans (mul-le-mul-right w l) (le-of-eq (sym b))))
       ])
     ])
     ∙ ap (λ (k : ℕ). sum f s (x * w) r k D) b

@@ -38,4 +38,5 @@ pub worth-lt : (f : Format) (x : Float) → worth f x < 2 ^ (prec f + 2 * emax f
 unfolding worth
 worth-lt f x =
     let b = toBits f x in
-    lt-of-lt-of-le (mul-lt-mul-of-pos-right (sig-lt f b) (pow-pos (place f b))) (le-trans (mul-le-mul-left (2 ^ prec f) (pow-mono (place-le f b))) (le-of-eq (sym (pow-add 2 (prec f) (2 * emax f)))))
+    lt-of-lt-of-le (mul-lt-mul-of-pos-right (sig-lt f b) (pow-pos (place f b)))
+    (le-trans (mul-le-mul-left (2 ^ prec f) (pow-mono (place-le f b))) (le-of-eq (sym (pow-add 2 (prec f) (2 * emax f)))))

@@ -1,5 +1,6 @@
 pub mod Halves
 pub mod Parts
 pub mod Alike
+pub mod Sums
 pub mod Roots
 pub mod Nearest

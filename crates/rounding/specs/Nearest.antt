@@ -22,9 +22,10 @@ signedNum (fin s m e) = signed s (m * up e)
 abbrev pub farFrom : Float → ℤ → ℕ → ℕ
 farFrom x E D = natAbs (signedNum x *ℤ pos D -ℤ E *ℤ pos (den x))
 
--- r is a finite value of the format f such that no other lies nearer to E / D; and where another lies as near, r is the one whose significand is even, and so its pattern
+-- r is a finite value of the format f such that no other lies nearer to E / D; and where another lies as near, r's significand is even, and so its pattern
 pub record NearestTo (f : Format) (E : ℤ) (D : ℕ) (r : Float) : Type 0 where
   pub held : T (fits f r)
   pub whole : T (finite r)
   pub closest : (x : Float) → T (fits f x) → T (finite x) → farFrom r E D * den x ≤ farFrom x E D * den r
-  pub even : (x : Float) → T (fits f x) → T (finite x) → farFrom r E D * den x ≡ farFrom x E D * den r → (signedNum x *ℤ pos (den r) ≡ signedNum r *ℤ pos (den x) → ⊥) → toBits f r % 2 ≡ 0
+  pub even : (x : Float) → T (fits f x) → T (finite x) → farFrom r E D * den x ≡ farFrom x E D * den r
+      → (signedNum x *ℤ pos (den r) ≡ signedNum r *ℤ pos (den x) → ⊥) → toBits f r % 2 ≡ 0

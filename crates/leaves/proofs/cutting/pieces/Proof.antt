@@ -35,10 +35,13 @@ whole-up-requires : tie.Need-whole-up-requires
 whole-up-requires c κs = search needs
 
 -- what the four calls give
-counted : (c : tie.After-whole-up) → max 1 (c .whole-up .result) ≡ piecesOf (c .before .before .before .before .args .q) (c .before .before .before .before .args .w1) (c .before .before .before .before .args .w2)
+counted : (c : tie.After-whole-up)
+    → max 1 (c .whole-up .result) ≡ piecesOf (c .before .before .before .before .args .q) (c .before .before .before .before .args .w1)
+    (c .before .before .before .before .args .w2)
 counted c =
     let a = c .before .before .before .before .args in
-    count (a .q) (a .w1) (a .w2) (c .before .before .before .sixth-root .result) (c .before .before .max .result) (c .before .max2 .result) (c .whole-up .result)
+    count (a .q) (a .w1) (a .w2) (c .before .before .before .sixth-root .result) (c .before .before .max .result) (c .before .max2 .result)
+    (c .whole-up .result)
     (c .before .before .before .sixth-root .ensures) (c .before .before .max .ensures) (c .before .max2 .ensures) (c .whole-up .ensures)
 
 returns : tie.Need-returns

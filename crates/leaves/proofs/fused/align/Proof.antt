@@ -1,15 +1,16 @@
 -- `leaves::fused::align` meets its contract. What `jam` loses stands so low that it only says which way to round. Assumes nothing.
 use mathlib.Core.Path.{_≡_, refl, sym, ap, _∙_, subst}
-use mathlib.Core.Logic.{_⊎_, inl, inr}
+use mathlib.Core.Logic.{_⊎_, inl, inr, ⊎-elim}
 use mathlib.Core.Bool.{Bool}
 use Prim.Native.Nat.{ℕ, suc, _+_, _-_, _*_, _/_, _%_, _^_, _≤_, _<_}
-use native.Mathlib.Nat.{mul-assoc, lt-of-lt-of-le, le-of-suc-le-suc, div-le-self}
+use native.Mathlib.Nat.{mul-assoc, lt-of-lt-of-le, le-of-suc-le-suc, div-le-self, le-of-eq}
 use native.Mathlib.Omega.{arith}
 use borrow.Author.Needs.{needs}
 use lib.Pow.{pow-add, pow-mono, shr-lt}
 use lib.Ieee.{binary32, sum}
 use Rattle.rounding.specs.Alike.{Alike}
 use Rattle.rounding.proofs.Sums.{alike-scale, deep, sum-jam, sum-comm}
+use Rattle.leaves.specs.Aligned.{Aligns}
 use Rattle.leaves.proofs.fused.align.Statement.{statement}
 use Rattle.leaves.proofs.fused.align.Tie as tie
 
@@ -28,11 +29,13 @@ module _ (s t : Bool) (N a B z x k : ℕ) (l : a ≤ z) (zeros : N % 2 ^ k ≡ 0
   there : z - a + a ≡ z
   there = omega (arith, l)
 
-  stands : (k ≤ z - a → (suc z ≤ 161) ⊎ (x + 33554432 ≤ B)) → sum binary32 s (x * 2 ^ z) t (B * 2 ^ z) (2 ^ 311) ≡ sum binary32 s (N * 2 ^ a) t (B * 2 ^ z) (2 ^ 311)
+  stands : (k ≤ z - a → (suc z ≤ 161) ⊎ (x + 33554432 ≤ B))
+      → sum binary32 s (x * 2 ^ z) t (B * 2 ^ z) (2 ^ 311) ≡ sum binary32 s (N * 2 ^ a) t (B * 2 ^ z) (2 ^ 311)
   stands c = elim h [
     | inl e ↦
         ap (λ (M : ℕ). sum binary32 s M t (B * 2 ^ z) (2 ^ 311))
-        (ap (λ (y : ℕ). x * 2 ^ y) (sym there) ∙ ap (λ (y : ℕ). x * y) (pow-add 2 (z - a) a) ∙ sym (mul-assoc x (2 ^ (z - a)) (2 ^ a)) ∙ ap (λ (y : ℕ). y * 2 ^ a) (sym e))
+        (ap (λ (y : ℕ). x * 2 ^ y) (sym there) ∙ ap (λ (y : ℕ). x * y) (pow-add 2 (z - a) a) ∙ sym (mul-assoc x (2 ^ (z - a)) (2 ^ a))
+        ∙ ap (λ (y : ℕ). y * 2 ^ a) (sym e))
     | inr b ↦
         sym (sum-jam binary32 s (N * 2 ^ a) x t B z 161 (scaled (z - a) a z N x there (inr b)) even
         (elim (c (le-of-suc-le-suc (deep N k (suc (z - a)) (b .0) zeros (b .1)))) [ inl y ↦ inl y | inr y ↦ inr (inr y) ]))
@@ -99,57 +102,102 @@ less a b h = omega arith
 gap : (a b : ℕ) → a < b → 0 < b - a
 gap a b h = omega arith
 
+none : (a : ℕ) → a - a ≡ 0
+none a = omega arith
+
+-- ---- both brought to the higher exponent z, as x and y
+abbrev Jam : ℕ → ℕ → ℕ → Type 0
+Jam n d r = Alike (suc d) n (r * 2 ^ d) × (r ≤ n / 2 ^ d + 1) × (d ≡ 0 → r ≡ n)
+
+abbrev Higher : ℕ → ℕ → ℕ → Type 0
+Higher pe qe z = ((pe < qe) × (z ≡ qe)) ⊎ ((qe ≤ pe) × (z ≡ pe))
+
+record Brought (s t : Bool) (p pe q qe z x y : ℕ) : Type 0 where
+  x-lt : x < 2 ^ 61
+  y-lt : y < 2 ^ 61
+  z-lt : z < 1024
+  same : sum binary32 s (x * 2 ^ z) t (y * 2 ^ z) (2 ^ 311) ≡ sum binary32 s (p * 2 ^ pe) t (q * 2 ^ qe) (2 ^ 311)
+
+module _ (s t : Bool) (p pe q qe x y : ℕ) (A : Aligns p pe q qe) where
+  product-moves : pe < qe → Jam p (qe - pe) x → Jam q (qe - qe) y → Brought s t p pe q qe qe x y
+  product-moves h j k =
+      let e : y ≡ q = k .2 (none qe) in
+      record {
+        x-lt = low-x p (qe - pe) x (A .p-lt) (gap pe qe h) (j .1);
+        y-lt = subst (λ (n : ℕ). n < 2 ^ 61) (sym e) (A .q-lt);
+        z-lt = A .qe-lt;
+        same =
+            ap (λ (n : ℕ). sum binary32 s (x * 2 ^ qe) t (n * 2 ^ qe) (2 ^ 311)) e
+            ∙ stands s t p pe q qe x 13 (less pe qe h) (A .p-zeros) (even-q q (A .q-zeros)) (j .0) (low-cond p q qe (qe - pe) x (A .p-lt) (A .q-leads) (j .1));
+      }
+
+  addend-moves : qe ≤ pe → Jam p (pe - pe) x → Jam q (pe - qe) y → Brought s t p pe q qe pe x y
+  addend-moves h j k =
+      let e : x ≡ p = j .2 (none pe) in
+      record {
+        x-lt = subst (λ (n : ℕ). n < 2 ^ 61) (sym e) (A .p-lt);
+        y-lt = high-x q (pe - qe) y (A .q-lt) (A .q-zeros) (k .1);
+        z-lt = A .pe-lt;
+        same =
+            ap (λ (n : ℕ). sum binary32 s (n * 2 ^ pe) t (y * 2 ^ pe) (2 ^ 311)) e
+            ∙ sum-comm binary32 s (p * 2 ^ pe) t (y * 2 ^ pe) (2 ^ 311)
+            ∙ stands t s q qe p pe y 37 h (A .q-zeros) (even-p p (A .p-zeros)) (k .0) (high-cond p pe qe q (pe - qe) y (A .q-lt) refl (A .p-leads) (k .1))
+            ∙ sum-comm binary32 t (q * 2 ^ qe) s (p * 2 ^ pe) (2 ^ 311);
+      }
+
+  brought : (z : ℕ) → Higher pe qe z → Jam p (z - pe) x → Jam q (z - qe) y → Brought s t p pe q qe z x y
+  brought z o j k = elim o [
+    | inl h ↦
+        subst (λ (n : ℕ). Brought s t p pe q qe n x y) (sym (h .1))
+        (product-moves (h .0) (subst (λ (n : ℕ). Jam p (n - pe) x) (h .1) j) (subst (λ (n : ℕ). Jam q (n - qe) y) (h .1) k))
+    | inr h ↦
+        subst (λ (n : ℕ). Brought s t p pe q qe n x y) (sym (h .1))
+        (addend-moves (h .0) (subst (λ (n : ℕ). Jam p (n - pe) x) (h .1) j) (subst (λ (n : ℕ). Jam q (n - qe) y) (h .1) k))
+  ]
+
+-- ---- the code's numbers
+higher : (c : tie.Joined1) → Higher (c .before .args .pe) (c .before .args .qe) (c .if1 .z)
+higher c = ⊎-elim (λ w. inl (w .0 .taken, w .1)) (λ w. inr (w .0 .left, w .1)) (c .if1 .came)
+
+above-first : (pe qe z : ℕ) → Higher pe qe z → pe ≤ z
+above-first pe qe z o = elim o [ inl h ↦ reach (h .0) (h .1) | inr h ↦ le-of-eq (sym (h .1)) ]
+  where
+    reach : pe < qe → z ≡ qe → pe ≤ z
+    reach l e = omega arith
+
+above-second : (pe qe z : ℕ) → Higher pe qe z → qe ≤ z
+above-second pe qe z o = elim o [ inl h ↦ le-of-eq (sym (h .1)) | inr h ↦ reach (h .0) (h .1) ]
+  where
+    reach : qe ≤ pe → z ≡ pe → qe ≤ z
+    reach l e = omega arith
+
 sub-jam : tie.Need-sub-jam
-sub-jam c = search needs
+sub-jam c = let j = c .before in above-first (j .before .args .pe) (j .before .args .qe) (j .if1 .z) (higher j)
 
 jam-requires : tie.Need-jam-requires
 jam-requires c κs = search needs
 
-total-requires : tie.Need-total-requires
-total-requires c κs =
-    let st = c .before .before in
-    let a = st .args in
-    (low-x (a .p) (a .qe - a .pe) (c .jam .result) (st .pre .p-lt) (gap (a .pe) (a .qe) (c .before .if1 .taken)) (c .jam .ensures .1), (st .pre .q-lt, st .pre .qe-lt))
+sub-jam-2 : tie.Need-sub-jam-2
+sub-jam-2 c = let j = c .before .before in above-second (j .before .args .pe) (j .before .args .qe) (j .if1 .z) (higher j)
 
 jam-requires-2 : tie.Need-jam-requires-2
 jam-requires-2 c κs = search needs
 
-total-requires-2 : tie.Need-total-requires-2
-total-requires-2 c κs =
-    let st = c .before .before in
-    let a = st .args in
-    (st .pre .p-lt, (high-x (a .q) (a .pe - a .qe) (c .jam2 .result) (st .pre .q-lt) (st .pre .q-zeros) (c .jam2 .ensures .1), st .pre .pe-lt))
+found : (c : tie.After-jam2) → let j = c .before .before .before in
+    let a = j .before .args in
+    Brought (a .s) (a .t) (a .p) (a .pe) (a .q) (a .qe) (j .if1 .z) (c .before .jam .result) (c .jam2 .result)
+found c =
+    let j = c .before .before .before in
+    let a = j .before .args in
+    brought (a .s) (a .t) (a .p) (a .pe) (a .q) (a .qe) (c .before .jam .result) (c .jam2 .result) (j .before .pre) (j .if1 .z) (higher j)
+    (c .before .jam .ensures) (c .jam2 .ensures)
+
+total-requires : tie.Need-total-requires
+total-requires c κs = let f = found c in (f .x-lt, (f .y-lt, f .z-lt))
 
 returns : tie.Need-returns
-returns c =
-    let st = c .before .before .before in
-    let a = st .args in
-    let x = c .before .jam .result in
-    let d = a .qe - a .pe in
-    c .total .ensures
-    ∙ stands (a .s) (a .t) (a .p) (a .pe) (a .q) (a .qe) x 13 (less (a .pe) (a .qe) (c .before .before .if1 .taken)) (st .pre .p-zeros) (even-q (a .q) (st .pre .q-zeros)) (c .before .jam .ensures .0)
-    (low-cond (a .p) (a .q) (a .qe) d x (st .pre .p-lt) (st .pre .q-leads) (c .before .jam .ensures .1))
-
-returns-2 : tie.Need-returns-2
-returns-2 c =
-    let st = c .before .before .before in
-    let a = st .args in
-    let x = c .before .jam2 .result in
-    let d = a .pe - a .qe in
-    c .total2 .ensures
-    ∙ sum-comm binary32 (a .s) (a .p * 2 ^ a .pe) (a .t) (x * 2 ^ a .pe) (2 ^ 311)
-    ∙ stands (a .t) (a .s) (a .q) (a .qe) (a .p) (a .pe) x 37 (c .before .before .if1 .left) (st .pre .q-zeros) (even-p (a .p) (st .pre .p-zeros)) (c .before .jam2 .ensures .0)
-    (high-cond (a .p) (a .pe) (a .qe) (a .q) d x (st .pre .q-lt) refl (st .pre .p-leads) (c .before .jam2 .ensures .1))
-    ∙ sum-comm binary32 (a .t) (a .q * 2 ^ a .qe) (a .s) (a .p * 2 ^ a .pe) (2 ^ 311)
+returns c = c .total .ensures ∙ found (c .before) .same
 
 pub align-spec : {M : Type 1} → statement M
 align-spec =
-    tie.close
-    (tie.spec
-    sub-jam
-    jam-requires
-    total-requires
-    jam-requires-2
-    total-requires-2
-    returns
-    returns-2)
+    tie.close (tie.spec sub-jam jam-requires sub-jam-2 jam-requires-2 total-requires returns)

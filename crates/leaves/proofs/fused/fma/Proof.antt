@@ -41,7 +41,8 @@ finite-requires-3 c κs = search needs
 returns-3 : tie.Need-returns-3
 returns-3 c =
     let a = c .before .before .before .before .before .before .args in
-    third-not (a .a) (a .b) (a .c) (first (c .before .before .before .before)) (second (c .before .before)) (sym (c .before .finite3 .ensures) ∙ not-true (c .before .finite3 .result) (c .if3 .taken))
+    third-not (a .a) (a .b) (a .c) (first (c .before .before .before .before)) (second (c .before .before))
+    (sym (c .before .finite3 .ensures) ∙ not-true (c .before .finite3 .result) (c .if3 .taken))
 
 float-to-bits-fma-bits : tie.Need-float-to-bits-fma-bits
 float-to-bits-fma-bits c = finite-no-nan (c .before .before .before .before .before .before .args .a) (first (c .before .before .before .before))
@@ -60,7 +61,8 @@ returns-4 c =
     let st = c .before .before .before .before .before .before .before in
     let a = st .args in
     c .fma-bits .ensures
-    ∙ fma-bits (a .a) (a .b) (a .c) (held (a .a) (st .good .0 .1)) (held (a .b) (st .good .1 .0 .1)) (held (a .c) (st .good .1 .1 .0 .1)) (first (c .before .before .before .before .before)) (second (c .before .before .before)) (third (c .before))
+    ∙ fma-bits (a .a) (a .b) (a .c) (held (a .a) (st .good .0 .1)) (held (a .b) (st .good .1 .0 .1)) (held (a .c) (st .good .1 .1 .0 .1))
+    (first (c .before .before .before .before .before)) (second (c .before .before .before)) (third (c .before))
 
 pub fma-spec : {M : Type 1} → statement M
 fma-spec =

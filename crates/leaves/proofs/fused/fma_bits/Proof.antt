@@ -3,7 +3,8 @@ use mathlib.Core.Path.{_≡_, refl, sym, ap, ap₂, _∙_, subst}
 use mathlib.Core.Logic.{_⊎_, inl, inr}
 use mathlib.Core.Bool.{Bool, true, false, cond}
 use Prim.Native.Nat.{ℕ, _+_, _-_, _*_, _%_, _^_, _≤_, _<_}
-use native.Mathlib.Nat.{mul-assoc, mul-comm, mul-left-comm, mul-lt-mul-of-pos-right, mul-le-mul-left, mul-le-mul-right, mul-mod-left, mod-eq-of-lt, lt-of-lt-of-le, lt-of-le-of-lt, le-trans, le-of-lt, le-of-eq, mul-one, one-mul, zero-mul, mul-zero, eq-zero-or-pos}
+use native.Mathlib.Nat.{mul-assoc, mul-comm, mul-left-comm, mul-lt-mul-of-pos-right, mul-le-mul-left, mul-le-mul-right, mul-mod-left, mod-eq-of-lt}
+use native.Mathlib.Nat.{lt-of-lt-of-le, lt-of-le-of-lt, le-trans, le-of-lt, le-of-eq, mul-one, one-mul, zero-mul, mul-zero, eq-zero-or-pos}
 use native.Mathlib.Omega.{arith}
 use borrow.Author.Needs.{needs}
 use borrow.Author.Tests.{eq-eqb}
@@ -89,7 +90,8 @@ module _ (x y i j : ℕ) (X : x < 16777216) (Y : y < 16777216) (I : i ≤ 254) (
       go true = lit< tt
       go false = omega (arith, I, J)
 
-  aligned : (v k : ℕ) → v < 16777216 → k ≤ 254 → (k ≡ 0) ⊎ (8388608 ≤ v) → Aligns (x * y * 8192) (cond (eqb (x * y * 8192) 0) 0 (i + j)) (v * 137438953472) (k + 125)
+  aligned : (v k : ℕ) → v < 16777216 → k ≤ 254 → (k ≡ 0) ⊎ (8388608 ≤ v)
+      → Aligns (x * y * 8192) (cond (eqb (x * y * 8192) 0) 0 (i + j)) (v * 137438953472) (k + 125)
   aligned v k Vl K lv = record {
     p-lt = small (x * y) (product-lt x y X Y);
     q-lt = small' v Vl;
@@ -130,15 +132,19 @@ module _ (a b e : ℕ) where
   asked : Aligns P W Q (place binary32 e + 125)
   unfolding P W Q
   asked =
-      aligned (sig binary32 a) (sig binary32 b) (place binary32 a) (place binary32 b) (sig-lt binary32 a) (sig-lt binary32 b) (place-le binary32 a) (place-le binary32 b) (leads binary32 a) (leads binary32 b)
+      aligned (sig binary32 a) (sig binary32 b) (place binary32 a) (place binary32 b) (sig-lt binary32 a) (sig-lt binary32 b) (place-le binary32 a)
+      (place-le binary32 b) (leads binary32 a) (leads binary32 b)
       (sig binary32 e) (place binary32 e) (sig-lt binary32 e) (place-le binary32 e) (leads binary32 e)
 
-  total-is : sum binary32 (unlike (leb 2147483648 a) (leb 2147483648 b)) (P * 2 ^ W) (leb 2147483648 e) (Q * 2 ^ (place binary32 e + 125)) (2 ^ 311) ≡ fmaBits a b e
+  total-is : sum binary32 (unlike (leb 2147483648 a) (leb 2147483648 b)) (P * 2 ^ W) (leb 2147483648 e) (Q * 2 ^ (place binary32 e + 125))
+      (2 ^ 311) ≡ fmaBits a b e
   unfolding P W Q fmaBits
   total-is =
       ap₂ (λ (x y : ℕ). sum binary32 (unlike (leb 2147483648 a) (leb 2147483648 b)) x (leb 2147483648 e) y (2 ^ 311))
-      (weighs (sig binary32 a * sig binary32 b * 8192) (place binary32 a + place binary32 b) ∙ grouped (sig binary32 a) (sig binary32 b) (place binary32 a) (place binary32 b) 8192)
-      (ap (λ (x : ℕ). sig binary32 e * 137438953472 * x) (pow-add 2 (place binary32 e) 125) ∙ moved (sig binary32 e) (place binary32 e) 137438953472 (2 ^ 125) (2 ^ 162) refl)
+      (weighs (sig binary32 a * sig binary32 b * 8192) (place binary32 a + place binary32 b)
+      ∙ grouped (sig binary32 a) (sig binary32 b) (place binary32 a) (place binary32 b) 8192)
+      (ap (λ (x : ℕ). sig binary32 e * 137438953472 * x) (pow-add 2 (place binary32 e) 125)
+      ∙ moved (sig binary32 e) (place binary32 e) 137438953472 (2 ^ 125) (2 ^ 162) refl)
 
 digits-requires : tie.Need-digits-requires
 digits-requires c κs = search needs
@@ -151,7 +157,8 @@ mul-p c =
     let a = c .before .before .args in
     record {
       fits = lt-of-lt-of-le
-          (product-lt (c .before .digits .result) (c .digits2 .result) (lt-of-le-of-lt (le-of-eq (c .before .digits .ensures)) (sig-lt binary32 (a .a))) (lt-of-le-of-lt (le-of-eq (c .digits2 .ensures)) (sig-lt binary32 (a .b))))
+          (product-lt (c .before .digits .result) (c .digits2 .result) (lt-of-le-of-lt (le-of-eq (c .before .digits .ensures)) (sig-lt binary32 (a .a)))
+          (lt-of-le-of-lt (le-of-eq (c .digits2 .ensures)) (sig-lt binary32 (a .b))))
           (lit≤ tt);
     }
 
@@ -178,7 +185,8 @@ minus-requires-3 c κs = search needs
 
 -- what the code has is P, W and Q
 p-known : (a b r r' : ℕ) → r ≡ sig binary32 a → r' ≡ sig binary32 b → r * r' * 8192 % 18446744073709551616 ≡ sig binary32 a * sig binary32 b * 8192
-p-known a b r r' e e' = ap₂ (λ (x y : ℕ). x * y * 8192 % 18446744073709551616) e e' ∙ p-is (sig binary32 a) (sig binary32 b) (sig-lt binary32 a) (sig-lt binary32 b)
+p-known a b r r' e e' =
+    ap₂ (λ (x y : ℕ). x * y * 8192 % 18446744073709551616) e e' ∙ p-is (sig binary32 a) (sig binary32 b) (sig-lt binary32 a) (sig-lt binary32 b)
 
 q-known : (a r : ℕ) → r ≡ sig binary32 a → r * 137438953472 % 18446744073709551616 ≡ sig binary32 a * 137438953472
 q-known a r e = ap (λ (x : ℕ). x * 137438953472 % 18446744073709551616) e ∙ q-is (sig binary32 a) (sig-lt binary32 a)
@@ -190,7 +198,8 @@ unfolding P W Q
 known a b e d d' d'' w k h h' h'' g j =
     let p = p-known a b d d' h h' in
     subst (λ (x : ℕ). Aligns x w (d'' * 137438953472 % 18446744073709551616) (k + 125)) (sym p)
-    (subst (λ (x : ℕ). Aligns (P a b e) x (d'' * 137438953472 % 18446744073709551616) (k + 125)) (sym (g ∙ ap (λ (x : ℕ). cond (eqb x 0) 0 (place binary32 a + place binary32 b)) p))
+    (subst (λ (x : ℕ). Aligns (P a b e) x (d'' * 137438953472 % 18446744073709551616) (k + 125))
+    (sym (g ∙ ap (λ (x : ℕ). cond (eqb x 0) 0 (place binary32 a + place binary32 b)) p))
     (subst (λ (x : ℕ). Aligns (P a b e) (W a b e) x (k + 125)) (sym (q-known e d'' h''))
     (subst (λ (x : ℕ). Aligns (P a b e) (W a b e) (Q a b e) (x + 125)) (sym j) (asked a b e))))
 
@@ -203,20 +212,26 @@ align-requires c κs =
     let c3 = c .before .before .before .before .before in
     let c4 = c .before .before .before .before in
     let c5 = c .before .before .before in
-    known (a .a) (a .b) (a .c) (c1 .digits .result) (c2 .digits2 .result) (c3 .digits3 .result) (c4 .weight .result) (c5 .place .result) (c1 .digits .ensures) (c2 .digits2 .ensures) (c3 .digits3 .ensures) (c4 .weight .ensures) (c5 .place .ensures)
+    known (a .a) (a .b) (a .c) (c1 .digits .result) (c2 .digits2 .result) (c3 .digits3 .result) (c4 .weight .result) (c5 .place .result) (c1 .digits .ensures)
+    (c2 .digits2 .ensures) (c3 .digits3 .ensures) (c4 .weight .ensures) (c5 .place .ensures)
 
 valued : (a b e d d' d'' w k : ℕ) (s t u : Bool) → d ≡ sig binary32 a → d' ≡ sig binary32 b → d'' ≡ sig binary32 e
     → w ≡ cond (eqb (d * d' * 8192 % 18446744073709551616) 0) 0 (place binary32 a + place binary32 b) → k ≡ place binary32 e
     → s ≡ leb 2147483648 a → t ≡ leb 2147483648 b → u ≡ leb 2147483648 e
-    → sum binary32 (unlike s t) (d * d' * 8192 % 18446744073709551616 * 2 ^ w) u (d'' * 137438953472 % 18446744073709551616 * 2 ^ (k + 125)) (2 ^ 311) ≡ fmaBits a b e
+    → sum binary32 (unlike s t) (d * d' * 8192 % 18446744073709551616 * 2 ^ w) u (d'' * 137438953472 % 18446744073709551616 * 2 ^ (k + 125))
+    (2 ^ 311) ≡ fmaBits a b e
 unfolding P W Q
 valued a b e d d' d'' w k s t u h h' h'' g j x y z =
     let p = p-known a b d d' h h' in
-    ap₂ (λ (m n : Bool). sum binary32 (unlike m n) (d * d' * 8192 % 18446744073709551616 * 2 ^ w) u (d'' * 137438953472 % 18446744073709551616 * 2 ^ (k + 125)) (2 ^ 311)) x y
-    ∙ ap (λ (m : Bool). sum binary32 (unlike (leb 2147483648 a) (leb 2147483648 b)) (d * d' * 8192 % 18446744073709551616 * 2 ^ w) m (d'' * 137438953472 % 18446744073709551616 * 2 ^ (k + 125)) (2 ^ 311)) z
-    ∙ ap₂ (λ (m n : ℕ). sum binary32 (unlike (leb 2147483648 a) (leb 2147483648 b)) (m * 2 ^ n) (leb 2147483648 e) (d'' * 137438953472 % 18446744073709551616 * 2 ^ (k + 125)) (2 ^ 311)) p
+    ap₂ (λ (m n : Bool). sum binary32 (unlike m n) (d * d' * 8192 % 18446744073709551616 * 2 ^ w) u
+    (d'' * 137438953472 % 18446744073709551616 * 2 ^ (k + 125)) (2 ^ 311)) x y
+    ∙ ap (λ (m : Bool). sum binary32 (unlike (leb 2147483648 a) (leb 2147483648 b)) (d * d' * 8192 % 18446744073709551616 * 2 ^ w) m
+    (d'' * 137438953472 % 18446744073709551616 * 2 ^ (k + 125)) (2 ^ 311)) z
+    ∙ ap₂ (λ (m n : ℕ). sum binary32 (unlike (leb 2147483648 a) (leb 2147483648 b)) (m * 2 ^ n) (leb 2147483648 e)
+    (d'' * 137438953472 % 18446744073709551616 * 2 ^ (k + 125)) (2 ^ 311)) p
     (g ∙ ap (λ (i : ℕ). cond (eqb i 0) 0 (place binary32 a + place binary32 b)) p)
-    ∙ ap₂ (λ (m n : ℕ). sum binary32 (unlike (leb 2147483648 a) (leb 2147483648 b)) (P a b e * 2 ^ W a b e) (leb 2147483648 e) (m * 2 ^ (n + 125)) (2 ^ 311)) (q-known e d'' h'') j
+    ∙ ap₂ (λ (m n : ℕ). sum binary32 (unlike (leb 2147483648 a) (leb 2147483648 b)) (P a b e * 2 ^ W a b e) (leb 2147483648 e) (m * 2 ^ (n + 125)) (2 ^ 311))
+    (q-known e d'' h'') j
     ∙ total-is a b e
 
 returns : tie.Need-returns
@@ -232,7 +247,9 @@ returns c =
     let c7 = c .before .before in
     let c8 = c .before in
     c .align .ensures
-    ∙ valued (a .a) (a .b) (a .c) (c1 .digits .result) (c2 .digits2 .result) (c3 .digits3 .result) (c4 .weight .result) (c5 .place .result) (c6 .minus .result) (c7 .minus2 .result) (c8 .minus3 .result) (c1 .digits .ensures) (c2 .digits2 .ensures) (c3 .digits3 .ensures) (c4 .weight .ensures) (c5 .place .ensures) (c6 .minus .ensures) (c7 .minus2 .ensures) (c8 .minus3 .ensures)
+    ∙ valued (a .a) (a .b) (a .c) (c1 .digits .result) (c2 .digits2 .result) (c3 .digits3 .result) (c4 .weight .result) (c5 .place .result)
+    (c6 .minus .result) (c7 .minus2 .result) (c8 .minus3 .result) (c1 .digits .ensures) (c2 .digits2 .ensures) (c3 .digits3 .ensures) (c4 .weight .ensures)
+    (c5 .place .ensures) (c6 .minus .ensures) (c7 .minus2 .ensures) (c8 .minus3 .ensures)
 
 pub fma-bits-spec : {M : Type 1} → statement M
 fma-bits-spec =

@@ -35,7 +35,8 @@ returns c = let a = c .before .args in none (a .p) (Parts.place binary32 (a .a) 
 returns-2 : tie.Need-returns-2
 returns-2 c =
     let a = c .before .before .before .args in
-    ap₂ (λ (x y : ℕ). x + y) (c .before .place .ensures) (c .place2 .ensures) ∙ some (a .p) (Parts.place binary32 (a .a) + Parts.place binary32 (a .b)) (c .before .before .if1 .left)
+    ap₂ (λ (x y : ℕ). x + y) (c .before .place .ensures) (c .place2 .ensures)
+    ∙ some (a .p) (Parts.place binary32 (a .a) + Parts.place binary32 (a .b)) (c .before .before .if1 .left)
 
 pub weight-spec : {M : Type 1} → statement M
 weight-spec = tie.close (tie.spec place-requires place-requires-2 add-result returns returns-2)

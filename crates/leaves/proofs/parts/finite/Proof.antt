@@ -28,7 +28,9 @@ unfolding nanBits
 float-from-bits-i c = tt
 
 returns : tie.Need-returns
-returns c = ap (λ (i : Float). lt (neg i) (c .before .args .x)) inf-is ∙ above (c .before .args .x) (sym (ap (λ (i : Float). lt (c .before .args .x) i) inf-is) ∙ c .if1 .taken)
+returns c =
+    ap (λ (i : Float). lt (neg i) (c .before .args .x)) inf-is
+    ∙ above (c .before .args .x) (sym (ap (λ (i : Float). lt (c .before .args .x) i) inf-is) ∙ c .if1 .taken)
 
 returns-2 : tie.Need-returns-2
 returns-2 c = not-below (c .before .args .x) (sym (ap (λ (i : Float). lt (c .before .args .x) i) inf-is) ∙ c .if1 .left)

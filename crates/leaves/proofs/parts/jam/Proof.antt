@@ -1,8 +1,10 @@
--- `leaves::parts::jam` meets its contract: where something is lost, the result is odd, so it and x lie between the same two multiples of 2 ^ (d + 1). Assumes nothing.
+-- `leaves::parts::jam` meets its contract: where something is lost, the result is odd, so it and x lie between the same two multiples of 2 ^ (d + 1). Assumes
+-- nothing.
 use mathlib.Core.Path.{_≡_, refl, sym, ap, ap₂, _∙_}
 use mathlib.Core.Logic.{inl, inr}
 use Prim.Native.Nat.{ℕ, suc, _+_, _-_, _*_, _/_, _%_, _^_, _≤_, _<_, zero-le}
-use native.Mathlib.Nat.{zero-mul, one-mul, mul-assoc, mul-comm, mul-left-comm, add-mul, pow-suc, div-mul-le-self, div-le-self, div-add-mod', mod-lt, lt-of-lt-of-le, le-refl, le-add-left}
+use native.Mathlib.Nat.{zero-mul, one-mul, mul-assoc, mul-comm, mul-left-comm, add-mul, pow-suc, div-mul-le-self, div-le-self, div-one, mul-one, div-add-mod'}
+use native.Mathlib.Nat.{mod-lt, lt-of-lt-of-le, le-refl, le-add-left}
 use native.Mathlib.Omega.{arith}
 use borrow.Author.Needs.{needs}
 use lib.Pow.{pow-pos, pow-mono}
@@ -12,7 +14,8 @@ use Rattle.leaves.proofs.parts.jam.Statement.{statement}
 use Rattle.leaves.proofs.parts.jam.Tie as tie
 
 -- ---- x beside the odd number 2 * j + 1 of 2 ^ d
-beside : (x w W j m P Q R : ℕ) → P ≡ j * w → Q ≡ 2 * P → R ≡ 2 * P + w → W ≡ 2 * w → 0 < w → 2 * P < x → x < 2 * P + 2 * w → ((Q < x) × (x < Q + W)) × ((Q < R) × (R < Q + W))
+beside : (x w W j m P Q R : ℕ) → P ≡ j * w → Q ≡ 2 * P → R ≡ 2 * P + w → W ≡ 2 * w → 0 < w → 2 * P < x → x < 2 * P + 2 * w
+    → ((Q < x) × (x < Q + W)) × ((Q < R) × (R < Q + W))
 beside x w W j m P Q R p q r e h l u = omega arith
 
 alike-odd : (x d j m : ℕ) → m ≡ 2 * j + 1 → 2 * (j * 2 ^ d) < x → x < 2 * (j * 2 ^ d) + 2 * 2 ^ d → Alike (suc d) x (m * 2 ^ d)
@@ -57,8 +60,11 @@ module _ (x d : ℕ) (X : x < 2 ^ 64) where
   evens e n =
       let w = 2 ^ d in
       let q = x / w in
-      let half : 2 * (q / 2 * w) ≡ q * w = sym (mul-assoc 2 (q / 2) w) ∙ ap (λ (y : ℕ). y * w) (whole q e) in
-      (alike-odd x d (q / 2) (q + 1) (one-up q e) (lower (2 * (q / 2 * w)) (q * w) half (div-mul-le-self x w) (λ k. n (back-is x w X ∙ k))) (upper (2 * (q / 2 * w)) (q * w) w half (floor-lt x w (pow-pos d))), le-refl (q + 1))
+      let half : 2 * (q / 2 * w) ≡ q * w = sym (mul-assoc 2 (q / 2) w) ∙ ap (λ (y : ℕ). y * w) (whole q e) in (
+        alike-odd x d (q / 2) (q + 1) (one-up q e) (lower (2 * (q / 2 * w)) (q * w) half (div-mul-le-self x w) (λ k. n (back-is x w X ∙ k)))
+            (upper (2 * (q / 2 * w)) (q * w) w half (floor-lt x w (pow-pos d))),
+        le-refl (q + 1),
+      )
     where
       whole : (q : ℕ) → q % 2 ≡ 0 → 2 * (q / 2) ≡ q
       whole q e = omega arith
@@ -76,8 +82,12 @@ module _ (x d : ℕ) (X : x < 2 ^ 64) where
   odds e =
       let w = 2 ^ d in
       let q = x / w in
-      let half : q * w ≡ 2 * (q / 2 * w) + w = ap (λ (y : ℕ). y * w) (split q e) ∙ add-mul (2 * (q / 2)) 1 w ∙ ap₂ (λ (a b : ℕ). a + b) (mul-assoc 2 (q / 2) w) (one-mul w) in
-      (alike-odd x d (q / 2) q (split q e) (lower (2 * (q / 2 * w)) (q * w) w half (pow-pos d) (div-mul-le-self x w)) (upper (2 * (q / 2 * w)) (q * w) w half (floor-lt x w (pow-pos d))), more q)
+      let half : q * w ≡ 2 * (q / 2 * w) + w = ap (λ (y : ℕ). y * w) (split q e) ∙ add-mul (2 * (q / 2)) 1 w
+      ∙ ap₂ (λ (a b : ℕ). a + b) (mul-assoc 2 (q / 2) w) (one-mul w) in (
+        alike-odd x d (q / 2) q (split q e) (lower (2 * (q / 2 * w)) (q * w) w half (pow-pos d) (div-mul-le-self x w))
+            (upper (2 * (q / 2 * w)) (q * w) w half (floor-lt x w (pow-pos d))),
+        more q,
+      )
     where
       split : (q : ℕ) → (q % 2 ≡ 0 → ⊥) → q ≡ 2 * (q / 2) + 1
       split q e = omega arith
@@ -91,11 +101,27 @@ module _ (x d : ℕ) (X : x < 2 ^ 64) where
       more : (q : ℕ) → q ≤ q + 1
       more q = omega arith
 
+-- ---- a shift by nothing
+unmoved : (x d : ℕ) → d ≡ 0 → x / 2 ^ d ≡ x
+unmoved x d e = ap (λ (k : ℕ). x / 2 ^ k) e ∙ div-one x
+
+never : (d : ℕ) → 63 < d → d ≡ 0 → ⊥
+never d h e = omega arith
+
+lossless : (x d : ℕ) → x < 2 ^ 64 → (x / 2 ^ d * 2 ^ d % 2 ^ 64 ≡ x → ⊥) → d ≡ 0 → ⊥
+lossless x d X n e = n (back-is x (2 ^ d) X ∙ ap (λ (k : ℕ). x / 2 ^ k * 2 ^ k) e ∙ mul-one (x / 1) ∙ div-one x)
+
 returns : tie.Need-returns
-returns c = gone (c .before .before .args .x) (c .before .before .args .d) (c .if2 .taken)
+returns c =
+    let a = c .before .before .args in
+    let g = gone (a .x) (a .d) (c .if2 .taken) in
+    (g .0, g .1, λ e. absurd (never (a .d) (c .before .if1 .taken) e))
 
 returns-2 : tie.Need-returns-2
-returns-2 c = tiny (c .before .before .args .x) (c .before .before .args .d) (c .before .before .fits .x .fits) (c .before .if1 .taken) (c .if2 .left)
+returns-2 c =
+    let a = c .before .before .args in
+    let g = tiny (a .x) (a .d) (c .before .before .fits .x .fits) (c .before .if1 .taken) (c .if2 .left) in
+    (g .0, g .1, λ e. absurd (never (a .d) (c .before .if1 .taken) e))
 
 shr-q : tie.Need-shr-q
 shr-q c = search needs
@@ -104,7 +130,10 @@ shl-if3 : tie.Need-shl-if3
 shl-if3 c = search needs
 
 returns-3 : tie.Need-returns-3
-returns-3 c = exact (c .before .before .args .x) (c .before .before .args .d) (c .before .before .fits .x .fits) (c .if3 .taken)
+returns-3 c =
+    let a = c .before .before .args in
+    let g = exact (a .x) (a .d) (c .before .before .fits .x .fits) (c .if3 .taken) in
+    (g .0, g .1, unmoved (a .x) (a .d))
 
 -- q is even, so it is not the largest
 fits-more : (q x n : ℕ) → q ≤ x → x < n → n % 2 ≡ 0 → q % 2 ≡ 0 → q + 1 < n
@@ -114,13 +143,24 @@ add-result : tie.Need-add-result
 add-result c =
     let x = c .before .before .before .args .x in
     let q = x / 2 ^ c .before .before .before .args .d in
-    record { fits = fits-more q x (2 ^ 64) (div-le-self x (2 ^ c .before .before .before .args .d)) (c .before .before .before .fits .x .fits) refl (c .if4 .taken) }
+    record {
+      fits =
+          fits-more q x (2 ^ 64) (div-le-self x (2 ^ c .before .before .before .args .d)) (c .before .before .before .fits .x .fits) refl (c .if4 .taken);
+    }
 
 returns-4 : tie.Need-returns-4
-returns-4 c = evens (c .before .before .before .args .x) (c .before .before .before .args .d) (c .before .before .before .fits .x .fits) (c .if4 .taken) (c .before .if3 .left)
+returns-4 c =
+    let st = c .before .before .before in
+    let a = st .args in
+    let g = evens (a .x) (a .d) (st .fits .x .fits) (c .if4 .taken) (c .before .if3 .left) in
+    (g .0, g .1, λ e. absurd (lossless (a .x) (a .d) (st .fits .x .fits) (c .before .if3 .left) e))
 
 returns-5 : tie.Need-returns-5
-returns-5 c = odds (c .before .before .before .args .x) (c .before .before .before .args .d) (c .before .before .before .fits .x .fits) (c .if4 .left)
+returns-5 c =
+    let st = c .before .before .before in
+    let a = st .args in
+    let g = odds (a .x) (a .d) (st .fits .x .fits) (c .if4 .left) in
+    (g .0, g .1, unmoved (a .x) (a .d))
 
 pub jam-spec : {M : Type 1} → statement M
 jam-spec = tie.close (tie.spec returns returns-2 shr-q shl-if3 returns-3 add-result returns-4 returns-5)

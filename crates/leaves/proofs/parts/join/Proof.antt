@@ -55,7 +55,8 @@ no-nan s b m e h =
     (sym (nanBits-above binary32 b ∙ ap (λ (x : ℕ). ltb 2139095040 x) (ap (λ (x : ℕ). x % 2147483648) e ∙ b-mod s m h) ∙ le-ltb 2139095040 m h))
     tt
 
-value : (s : Bool) (q k b m : ℕ) → q ≤ 16777216 → (k ≡ 0) ⊎ (8388608 ≤ q) → b ≡ cond s 2147483648 0 + m → Cut m (k * 8388608 + q) → ofBits binary32 b ≡ units binary32 s q k
+value : (s : Bool) (q k b m : ℕ) → q ≤ 16777216 → (k ≡ 0) ⊎ (8388608 ≤ q) → b ≡ cond s 2147483648 0 + m → Cut m (k * 8388608 + q)
+    → ofBits binary32 b ≡ units binary32 s q k
 value s q k b m hi lo e h =
     ap (λ (x : ℕ). ofBits binary32 x) e
     ∙ ⊎-elim
@@ -70,13 +71,22 @@ add-n : tie.Need-add-n
 add-n c = search needs
 
 add-b : tie.Need-add-b
-add-b c = omega (arith, m-le (c .before .before .if1 .m) (c .before .before .before .args .k * 8388608 + c .before .before .before .args .q) (m-is (c .before .before)))
+add-b c =
+    omega (
+      arith,
+      m-le (c .before .before .if1 .m) (c .before .before .before .args .k * 8388608 + c .before .before .before .args .q)
+          (m-is (c .before .before)),
+    )
 
 cast-result : tie.Need-cast-result
 cast-result c =
     let j = c .before in
     let m = j .before .if1 .m in
-    record { fits = subst (λ (x : ℕ). x < 4294967296) (sym (b-is j)) (b-lt (j .before .before .args .s) m (m-le m (j .before .before .args .k * 8388608 + j .before .before .args .q) (m-is (j .before)))) }
+    record {
+      fits =
+          subst (λ (x : ℕ). x < 4294967296) (sym (b-is j))
+          (b-lt (j .before .before .args .s) m (m-le m (j .before .before .args .k * 8388608 + j .before .before .args .q) (m-is (j .before))));
+    }
 
 float-from-bits-result : tie.Need-float-from-bits-result
 float-from-bits-result c =

@@ -1,4 +1,5 @@
--- `leaves::parts::rounded` meets its contract. m is shifted to 62 digits; then either 24 of them stay, or as many as reach down to the smallest value. Assumes nothing.
+-- `leaves::parts::rounded` meets its contract. m is shifted to 62 digits; then either 24 of them stay, or as many as reach down to the smallest value.
+-- Assumes nothing.
 use mathlib.Core.Path.{_≡_, refl, sym, ap, _∙_, subst}
 use mathlib.Core.Logic.{inl, inr}
 use mathlib.Core.Bool.{Bool}
@@ -27,6 +28,9 @@ module _ (m l : ℕ) (L : m * 2 ^ l < 2 ^ 62) where
   same : m * 2 ^ l % 2 ^ 64 ≡ m * 2 ^ l
   same = mod-eq-of-lt (lt-of-lt-of-le L (lit≤ tt))
 
+  w-lt : m * 2 ^ l % 2 ^ 64 < 2 ^ 62
+  w-lt = subst (λ (w : ℕ). w < 2 ^ 62) (sym same) L
+
   top-lt : m * 2 ^ l % 2 ^ 64 / 2 ^ 37 < 33554432
   top-lt = subst (λ (w : ℕ). w / 2 ^ 37 < 33554432) (sym same) (shr-lt 25 37 L)
 
@@ -40,7 +44,8 @@ module _ (m l : ℕ) (L : m * 2 ^ l < 2 ^ 62) where
       enough d h = omega arith
 
   module _ (s : Bool) (z y : ℕ) where
-    normal : l + y ≤ z + 37 → 2 ^ 61 ≤ m * 2 ^ l → units binary32 s (halve (m * 2 ^ l % 2 ^ 64 / 2 ^ 37) (m * 2 ^ l % 2 ^ 64 % 2 ^ 37)) (z + 37 - (l + y)) ≡ round binary32 s (m * 2 ^ z) (2 ^ (150 + y))
+    normal : l + y ≤ z + 37 → 2 ^ 61 ≤ m * 2 ^ l
+        → units binary32 s (halve (m * 2 ^ l % 2 ^ 64 / 2 ^ 37) (m * 2 ^ l % 2 ^ 64 % 2 ^ 37)) (z + 37 - (l + y)) ≡ round binary32 s (m * 2 ^ z) (2 ^ (150 + y))
     normal h g =
         ap (λ (w : ℕ). units binary32 s (halve (w / 2 ^ 37) (w % 2 ^ 37)) (z + 37 - (l + y))) same
         ∙ sym (round-at binary32 s m z l y (z + 37 - (l + y)) 37 (level z l y h) (shr-lt 25 37 L) (inr (le-div-iff-mul-le (pow-pos 37) .1 g)))
@@ -48,7 +53,8 @@ module _ (m l : ℕ) (L : m * 2 ^ l < 2 ^ 62) where
         level : (z l y : ℕ) → l + y ≤ z + 37 → y + (z + 37 - (l + y)) + l ≡ 37 + z
         level z l y h = omega arith
 
-    subnormal : (d : ℕ) → d ≡ l + y - z → z + 37 < l + y → units binary32 s (halve (m * 2 ^ l % 2 ^ 64 / 2 ^ d) (m * 2 ^ l % 2 ^ 64 % 2 ^ d)) 0 ≡ round binary32 s (m * 2 ^ z) (2 ^ (150 + y))
+    subnormal : (d : ℕ) → d ≡ l + y - z → z + 37 < l + y
+        → units binary32 s (halve (m * 2 ^ l % 2 ^ 64 / 2 ^ d) (m * 2 ^ l % 2 ^ 64 % 2 ^ d)) 0 ≡ round binary32 s (m * 2 ^ z) (2 ^ (150 + y))
     subnormal d e h =
         ap (λ (w : ℕ). units binary32 s (halve (w / 2 ^ d) (w % 2 ^ d)) 0) same
         ∙ sym (round-at binary32 s m z l y 0 d (level d z l y e h) (subst (λ (w : ℕ). w / 2 ^ d < 33554432) same (low-lt d (deep d z l y e h))) (inl refl))
@@ -72,7 +78,9 @@ join-requires : tie.Need-join-requires
 join-requires c κs = (zero-le, (lit< tt, inl refl))
 
 returns : tie.Need-returns
-returns c = c .join .ensures ∙ zeroth (c .before .before .args .s) (c .before .before .args .m) (c .before .before .args .z) (c .before .before .args .y) (c .before .if1 .taken)
+returns c =
+    c .join .ensures ∙ zeroth (c .before .before .args .s) (c .before .before .args .m) (c .before .before .args .z) (c .before .before .args .y)
+    (c .before .if1 .taken)
 
 lift-requires : tie.Need-lift-requires
 lift-requires c κs = search needs
@@ -106,8 +114,8 @@ cut-requires c κs =
       (
         small (a .z) l (a .y) (c .before .before .before .pre .1 .0),
         (
-          top-lt (a .m) l (c .before .lift .ensures .2),
-          inr (top-ge (a .m) l (c .before .lift .ensures .2) (c .before .lift .ensures .1)),
+          w-lt (a .m) l (c .before .lift .ensures .2),
+          (top-lt (a .m) l (c .before .lift .ensures .2), inr (top-ge (a .m) l (c .before .lift .ensures .2) (c .before .lift .ensures .1))),
         ),
       ),
     )
@@ -131,7 +139,8 @@ returns-3 : tie.Need-returns-3
 returns-3 c =
     let a = c .before .before .before .before .before .args in
     let l = c .before .before .before .lift .result in
-    c .join2 .ensures ∙ flushed (a .m) l (c .before .before .before .lift .ensures .2) (a .s) (a .z) (a .y) (l + a .y - a .z) refl (c .before .before .if2 .left) (c .before .if3 .taken)
+    c .join2 .ensures ∙ flushed (a .m) l (c .before .before .before .lift .ensures .2) (a .s) (a .z) (a .y) (l + a .y - a .z) refl
+    (c .before .before .if2 .left) (c .before .if3 .taken)
 
 deep : (z l y : ℕ) → z + 37 < l + y → 37 < l + y - z
 deep z l y h = omega arith
@@ -141,13 +150,15 @@ cut-requires-2 c κs =
     let a = c .before .before .before .before .args in
     let l = c .before .before .lift .result in
     let lt : a .z + 37 < l + a .y = c .before .if2 .left in
-    (omega arith, (lit< tt, (low-lt (a .m) l (c .before .before .lift .ensures .2) (l + a .y - a .z) (deep (a .z) l (a .y) lt), inl refl)))
+    let w = c .before .before .lift .ensures .2 in
+    (omega arith, (lit< tt, (w-lt (a .m) l w, (low-lt (a .m) l w (l + a .y - a .z) (deep (a .z) l (a .y) lt), inl refl))))
 
 returns-4 : tie.Need-returns-4
 returns-4 c =
     let a = c .before .before .before .before .before .args in
     let l = c .before .before .before .lift .result in
-    c .cut2 .ensures ∙ subnormal (a .m) l (c .before .before .before .lift .ensures .2) (a .s) (a .z) (a .y) (l + a .y - a .z) refl (c .before .before .if2 .left)
+    c .cut2 .ensures ∙ subnormal (a .m) l (c .before .before .before .lift .ensures .2) (a .s) (a .z) (a .y) (l + a .y - a .z) refl
+    (c .before .before .if2 .left)
 
 pub rounded-spec : {M : Type 1} → statement M
 rounded-spec =

@@ -11,16 +11,20 @@ use Rattle.leaves.proofs.power.sixth_power.Tie as tie
 second : (c : tie.After-times) → whole (c .times .result .a) (c .times .result .b) (c .times .result .c) (c .times .result .d) ≡ c .before .args .s ^ 2
 second c = let s = c .before .args .s in c .times .ensures .1 ∙ next (whole s 0 0 0) s 1 (first s)
 
-third : (c : tie.After-times2) → whole (c .times2 .result .a) (c .times2 .result .b) (c .times2 .result .c) (c .times2 .result .d) ≡ c .before .before .args .s ^ 3
+third : (c : tie.After-times2)
+    → whole (c .times2 .result .a) (c .times2 .result .b) (c .times2 .result .c) (c .times2 .result .d) ≡ c .before .before .args .s ^ 3
 third c = c .times2 .ensures .1 ∙ next _ _ 2 (second (c .before))
 
-fourth : (c : tie.After-times3) → whole (c .times3 .result .a) (c .times3 .result .b) (c .times3 .result .c) (c .times3 .result .d) ≡ c .before .before .before .args .s ^ 4
+fourth : (c : tie.After-times3)
+    → whole (c .times3 .result .a) (c .times3 .result .b) (c .times3 .result .c) (c .times3 .result .d) ≡ c .before .before .before .args .s ^ 4
 fourth c = c .times3 .ensures .1 ∙ next _ _ 3 (third (c .before))
 
-fifth : (c : tie.After-times4) → whole (c .times4 .result .a) (c .times4 .result .b) (c .times4 .result .c) (c .times4 .result .d) ≡ c .before .before .before .before .args .s ^ 5
+fifth : (c : tie.After-times4)
+    → whole (c .times4 .result .a) (c .times4 .result .b) (c .times4 .result .c) (c .times4 .result .d) ≡ c .before .before .before .before .args .s ^ 5
 fifth c = c .times4 .ensures .1 ∙ next _ _ 4 (fourth (c .before))
 
-sixth : (c : tie.After-times5) → whole (c .times5 .result .a) (c .times5 .result .b) (c .times5 .result .c) (c .times5 .result .d) ≡ c .before .before .before .before .before .args .s ^ 6
+sixth : (c : tie.After-times5)
+    → whole (c .times5 .result .a) (c .times5 .result .b) (c .times5 .result .c) (c .times5 .result .d) ≡ c .before .before .before .before .before .args .s ^ 6
 sixth c = c .times5 .ensures .1 ∙ next _ _ 5 (fifth (c .before))
 
 times-requires : tie.Need-times-requires
@@ -36,7 +40,8 @@ times-requires-4 : tie.Need-times-requires-4
 times-requires-4 c κs = (c .times3 .ensures .0, (c .before .before .before .pre, room _ _ 4 (c .before .before .before .pre) (lit≤ tt) (fourth c)))
 
 times-requires-5 : tie.Need-times-requires-5
-times-requires-5 c κs = (c .times4 .ensures .0, (c .before .before .before .before .pre, room _ _ 5 (c .before .before .before .before .pre) (lit≤ tt) (fifth c)))
+times-requires-5 c κs =
+    (c .times4 .ensures .0, (c .before .before .before .before .pre, room _ _ 5 (c .before .before .before .before .pre) (lit≤ tt) (fifth c)))
 
 returns : tie.Need-returns
 returns c = (c .times5 .ensures .0, sixth c)

@@ -65,15 +65,30 @@ mul-result c = omega (arith, both (c .before .args .n) (c .before .args .y) (c .
 
 add-result : tie.Need-add-result
 add-result c =
-    omega (arith, both (c .before .args .n) (c .before .args .y) (c .gap .result) (c .before .pre .0) (c .before .pre .1) (c .gap .ensures), g-le (c .before .args .n) (c .before .args .y) (c .before .pre .0) (c .before .pre .1))
+    omega (
+      arith,
+      both (c .before .args .n) (c .before .args .y) (c .gap .result) (c .before .pre .0) (c .before .pre .1) (c .gap .ensures),
+      g-le
+          (c .before .args .n) (c .before .args .y) (c .before .pre .0) (c .before .pre .1),
+    )
 
 add-result-2 : tie.Need-add-result-2
 add-result-2 c =
-    omega (arith, both (c .before .args .n) (c .before .args .y) (c .gap .result) (c .before .pre .0) (c .before .pre .1) (c .gap .ensures), g-le (c .before .args .n) (c .before .args .y) (c .before .pre .0) (c .before .pre .1))
+    omega (
+      arith,
+      both (c .before .args .n) (c .before .args .y) (c .gap .result) (c .before .pre .0) (c .before .pre .1) (c .gap .ensures),
+      g-le
+          (c .before .args .n) (c .before .args .y) (c .before .pre .0) (c .before .pre .1),
+    )
 
 returns : tie.Need-returns
 returns c =
-    omega (arith, both (c .before .args .n) (c .before .args .y) (c .gap .result) (c .before .pre .0) (c .before .pre .1) (c .gap .ensures), g-le (c .before .args .n) (c .before .args .y) (c .before .pre .0) (c .before .pre .1))
+    omega (
+      arith,
+      both (c .before .args .n) (c .before .args .y) (c .gap .result) (c .before .pre .0) (c .before .pre .1) (c .gap .ensures),
+      g-le
+          (c .before .args .n) (c .before .args .y) (c .before .pre .0) (c .before .pre .1),
+    )
 
 pub guess-spec : {M : Type 1} → statement M
 guess-spec =

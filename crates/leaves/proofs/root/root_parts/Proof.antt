@@ -53,7 +53,8 @@ module _ (w p r : ℕ) (lo : 8388608 ≤ w) (hi : w < 16777216) (v : IsNear (w *
       let k = p / 2 in
       let z = shifted w lo hi (p % 2) (last p) in
       sym (subst (λ (x : ℕ). rooted binary32 (n * (2 ^ x * 2 ^ x)) ≡ units binary32 false r x) (up p e l q h) (rooted-near n r ((p - 2) / 2) v (z .1) (z .2)))
-      ∙ ap (λ (x : ℕ). rooted binary32 x) (ap (λ (x : ℕ). x * (2 ^ k * 2 ^ k)) (z .0 ∙ ap (λ (x : ℕ). x * 2 ^ (23 + p % 2)) s) ∙ regroup m e l (23 + p % 2) k (even p e l q h))
+      ∙ ap (λ (x : ℕ). rooted binary32 x)
+      (ap (λ (x : ℕ). x * (2 ^ k * 2 ^ k)) (z .0 ∙ ap (λ (x : ℕ). x * 2 ^ (23 + p % 2)) s) ∙ regroup m e l (23 + p % 2) k (even p e l q h))
     where
       up : (p e l : ℕ) → p ≡ e + 126 - l → l < 24 → suc ((p - 2) / 2) ≡ p / 2
       up p e l q h = omega arith
@@ -124,7 +125,8 @@ join-requires c κs =
     let st = c .before .before .before .before in
     let a = st .args in
     let l = f .result in
-    let q = asked (a .m * 2 ^ l % 2 ^ 64) (a .e + 126 - l) (c .settle .result) (low (a .m) l (f .ensures .1) (f .ensures .2)) (high (a .m) l (f .ensures .1) (f .ensures .2)) (c .settle .ensures) (small (a .e) l (st .pre .1 .1)) in
+    let q = asked (a .m * 2 ^ l % 2 ^ 64) (a .e + 126 - l) (c .settle .result) (low (a .m) l (f .ensures .1) (f .ensures .2))
+    (high (a .m) l (f .ensures .1) (f .ensures .2)) (c .settle .ensures) (small (a .e) l (st .pre .1 .1)) in
     (q .0, (q .1, q .2))
   where
     small : (e l : ℕ) → e < 1024 → e + 126 - l < 1150
@@ -136,7 +138,8 @@ returns c =
     let a = c .before .before .before .before .before .args in
     let l = f .result in
     c .join .ensures
-    ∙ value (a .m * 2 ^ l % 2 ^ 64) (a .e + 126 - l) (c .before .settle .result) (low (a .m) l (f .ensures .1) (f .ensures .2)) (high (a .m) l (f .ensures .1) (f .ensures .2)) (c .before .settle .ensures)
+    ∙ value (a .m * 2 ^ l % 2 ^ 64) (a .e + 126 - l) (c .before .settle .result) (low (a .m) l (f .ensures .1) (f .ensures .2))
+    (high (a .m) l (f .ensures .1) (f .ensures .2)) (c .before .settle .ensures)
     (a .m) (a .e) l (same (a .m) l (f .ensures .1) (f .ensures .2)) refl (f .ensures .0)
 
 pub root-parts-spec : {M : Type 1} → statement M

@@ -1,4 +1,5 @@
--- `leaves::root::settle` meets its contract. The first loop ends with n ≤ r * r + r, which the second keeps; the second's test is the rest. The measures: how far r is from its bound, and r. Assumes nothing.
+-- `leaves::root::settle` meets its contract. The first loop ends with n ≤ r * r + r, which the second keeps; the second's test is the rest. The measures: how
+-- far r is from its bound, and r. Assumes nothing.
 use mathlib.Core.Path.{_≡_, subst}
 use Prim.Native.Nat.{ℕ, zero, suc, _+_, _-_, _*_, _<_, _≤_}
 use native.Mathlib.Nat.{mul-le-mul, le-of-lt}
@@ -31,7 +32,8 @@ some zero h p = absurd (no h p)
 some (suc r) h p = omega arith
 
 down : (n r : ℕ) → 1 ≤ r → n + r ≤ r * r → n ≤ (r - 1) * (r - 1) + (r - 1)
-down n r p h = last (r - 1) (r * r) ((r - 1) * (r - 1)) (subst (λ (x : ℕ). x * x ≡ (r - 1) * (r - 1) + (r - 1) + (r - 1) + 1) (one r p) (square-suc (r - 1))) (one r p) h
+down n r p h =
+    last (r - 1) (r * r) ((r - 1) * (r - 1)) (subst (λ (x : ℕ). x * x ≡ (r - 1) * (r - 1) + (r - 1) + (r - 1) + 1) (one r p) (square-suc (r - 1))) (one r p) h
   where
     one : (r : ℕ) → 1 ≤ r → r - 1 + 1 ≡ r
     one r p = omega arith
@@ -70,7 +72,9 @@ sub-r : tie.Need-sub-r Inv-loop μ-loop Inv-loop2 μ-loop2
 sub-r c = some (c .before .loop2 .r) (c .loop2-test .taken) (omega (arith, c .before .before .before .before .pre .0))
 
 loop2-less : tie.Need-loop2-less Inv-loop μ-loop Inv-loop2 μ-loop2
-loop2-less c = let p : 1 ≤ c .before .loop2 .r = some (c .before .loop2 .r) (c .loop2-test .taken) (omega (arith, c .before .before .before .before .pre .0)) in omega arith
+loop2-less c =
+    let p : 1 ≤ c .before .loop2 .r = some (c .before .loop2 .r) (c .loop2-test .taken)
+    (omega (arith, c .before .before .before .before .pre .0)) in omega arith
 
 loop2-again : tie.Need-loop2-again Inv-loop μ-loop Inv-loop2 μ-loop2
 loop2-again c =

@@ -33,8 +33,11 @@ root-parts-requires c κs =
     let st = c .before .before .before .before in
     let x = st .args .x in
     let b = toBits binary32 x in
-    let p : 0 < sig binary32 b = sig-pos x (held x (st .good .0 .1)) (above x true (c .before .before .before .if1 .taken)) (under x true (c .before .before .if2 .taken)) in
-    (lt-of-lt-of-le p (le-of-eq (sym (c .before .digits .ensures))), (lt-of-le-of-lt (le-of-eq (c .before .digits .ensures)) (sig-lt binary32 b), omega (arith, c .place .ensures, place-le binary32 b)))
+    let p : 0 < sig binary32 b = sig-pos x (held x (st .good .0 .1)) (above x true (c .before .before .before .if1 .taken))
+    (under x true (c .before .before .if2 .taken)) in (
+      lt-of-lt-of-le p (le-of-eq (sym (c .before .digits .ensures))),
+      (lt-of-le-of-lt (le-of-eq (c .before .digits .ensures)) (sig-lt binary32 b), omega (arith, c .place .ensures, place-le binary32 b)),
+    )
 
 returns : tie.Need-returns
 returns c =
@@ -44,7 +47,8 @@ returns c =
     let h : lt plain x ≡ true = above x true (c .before .before .before .before .if1 .taken) in
     c .root-parts .ensures
     ∙ ap₂ (λ (m e : ℕ). rooted binary32 (m * 2 ^ e * 2 ^ 149)) (c .before .before .digits .ensures) (c .before .place .ensures)
-    ∙ root-value x (leb 2147483648 b) (sig binary32 b * 2 ^ place binary32 b) h (bits-value x (held x (st .good .0 .1)) h (under x true (c .before .before .before .if2 .taken)))
+    ∙ root-value x (leb 2147483648 b) (sig binary32 b * 2 ^ place binary32 b) h
+    (bits-value x (held x (st .good .0 .1)) h (under x true (c .before .before .before .if2 .taken)))
 
 returns-2 : tie.Need-returns-2
 returns-2 c = let x = c .before .before .args .x in at-infinity x (above x true (c .before .if1 .taken)) (under x false (c .if2 .left))
@@ -53,7 +57,9 @@ returns-3 : tie.Need-returns-3
 returns-3 c = let x = c .before .before .args .x in at-zero x (level x true (c .if3 .taken))
 
 returns-4 : tie.Need-returns-4
-returns-4 c = let x = c .before .before .args .x in ap₂ (λ (a b : Float). div binary32 a b) zero-is zero-is ∙ elsewhere x (above x false (c .before .if1 .left)) (level x false (c .if3 .left))
+returns-4 c =
+    let x = c .before .before .args .x in ap₂ (λ (a b : Float). div binary32 a b) zero-is zero-is
+    ∙ elsewhere x (above x false (c .before .if1 .left)) (level x false (c .if3 .left))
 
 pub sqrt-spec : {M : Type 1} → statement M
 sqrt-spec =

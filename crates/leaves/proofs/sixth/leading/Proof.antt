@@ -36,8 +36,13 @@ loop-less c = let v = c .before .before .before .loop .inv in omega (arith, v .0
 loop-again : tie.Need-loop-again Inv-loop μ-loop
 loop-again c =
     let w = c .before .before .before in
-    let v = w .loop .inv in
-    (halfway (w .loop .lo) (w .loop .hi) (c .before .before .loop-test .taken) .1, v .1, subst (λ (p : ℕ). p ≤ w .before .args .t * 2 ^ 24) (c .before .short-power .ensures) (c .if1 .taken), v .3)
+    let v = w .loop .inv in (
+      halfway (w .loop .lo) (w .loop .hi) (c .before .before .loop-test .taken) .1,
+      v .1,
+      subst (λ (p : ℕ). p ≤ w .before .args .t * 2 ^ 24)
+          (c .before .short-power .ensures) (c .if1 .taken),
+      v .3,
+    )
 
 loop-less-2 : tie.Need-loop-less-2 Inv-loop μ-loop
 loop-less-2 c = let v = c .before .before .before .loop .inv in omega (arith, v .0, v .1, c .before .before .loop-test .taken)
@@ -46,14 +51,21 @@ loop-again-2 : tie.Need-loop-again-2 Inv-loop μ-loop
 loop-again-2 c =
     let w = c .before .before .before in
     let v = w .loop .inv in
-    let h = halfway (w .loop .lo) (w .loop .hi) (c .before .before .loop-test .taken) in
-    (h .0, lower-still ((w .loop .lo + w .loop .hi) / 2) (w .loop .hi) 1024 (h .1) (v .1), v .2, subst (λ (p : ℕ). w .before .args .t * 2 ^ 24 < p) (c .before .short-power .ensures) (c .if1 .left))
+    let h = halfway (w .loop .lo) (w .loop .hi) (c .before .before .loop-test .taken) in (
+      h .0,
+      lower-still ((w .loop .lo + w .loop .hi) / 2) (w .loop .hi) 1024 (h .1) (v .1),
+      v .2,
+      subst (λ (p : ℕ). w .before .args .t * 2 ^ 24 < p)
+          (c .before .short-power .ensures) (c .if1 .left),
+    )
 
 returns : tie.Need-returns Inv-loop μ-loop
 returns c =
     let v = c .before .loop .inv in
-    let l = c .before .loop in
-    (lt-of-lt-of-le (v .0) (v .1), (v .2, subst (λ (x : ℕ). c .before .before .args .t * 2 ^ 24 < x ^ 6) (beside (l .lo) (l .hi) (v .0) (c .loop-test .left)) (v .3)))
+    let l = c .before .loop in (
+      lt-of-lt-of-le (v .0) (v .1),
+      (v .2, subst (λ (x : ℕ). c .before .before .args .t * 2 ^ 24 < x ^ 6) (beside (l .lo) (l .hi) (v .0) (c .loop-test .left)) (v .3)),
+    )
 
 pub leading-spec : {M : Type 1} → statement M
 leading-spec =

@@ -67,8 +67,13 @@ loop-again : tie.Need-loop-again Inv-loop μ-loop
 loop-again c =
     let w = c .before .before .before in
     let v = w .loop .inv in
-    let x = (w .loop .lo + w .loop .hi) / 2 in
-    (halfway (w .loop .lo) (w .loop .hi) (c .before .before .loop-test .taken) .1, v .1, leb-true (x ^ 6) (w .before .before .args .t * 2 ^ 108) (sym (c .before .under .ensures) ∙ c .if1 .taken), v .3)
+    let x = (w .loop .lo + w .loop .hi) / 2 in (
+      halfway (w .loop .lo) (w .loop .hi) (c .before .before .loop-test .taken) .1,
+      v .1,
+      leb-true (x ^ 6) (w .before .before .args .t * 2 ^ 108)
+          (sym (c .before .under .ensures) ∙ c .if1 .taken),
+      v .3,
+    )
 
 loop-less-2 : tie.Need-loop-less-2 Inv-loop μ-loop
 loop-less-2 c = let v = c .before .before .before .loop .inv in omega (arith, v .0, v .1, c .before .before .loop-test .taken)
@@ -78,11 +83,21 @@ loop-again-2 c =
     let w = c .before .before .before in
     let v = w .loop .inv in
     let x = (w .loop .lo + w .loop .hi) / 2 in
-    let h = halfway (w .loop .lo) (w .loop .hi) (c .before .before .loop-test .taken) in
-    (h .0, lower-still x (w .loop .hi) 16777216 (h .1) (v .1), v .2, leb-false (x ^ 6) (w .before .before .args .t * 2 ^ 108) (sym (c .before .under .ensures) ∙ c .if1 .left))
+    let h = halfway (w .loop .lo) (w .loop .hi) (c .before .before .loop-test .taken) in (
+      h .0,
+      lower-still x (w .loop .hi) 16777216 (h .1) (v .1),
+      v .2,
+      leb-false (x ^ 6) (w .before .before .args .t * 2 ^ 108)
+          (sym (c .before .under .ensures) ∙ c .if1 .left),
+    )
 
 returns : tie.Need-returns Inv-loop μ-loop
-returns c = let v = c .before .loop .inv in (v .2, subst (λ (x : ℕ). c .before .before .before .args .t * 2 ^ 108 < x ^ 6) (beside (c .before .loop .lo) (c .before .loop .hi) (v .0) (c .loop-test .left)) (v .3))
+returns c =
+    let v = c .before .loop .inv in (
+      v .2,
+      subst (λ (x : ℕ). c .before .before .before .args .t * 2 ^ 108 < x ^ 6)
+          (beside (c .before .loop .lo) (c .before .loop .hi) (v .0) (c .loop-test .left)) (v .3),
+    )
 
 pub settle-spec : {M : Type 1} → statement M
 settle-spec =

@@ -12,7 +12,8 @@ use Rattle.leaves.proofs.sixth.shift.Statement.{statement}
 use Rattle.leaves.proofs.sixth.shift.Tie as tie
 
 module _ (m : ℕ) (M : 0 < m) (L : m < 16777216) where
-  known : (33 ≤ leadingZeros 64 m) × (leadingZeros 64 m - 33 ≤ 30) × (1073741824 ≤ m * 2 ^ (leadingZeros 64 m - 33)) × (m * 2 ^ (leadingZeros 64 m - 33) < 2147483648)
+  known : (33 ≤ leadingZeros 64 m) × (leadingZeros 64 m - 33 ≤ 30) × (1073741824 ≤ m * 2 ^ (leadingZeros 64 m - 33)) ×
+      (m * 2 ^ (leadingZeros 64 m - 33) < 2147483648)
   known = lifted m 33 30 refl M (lt-of-lt-of-le L (lit≤ tt))
 
 -- at most five digits more

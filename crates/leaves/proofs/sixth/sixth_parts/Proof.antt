@@ -6,15 +6,15 @@ use native.Mathlib.Nat.{mod-eq-of-lt, lt-of-lt-of-le, le-of-lt}
 use native.Mathlib.Omega.{arith}
 use borrow.Author.Needs.{needs}
 use lib.Dec.{lit≤}
-use Rattle.leaves.specs.Power.{IsSixthRoot}
+use Rattle.rounding.specs.Roots.{IsRoot}
 use Rattle.leaves.proofs.SixthParts.{digits-lt, digits-ge, parts-value}
 use Rattle.leaves.proofs.sixth.sixth_parts.Statement.{statement}
 use Rattle.leaves.proofs.sixth.sixth_parts.Tie as tie
 
 -- what `settle` gives, of m * 2 ^ l itself
-found : (c : tie.After-settle) → IsSixthRoot (c .before .before .args .m * 2 ^ c .before .shift .result * 2 ^ 108) (c .settle .result)
+found : (c : tie.After-settle) → IsRoot 6 (c .before .before .args .m * 2 ^ c .before .shift .result * 2 ^ 108) (c .settle .result)
 found c =
-    subst (λ (x : ℕ). IsSixthRoot (x * 2 ^ 108) (c .settle .result)) (mod-eq-of-lt (lt-of-lt-of-le (c .before .shift .ensures .2) (lit≤ tt))) (c .settle .ensures)
+    subst (λ (x : ℕ). IsRoot 6 (x * 2 ^ 108) (c .settle .result)) (mod-eq-of-lt (lt-of-lt-of-le (c .before .shift .ensures .2) (lit≤ tt))) (c .settle .ensures)
 
 low-k : (e l : ℕ) → e < 1024 → (e + 637 - l) / 6 < 65536
 low-k e l h = omega arith
@@ -39,14 +39,17 @@ join-requires c κs =
     let a = c .before .before .args in
     let h = c .before .shift in
     let t = a .m * 2 ^ h .result in
-    let s = c .settle .result in
-    (le-of-lt (digits-lt t s (h .ensures .2) (found c)), (low-k (a .e) (h .result) (c .before .before .pre .1 .1), inr (digits-ge t s (h .ensures .1) (found c))))
+    let s = c .settle .result in (
+      le-of-lt (digits-lt t s (h .ensures .2) (found c)),
+      (low-k (a .e) (h .result) (c .before .before .pre .1 .1), inr (digits-ge t s (h .ensures .1) (found c))),
+    )
 
 returns : tie.Need-returns
 returns c =
     let a = c .before .before .before .args in
     let h = c .before .before .shift in
-    c .join .ensures ∙ parts-value (a .m) (a .e) (h .result) (c .before .settle .result) (h .ensures .0) (h .ensures .1) (h .ensures .2) (h .ensures .3) (found (c .before))
+    c .join .ensures ∙ parts-value (a .m) (a .e) (h .result) (c .before .settle .result) (h .ensures .0) (h .ensures .1) (h .ensures .2) (h .ensures .3)
+    (found (c .before))
 
 pub sixth-parts-spec : {M : Type 1} → statement M
 sixth-parts-spec =

@@ -14,10 +14,12 @@ less-requires : tie.Need-less-requires
 less-requires c κs = search needs
 
 returns-2 : tie.Need-returns-2
-returns-2 c = let a = c .before .before .before .args in min-is (a .a) (a .b) false true (c .before .before .if1 .left) (sym (c .before .less .ensures) ∙ c .if2 .taken)
+returns-2 c =
+    let a = c .before .before .before .args in min-is (a .a) (a .b) false true (c .before .before .if1 .left) (sym (c .before .less .ensures) ∙ c .if2 .taken)
 
 returns-3 : tie.Need-returns-3
-returns-3 c = let a = c .before .before .before .args in min-is (a .a) (a .b) false false (c .before .before .if1 .left) (sym (c .before .less .ensures) ∙ c .if2 .left)
+returns-3 c =
+    let a = c .before .before .before .args in min-is (a .a) (a .b) false false (c .before .before .if1 .left) (sym (c .before .less .ensures) ∙ c .if2 .left)
 
 pub min-spec : {M : Type 1} → statement M
 min-spec = tie.close (tie.spec returns less-requires returns-2 returns-3)

@@ -23,7 +23,8 @@ module _ (x : Float) (F : T (fits binary32 x)) (A : le zero32 x ≡ true) (B : l
       let b = toBits binary32 x in
       place-small x (leb 2147483648 b) (sig binary32 b) (place binary32 b) (decode binary32 x F (in-range x A B .0)) (in-range x A B .1) (leads binary32 b)
 
-  value : (t p q : ℕ) → t ≡ sig binary32 (toBits binary32 x) → p ≡ place binary32 (toBits binary32 x) → q ≡ (t + 2 ^ (149 - p) - 1) / 2 ^ (149 - p) → q ≡ wholeUpOf x
+  value : (t p q : ℕ) → t ≡ sig binary32 (toBits binary32 x) → p ≡ place binary32 (toBits binary32 x) → q ≡ (t + 2 ^ (149 - p) - 1) / 2 ^ (149 - p)
+      → q ≡ wholeUpOf x
   value t p q e g h =
       let s = leb 2147483648 (toBits binary32 x) in
       h ∙ sym (digits-up x s t p (pattern-value x F (in-range x A B .0) s t p refl e g) (149 - p) (back p g)) ∙ whole-up-is x true true A B
@@ -43,16 +44,28 @@ place-requires c κs = search needs
 sub-whole-above : tie.Need-sub-whole-above
 sub-whole-above c =
     let st = c .before .before .before .before in
-    omega (arith, c .place .ensures, place-le (st .args .x) (held (st .args .x) (st .good .0 .1)) (c .before .before .before .if1 .taken) (c .before .before .if2 .taken))
+    omega (
+      arith,
+      c .place .ensures,
+      place-le (st .args .x) (held (st .args .x) (st .good .0 .1)) (c .before .before .before .if1 .taken)
+          (c .before .before .if2 .taken),
+    )
 
 whole-above-requires : tie.Need-whole-above-requires
-whole-above-requires c κs = lt-of-le-of-lt (le-of-eq (c .before .digits .ensures)) (sig-lt binary32 (toBits binary32 (c .before .before .before .before .args .x)))
+whole-above-requires c κs =
+    lt-of-le-of-lt (le-of-eq (c .before .digits .ensures)) (sig-lt binary32 (toBits binary32 (c .before .before .before .before .args .x)))
 
 cast-result : tie.Need-cast-result
 cast-result c =
     let t = c .before .before .digits in
     let d = 149 - c .before .place .result in
-    record { fits = lt-of-le-of-lt (le-of-eq (c .whole-above .ensures)) (lt-of-le-of-lt (up-le (t .result) (2 ^ d) (pow-pos d)) (lt-of-lt-of-le (lt-of-le-of-lt (le-of-eq (t .ensures)) (sig-lt binary32 (toBits binary32 (c .before .before .before .before .before .args .x)))) (lit≤ tt))) }
+    record {
+      fits =
+          lt-of-le-of-lt (le-of-eq (c .whole-above .ensures))
+          (lt-of-le-of-lt (up-le (t .result) (2 ^ d) (pow-pos d))
+          (lt-of-lt-of-le (lt-of-le-of-lt (le-of-eq (t .ensures)) (sig-lt binary32 (toBits binary32 (c .before .before .before .before .before .args .x))))
+          (lit≤ tt)));
+    }
 
 returns : tie.Need-returns
 returns c =
@@ -60,7 +73,8 @@ returns c =
     let x = st .args .x in
     let t = c .before .before .digits in
     let p = c .before .place in
-    value x (held x (st .good .0 .1)) (c .before .before .before .before .if1 .taken) (c .before .before .before .if2 .taken) (t .result) (p .result) (c .whole-above .result) (t .ensures) (p .ensures) (c .whole-above .ensures)
+    value x (held x (st .good .0 .1)) (c .before .before .before .before .if1 .taken) (c .before .before .before .if2 .taken) (t .result) (p .result)
+    (c .whole-above .result) (t .ensures) (p .ensures) (c .whole-above .ensures)
 
 returns-2 : tie.Need-returns-2
 returns-2 c = let x = c .before .before .args .x in whole-up-is x true false (c .before .if1 .taken) (c .if2 .left)
