@@ -36,11 +36,14 @@ pub fn quad_at(t: f32, a: f32, b: f32, c: f32) -> f32
     lerp(t, lerp(t, a, b), lerp(t, b, c))
 }
 
-// One coordinate of a cubic at t.
+// One coordinate of a cubic at t: its two quads share the lerp in the middle.
 pub fn cubic_at(t: f32, a: f32, b: f32, c: f32, d: f32) -> f32
     ensures { λ r. ⌜ r ≡ cubicAtOf t a b c d ⌝ }
 {
-    lerp(t, quad_at(t, a, b, c), quad_at(t, b, c, d))
+    let mid = lerp(t, b, c);
+    let first = lerp(t, lerp(t, a, b), mid);
+    let second = lerp(t, mid, lerp(t, c, d));
+    lerp(t, first, second)
 }
 
 pub fn eval_cubic(
