@@ -46,6 +46,26 @@ pub fn cubic_at(t: f32, a: f32, b: f32, c: f32, d: f32) -> f32
     lerp(t, first, second)
 }
 
+// The weight of a quad at t. Where all weights are 1 no lerp is needed: lerp(t, 1, 1) is 1 for each t from 0 to 1.
+fn quad_weight(t: f32, a: f32, b: f32, c: f32) -> f32
+    ensures { λ r. ⌜ r ≡ quadAtOf t a b c ⌝ }
+{
+    if (0.0 <= t) & (t <= 1.0) & (a == 1.0) & (b == 1.0) & (c == 1.0) {
+        return 1.0;
+    }
+    quad_at(t, a, b, c)
+}
+
+// The same of a cubic.
+fn cubic_weight(t: f32, a: f32, b: f32, c: f32, d: f32) -> f32
+    ensures { λ r. ⌜ r ≡ cubicAtOf t a b c d ⌝ }
+{
+    if (0.0 <= t) & (t <= 1.0) & (a == 1.0) & (b == 1.0) & (c == 1.0) & (d == 1.0) {
+        return 1.0;
+    }
+    cubic_at(t, a, b, c, d)
+}
+
 pub fn eval_cubic(
     t: f32,
     p0: WeightedPoint,
@@ -57,7 +77,7 @@ pub fn eval_cubic(
 {
     let x = cubic_at(t, p0.point.x, p1.point.x, p2.point.x, p3.point.x);
     let y = cubic_at(t, p0.point.y, p1.point.y, p2.point.y, p3.point.y);
-    let weight = cubic_at(t, p0.weight, p1.weight, p2.weight, p3.weight);
+    let weight = cubic_weight(t, p0.weight, p1.weight, p2.weight, p3.weight);
     WeightedPoint {
         point: Point { x, y },
         weight,
@@ -67,7 +87,7 @@ pub fn eval_cubic(
 pub fn eval_quad(t: f32, p0: WeightedPoint, p1: WeightedPoint, p2: WeightedPoint) -> Point
     ensures { λ r. ⌜ r ≡ evalQuadOf t p0 p1 p2 ⌝ }
 {
-    let weight = quad_at(t, p0.weight, p1.weight, p2.weight);
+    let weight = quad_weight(t, p0.weight, p1.weight, p2.weight);
     let w_recip = 1.0 / weight;
     let x = quad_at(t, p0.point.x, p1.point.x, p2.point.x) * w_recip;
     let y = quad_at(t, p0.point.y, p1.point.y, p2.point.y) * w_recip;

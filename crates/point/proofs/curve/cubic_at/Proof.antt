@@ -29,7 +29,8 @@ returns c =
     let four = five .before in
     let three = four .before in
     let two = three .before in
-    rw (← two .before .lerp .ensures, ← two .lerp2 .ensures, ← three .lerp3 .ensures, ← four .lerp4 .ensures, ← five .lerp5 .ensures, ← c .lerp6 .ensures)
+    let one = two .before in
+    rw (← one .lerp .ensures, ← two .lerp2 .ensures, ← three .lerp3 .ensures, ← four .lerp4 .ensures, ← five .lerp5 .ensures, ← c .lerp6 .ensures)
 
 pub cubic-at-spec : {M : Type 1} → statement M
 cubic-at-spec =
