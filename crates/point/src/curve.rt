@@ -2,6 +2,8 @@
 use crate::Point;
 use crate::WeightedPoint;
 ghost use mathlib.Core.Path.{_≡_};
+ghost use lib.Ieee.{neg};
+ghost use Rattle.leaves.specs.Fma.{fma32};
 ghost use Rattle.point.specs.Curve.{lerpOf, curvatureOf, invCurvatureOf, quadAtOf, cubicAtOf, evalCubicOf, evalQuadOf};
 
 // C of `curvature` and of `inv_curvature` in the Rust; d and b in Levien's article.
@@ -9,10 +11,24 @@ const D: f32 = 0.67;
 
 const B: f32 = 0.39;
 
+// a - t * a, rounded once. That is a * (1 - t), so where 1 - t is exact a product will do, but for a zero, whose sign could differ.
+fn lessened(t: f32, a: f32) -> f32
+    ensures { λ r. ⌜ r ≡ fma32 (neg t) a a ⌝ }
+{
+    let rest = 1.0 - t;
+    // From 0.5 to 1 the difference from 1 is exact. Below 0.5 it is where the way back gives t.
+    let exact = ((0.5 <= t) & (t < 1.0)) | ((0.5 <= rest) & (rest < 1.0) & (1.0 - rest == t));
+    // a - a is 0 where a is finite.
+    if exact & (a != 0.0) & (a - a == 0.0) {
+        return a * rest;
+    }
+    leaves::fma(-t, a, a)
+}
+
 pub fn lerp(t: f32, a: f32, b: f32) -> f32
     ensures { λ r. ⌜ r ≡ lerpOf t a b ⌝ }
 {
-    leaves::fma(t, b, leaves::fma(-t, a, a))
+    leaves::fma(t, b, lessened(t, a))
 }
 
 pub fn curvature(x: f32) -> f32
