@@ -50,7 +50,7 @@ exact-rest m k M h l =
     back k h = omega arith
 
 -- ---- 1 - t of a t from 1/2 up to 1
-digits-lt : (s : Bool) (m : ℕ) (e : ℤ) → T (fits binary32 (fin s m e)) → m < 2 ^ 24
+pub digits-lt : (s : Bool) (m : ℕ) (e : ℤ) → T (fits binary32 (fin s m e)) → m < 2 ^ 24
 unfolding fits
 digits-lt s zero e F = pow-pos 24
 digits-lt s (suc m) e F =
@@ -132,7 +132,7 @@ half = fin false 1 (negsuc 0)
 abbrev one : Float
 one = fin false 1 (pos 0)
 
-abbrev nought : Float
+abbrev pub nought : Float
 nought = fin false 0 (pos 0)
 
 not-zero : (a : ℕ) → 0 < a → a ≡ 0 → ⊥
@@ -284,7 +284,7 @@ half-is : half32 ≡ half
 unfolding ofBits
 half-is = refl
 
-zero-is : zero32 ≡ nought
+pub zero-is : zero32 ≡ nought
 unfolding ofBits
 zero-is = refl
 

@@ -3,6 +3,7 @@ use crate::Point;
 use crate::WeightedPoint;
 ghost use mathlib.Core.Path.{_≡_};
 ghost use lib.Ieee.{neg};
+ghost use Rattle.leaves.specs.Single.{f32};
 ghost use Rattle.leaves.specs.Fma.{fma32};
 ghost use Rattle.point.specs.Curve.{lerpOf, curvatureOf, invCurvatureOf, quadAtOf, cubicAtOf, evalCubicOf, evalQuadOf};
 
@@ -10,6 +11,9 @@ ghost use Rattle.point.specs.Curve.{lerpOf, curvatureOf, invCurvatureOf,
 const D: f32 = 0.67;
 
 const B: f32 = 0.39;
+
+// 2^-100
+const EXACT_QUARTER: f32 = 7.888609e-31;
 
 // a - t * a, rounded once. That is a * (1 - t), so where 1 - t is exact a product will do, but for a zero, whose sign could differ.
 fn lessened(t: f32, a: f32) -> f32
@@ -31,17 +35,28 @@ pub fn lerp(t: f32, a: f32, b: f32) -> f32
     leaves::fma(t, b, lessened(t, a))
 }
 
+// x / 4 + c, rounded once. From 2^-100 on x / 4 is exact, so that the processor's product and sum will do.
+fn quarter_plus(x: f32, c: f32) -> f32
+    ensures { λ r. ⌜ r ≡ fma32 x (f32 0x3e80_0000) c ⌝ }
+{
+    // x - x is 0 where x is finite.
+    if (EXACT_QUARTER <= x) & (x - x == 0.0) & (c - c == 0.0) {
+        return x * 0.25 + c;
+    }
+    leaves::fma(x, 0.25, c)
+}
+
 pub fn curvature(x: f32) -> f32
     ensures { λ r. ⌜ r ≡ curvatureOf x ⌝ }
 {
-    let root = leaves::sqrt(leaves::sqrt(leaves::fma(x * x, 0.25, D * D * D * D)));
+    let root = leaves::sqrt(leaves::sqrt(quarter_plus(x * x, D * D * D * D)));
     x / (1.0 - D + root)
 }
 
 pub fn inv_curvature(k: f32) -> f32
     ensures { λ r. ⌜ r ≡ invCurvatureOf k ⌝ }
 {
-    let root = leaves::sqrt(leaves::fma(k * k, 0.25, B * B));
+    let root = leaves::sqrt(quarter_plus(k * k, B * B));
     k * (1.0 - B + root)
 }
 
