@@ -1,16 +1,17 @@
 -- a - t * a is a * (1 - t). Where 1 - t is an f32, the product by it is rounded once too, so the processor's product is the fused operation, but for the sign
 -- of a zero. From 1/2 up to 1 the difference 1 - t is an f32 for each t. Assumes nothing.
 use mathlib.Core.Path.{_≡_, refl, sym, ap, ap₂, _∙_, subst}
-use mathlib.Core.Bool.{Bool, true, false, not, _&&_, _||_, Bool·beq, cond, true≢false}
-use Prim.Native.Nat.{ℕ, zero, suc, _+_, _-_, _*_, _/_, _%_, _^_, _≤_, _<_}
-use native.Mathlib.Nat.{mul-assoc, mul-comm, mul-left-comm, mul-right-comm, mul-one, one-mul, zero-mul, mul-sub, mul-pos, pow-suc, zero-lt-suc}
-use native.Mathlib.Nat.{mul-le-mul-left, mul-le-mul-right, mul-lt-mul-of-pos-right, le-trans, le-of-eq, lt-of-lt-of-le, lt-of-le-of-lt, lt-of-not-le, le-of-lt, eq-of-mul-eq-mul-right}
+use mathlib.Core.Bool.{Bool, true, false, not, _&&_, _||_, Bool·beq, cond}
+use Prim.Native.Nat.{ℕ, zero, suc, _+_, _-_, _*_, _/_, _^_, _≤_, _<_}
+use native.Mathlib.Nat.{mul-assoc, mul-comm, mul-left-comm, mul-right-comm, mul-one, one-mul, zero-mul, mul-sub, mul-pos, zero-lt-suc}
+use native.Mathlib.Nat.{mul-le-mul-left, mul-le-mul-right, mul-lt-mul-of-pos-right, lt-of-lt-of-le}
+use native.Mathlib.Nat.{lt-of-le-of-lt, lt-of-not-le, le-of-lt, eq-of-mul-eq-mul-right}
 use native.Mathlib.Omega.{arith}
 use borrow.Author.Tests.{le-ltb, lt-ltb}
 use lib.IntN.{ℤ, pos, negsuc}
-use lib.Dec.{T, leb, ltb, eqb, ltb→lt, lt→ltb, eqb→eq}
+use lib.Dec.{T, ltb, eqb, ltb→lt, eqb→eq}
 use lib.Pow.{pow-add, pow-pos, pow-mono}
-use lib.Ieee.{Float, nan, inf, fin, binary32, up, down, unlike, round, sum, add, sub, mul, neg, lt, eq, ne, le, fits, ofBits}
+use lib.Ieee.{Float, nan, inf, fin, binary32, up, down, unlike, round, sum, add, sub, mul, neg, lt, eq, ne, le, fits}
 use lib.Ieee.Exact.{HasValue, round-exact}
 use lib.Ieee.Fits.{up-pos, down-pos, and-l, and-r, sub-fits}
 use lib.Ieee.Positive.{first-pos, above-of-le, le→cross}
@@ -18,6 +19,7 @@ use lib.Ieee.Scale.{round-same}
 use Rattle.rounding.proofs.Basics.{less-back}
 use Rattle.leaves.specs.Single.{_⊖_, _⊗_, zero32, half32, one32}
 use Rattle.leaves.specs.Fma.{fma32, fmaOf}
+use Rattle.point.proofs.Digits.{nought, half, one, zero-is, half-is, one-is, not-zero, digits-lt}
 
 -- ---- sums with unlike signs
 plus-minus : (a b c : ℕ) → b ≤ a → sum binary32 false a true b c ≡ round binary32 false (a - b) c
@@ -50,15 +52,6 @@ exact-rest m k M h l =
     back k h = omega arith
 
 -- ---- 1 - t of a t from 1/2 up to 1
-pub digits-lt : (s : Bool) (m : ℕ) (e : ℤ) → T (fits binary32 (fin s m e)) → m < 2 ^ 24
-unfolding fits
-digits-lt s zero e F = pow-pos 24
-digits-lt s (suc m) e F =
-    let a = eqb (suc m % 2) 1 in
-    let b = ltb (suc m) (2 ^ 24) in
-    let c = leb (down e) (2 ^ 149) in
-    ltb→lt (suc m) (2 ^ 24) (and-r a b (and-l (a && b) c (and-l (a && b && c) (ltb (suc m * up e) (2 ^ 128 * down e)) F)))
-
 rest-value : (m : ℕ) (e : ℤ) → T (fits binary32 (fin false m e)) → down e ≤ m * up e * 2 → m * up e < down e
     → HasValue (round binary32 false (down e - m * up e) (down e)) false (down e - m * up e) (down e)
 rest-value m (pos k) F l h = absurd (no (m * 2 ^ k) l h)
@@ -71,7 +64,7 @@ rest-value m (negsuc k) F l h =
     subst (λ (x : ℕ). HasValue (round binary32 false (D - x) D) false (D - x) D) (sym e)
     (exact-rest m (suc k) (digits-lt false m (negsuc k) F) (le-of-lt (subst (λ (x : ℕ). x < D) e h)) (subst (λ (x : ℕ). D ≤ x * 2) e l))
 
-one-less : (m : ℕ) (e : ℤ) → m * up e ≤ down e → sub binary32 (fin false 1 (pos 0)) (fin false m e) ≡ round binary32 false (down e - m * up e) (down e)
+one-less : (m : ℕ) (e : ℤ) → m * up e ≤ down e → sub binary32 one (fin false m e) ≡ round binary32 false (down e - m * up e) (down e)
 unfolding sub add neg
 one-less m e h =
     let N = m * up e in
@@ -81,13 +74,15 @@ one-less m e h =
     ∙ plus-minus D N D h
 
 -- ---- a * u, where u is R / D
-times-value : (s : Bool) (o : ℕ) (g : ℤ) (u : Float) (R D : ℕ) → 0 < D → HasValue u false R D → mul binary32 (fin s o g) u ≡ round binary32 s (o * up g * R) (down g * D)
+times-value : (s : Bool) (o : ℕ) (g : ℤ) (u : Float) (R D : ℕ) → 0 < D → HasValue u false R D
+    → mul binary32 (fin s o g) u ≡ round binary32 s (o * up g * R) (down g * D)
 unfolding mul
 times-value s o g nan R D P v = absurd v
 times-value s o g (inf t) R D P v = absurd v
 times-value s o g (fin t n d) R D P v =
     ap (λ (i : Bool). round binary32 i (o * up g * (n * up d)) (down g * down d)) (ap (λ (i : Bool). unlike s i) (v .0) ∙ like s)
-    ∙ round-same binary32 s (o * up g * (n * up d)) (down g * down d) (o * up g * R) (down g * D) (mul-pos (down-pos g) (down-pos d)) (mul-pos (down-pos g) P)
+    ∙ round-same binary32 s (o * up g * (n * up d)) (down g * down d) (o * up g * R) (down g * D)
+    (mul-pos (down-pos g) (down-pos d)) (mul-pos (down-pos g) P)
     (scaled (o * up g) (n * up d) (down g) (down d) R D (v .1))
   where
     like : (s : Bool) → unlike s false ≡ s
@@ -108,16 +103,15 @@ fused-value s o g m e some under =
     let G = down g in
     let X = N * A * G in
     let Y = A * (D * G) in
-    let less : X < Y = subst (λ (x : ℕ). x < Y) (sym (mul-assoc N A G)) (subst (λ (y : ℕ). N * (A * G) < y) (turned D A G) (mul-lt-mul-of-pos-right under (mul-pos some (down-pos g)))) in
+    let scaled-less : N * (A * G) < D * (A * G) = mul-lt-mul-of-pos-right under (mul-pos some (down-pos g)) in
+    let less : X < Y = subst (λ (x : ℕ). x < Y) (sym (mul-assoc N A G)) (subst (λ (y : ℕ). N * (A * G) < y) (mul-left-comm D A G) scaled-less) in
     larger-last s X Y (D * G * G) less
-    ∙ round-same binary32 s (Y - X) (D * G * G) (A * (D - N)) (G * D) (mul-pos (mul-pos (down-pos e) (down-pos g)) (down-pos g)) (mul-pos (down-pos g) (down-pos e))
+    ∙ round-same binary32 s (Y - X) (D * G * G) (A * (D - N)) (G * D)
+    (mul-pos (mul-pos (down-pos e) (down-pos g)) (down-pos g)) (mul-pos (down-pos g) (down-pos e))
     (ap (λ (x : ℕ). x * (G * D)) (ap₂ (λ (y x : ℕ). y - x) (last A G D) (first N A G) ∙ sym (mul-sub (A * G) D N)) ∙ scaled A G (D - N) D)
   where
-    turned : (D A G : ℕ) → D * (A * G) ≡ A * (D * G)
-    turned D A G = mul-left-comm D A G
-
     last : (A G D : ℕ) → A * (D * G) ≡ A * G * D
-    last A G D = simp (mul-assoc, mul-comm, mul-left-comm)
+    last A G D = simp (mul-assoc, mul-comm)
 
     first : (N A G : ℕ) → N * A * G ≡ A * G * N
     first N A G = simp (mul-assoc, mul-comm, mul-left-comm)
@@ -126,18 +120,6 @@ fused-value s o g m e some under =
     scaled A G R D = simp (mul-assoc, mul-comm, mul-left-comm)
 
 -- ---- what the code tests: t from 1/2 up to 1, and a finite and no zero
-abbrev half : Float
-half = fin false 1 (negsuc 0)
-
-abbrev one : Float
-one = fin false 1 (pos 0)
-
-abbrev pub nought : Float
-nought = fin false 0 (pos 0)
-
-not-zero : (a : ℕ) → 0 < a → a ≡ 0 → ⊥
-not-zero a l h = omega arith
-
 -- t is m * 2 ^ e, from 1/2 up to 1
 abbrev Upper : Float → Type 0
 Upper t = (m : ℕ) × (e : ℤ) × (t ≡ fin false m e) × (down e ≤ m * up e * 2) × (m * up e < down e)
@@ -194,7 +176,8 @@ upper-rest : (t : Float) → T (fits binary32 t) → Upper t → Rest t
 upper-rest t F (m, e, t-is, l, h) = (m, e, t-is, h, upper-value t m e F t-is l h)
 
 -- below 1/2: where 1 - t rounds to an x that is 1/2 at least, 1 - x is exact, and t where it equals t
-equal-value : (x t : Float) (A C : ℕ) → 0 < A → HasValue x false A C → T (eq x t) → (m : ℕ) × (e : ℤ) × (t ≡ fin false m e) × (m * up e * C ≡ A * down e)
+equal-value : (x t : Float) (A C : ℕ) → 0 < A → HasValue x false A C → T (eq x t)
+    → (m : ℕ) × (e : ℤ) × (t ≡ fin false m e) × (m * up e * C ≡ A * down e)
 unfolding eq
 equal-value nan t A C P v h = absurd v
 equal-value (inf s) t A C P v h = absurd v
@@ -228,13 +211,18 @@ module _ (N D M E : ℕ) (e : N * E ≡ (E - M) * D) (l : M < E) where
 
   swapped : M * D ≡ (D - N) * E
   swapped =
-      go (E * D) (M * D) (N * E) by-parts (mul-le-mul-right D (le-of-lt l)) ∙ ap (λ (x : ℕ). E * D - x) (mul-comm N E) ∙ sym (mul-sub E D N) ∙ mul-comm E (D - N)
+      go (E * D) (M * D) (N * E) by-parts (mul-le-mul-right D (le-of-lt l))
+      ∙ ap (λ (x : ℕ). E * D - x) (mul-comm N E)
+      ∙ sym (mul-sub E D N)
+      ∙ mul-comm E (D - N)
     where
       go : (a c b : ℕ) → b ≡ a - c → c ≤ a → c ≡ a - b
       go a c b e l = omega arith
 
   swapped-lt : 0 < D → 0 < M → N < D
-  swapped-lt P Q = lt-of-not-le (λ (h : D ≤ N). go (E * D) (M * D) (N * E) by-parts (mul-pos Q P) (mul-le-mul-right D (le-of-lt l)) (subst (λ (x : ℕ). x ≤ N * E) (mul-comm D E) (mul-le-mul-right E h)))
+  swapped-lt P Q =
+      lt-of-not-le (λ (h : D ≤ N).
+      go (E * D) (M * D) (N * E) by-parts (mul-pos Q P) (mul-le-mul-right D (le-of-lt l)) (subst (λ (x : ℕ). x ≤ N * E) (mul-comm D E) (mul-le-mul-right E h)))
     where
       go : (a c b : ℕ) → b ≡ a - c → 0 < c → c ≤ a → a ≤ b → ⊥
       go a c b e p l h = omega arith
@@ -276,36 +264,36 @@ upperTest t = le half32 t && lt t one32
 abbrev exactTest : Float → Bool
 exactTest t = upperTest t || (upperTest (one32 ⊖ t) && eq (one32 ⊖ (one32 ⊖ t)) t)
 
-one-is : one32 ≡ one
-unfolding ofBits
-one-is = refl
-
-half-is : half32 ≡ half
-unfolding ofBits
-half-is = refl
-
-pub zero-is : zero32 ≡ nought
-unfolding ofBits
-zero-is = refl
-
 tested-upper : (t : Float) → T (upperTest t) → Upper t
 tested-upper t h =
-    upper t (subst (λ (x : Float). T (le x t)) half-is (and-l (le half32 t) (lt t one32) h)) (subst (λ (x : Float). T (lt t x)) one-is (and-r (le half32 t) (lt t one32) h))
+    let a = le half32 t in
+    let b = lt t one32 in
+    upper t (subst (λ (x : Float). T (le x t)) half-is (and-l a b h)) (subst (λ (x : Float). T (lt t x)) one-is (and-r a b h))
 
 tested-rest : (t : Float) → T (fits binary32 t) → T (exactTest t) → Rest t
-tested-rest t F h = go (upperTest t) refl h
+tested-rest t F h =
+    go (upperTest t) refl h
   where
-    go : (b : Bool) → upperTest t ≡ b → T (b || (upperTest (one32 ⊖ t) && eq (one32 ⊖ (one32 ⊖ t)) t)) → Rest t
+    a : Bool
+    a = upperTest (one32 ⊖ t)
+
+    b : Bool
+    b = eq (one32 ⊖ (one32 ⊖ t)) t
+
+    go : (c : Bool) → upperTest t ≡ c → T (c || (a && b)) → Rest t
     go true e h = upper-rest t F (tested-upper t (subst T (sym e) tt))
     go false e h =
-        lower-rest t (subst (λ (x : Float). Upper (sub binary32 x t)) one-is (tested-upper (one32 ⊖ t) (and-l (upperTest (one32 ⊖ t)) (eq (one32 ⊖ (one32 ⊖ t)) t) h)))
-        (subst (λ (x : Float). T (eq (sub binary32 x (sub binary32 x t)) t)) one-is (and-r (upperTest (one32 ⊖ t)) (eq (one32 ⊖ (one32 ⊖ t)) t) h))
+        lower-rest t (subst (λ (x : Float). Upper (sub binary32 x t)) one-is (tested-upper (one32 ⊖ t) (and-l a b h)))
+        (subst (λ (x : Float). T (eq (sub binary32 x (sub binary32 x t)) t)) one-is (and-r a b h))
 
-pub product-fused : (t a : Float) → fits binary32 t ≡ true → exactTest t && ne a zero32 && eq (a ⊖ a) zero32 ≡ true → a ⊗ (one32 ⊖ t) ≡ fma32 (neg t) a a
+pub product-fused : (t a : Float) → fits binary32 t ≡ true → exactTest t && ne a zero32 && eq (a ⊖ a) zero32 ≡ true
+    → a ⊗ (one32 ⊖ t) ≡ fma32 (neg t) a a
 product-fused t a F h =
-    let T-all : T (exactTest t && ne a zero32 && eq (a ⊖ a) zero32) = subst T (sym h) tt in
-    let first = and-l (exactTest t && ne a zero32) (eq (a ⊖ a) zero32) T-all in
+    let p = exactTest t in
+    let q = ne a zero32 in
+    let r = eq (a ⊖ a) zero32 in
+    let all : T (p && q && r) = subst T (sym h) tt in
+    let two = and-l (p && q) r all in
     ap (λ (x : Float). a ⊗ (x ⊖ t)) one-is
-    ∙ rest-product t a (tested-rest t (subst T (sym F) tt) (and-l (exactTest t) (ne a zero32) first))
-    (some a (subst (λ (x : Float). T (ne a x)) zero-is (and-r (exactTest t) (ne a zero32) first))
-    (subst (λ (x : Float). T (eq (sub binary32 a a) x)) zero-is (and-r (exactTest t && ne a zero32) (eq (a ⊖ a) zero32) T-all)))
+    ∙ rest-product t a (tested-rest t (subst T (sym F) tt) (and-l p q two))
+    (some a (subst (λ (x : Float). T (ne a x)) zero-is (and-r p q two)) (subst (λ (x : Float). T (eq (a ⊖ a) x)) zero-is (and-r (p && q) r all)))

@@ -1,3 +1,4 @@
+pub mod Digits
 pub mod Ones
 pub mod Exact
 pub mod Quarter

@@ -10,9 +10,9 @@ use native.Mathlib.Nat.{div-add-mod', div-lt-iff-lt-mul, mod-lt}
 use native.Mathlib.Omega.{arith}
 use borrow.Author.Tests.{le-ltb, lt-ltb}
 use lib.IntN.{ℤ, pos, negsuc}
-use lib.Dec.{T, leb, ltb, eqb, ltb→lt, lt→ltb, eqb→eq}
+use lib.Dec.{T, ltb, eqb, ltb→lt, lt→ltb, eqb→eq}
 use lib.Pow.{pow-pos, pow-mono}
-use lib.Ieee.{Float, nan, inf, fin, binary32, up, down, size, odd, units, round, sum, add, neg, eq, le, fits, ofBits}
+use lib.Ieee.{Float, nan, inf, fin, binary32, up, down, size, odd, units, round, sum, add, neg, eq, le, fits}
 use lib.Ieee.Digits.{size-le}
 use lib.Ieee.Exact.{HasValue}
 use lib.Ieee.Fits.{up-pos, down-pos, and-l, and-r, round-fits}
@@ -28,20 +28,7 @@ use Rattle.leaves.specs.Single.{zero32, one32}
 use Rattle.leaves.specs.Fma.{fma32}
 use Rattle.leaves.proofs.FmaNearest.{fma-one}
 use Rattle.point.specs.Curve.{lerpOf, quadAtOf, cubicAtOf}
-
-abbrev one : Float
-one = fin false 1 (pos 0)
-
-one-is : one32 ≡ one
-unfolding ofBits
-one-is = refl
-
-zero-is : zero32 ≡ fin false 0 (pos 0)
-unfolding ofBits
-zero-is = refl
-
-not-zero : (a : ℕ) → 0 < a → a ≡ 0 → ⊥
-not-zero a l h = omega arith
+use Rattle.point.proofs.Digits.{nought, one, zero-is, one-is, not-zero, odd-digits}
 
 -- ---- `closest` is off by half a unit at most
 half-off : (n u : ℕ) → 0 < u → gap (closest n u * u) n * 2 ≤ u
@@ -73,14 +60,6 @@ off-by n D P h =
     go g u v h k = omega arith
 
 -- ---- the f32 that equals 1 is 1
-odd-digits : (s : Bool) (m : ℕ) (e : ℤ) → T (fits binary32 (fin s (suc m) e)) → suc m % 2 ≡ 1
-unfolding fits
-odd-digits s m e F =
-    let a = eqb (suc m % 2) 1 in
-    let b = ltb (suc m) (2 ^ 24) in
-    let c = leb (down e) (2 ^ 149) in
-    eqb→eq (suc m % 2) 1 (and-l a b (and-l (a && b) c (and-l (a && b && c) (ltb (suc m * up e) (2 ^ 128 * down e)) F)))
-
 own-one : (s : Bool) (m : ℕ) (e : ℤ) → s ≡ false → T (fits binary32 (fin s m e)) → m * up e ≡ down e → fin s m e ≡ one
 own-one s m (pos zero) S F h = ap₂ (λ (t : Bool) (n : ℕ). fin t n (pos 0)) S (sym (mul-one m) ∙ h)
 own-one s m (pos (suc k)) S F h = absurd (no (m * 2 ^ k) (mul-assoc m (2 ^ k) 2 ∙ ap (λ (x : ℕ). m * x) (sym (pow-suc 2 k)) ∙ h))
@@ -253,7 +232,7 @@ at-most-one m e k =
     let h : suc m * up e * 1 ≤ 1 * 1 * down e = le→cross (fin false (suc m) e) one (lt→ltb 0 (suc m) (zero-lt-suc m)) tt k in
     subst (λ (x : ℕ). x ≤ down e) (mul-one (suc m * up e)) (subst (λ (x : ℕ). suc m * up e * 1 ≤ x) (one-mul (down e)) h)
 
-back-to-one : (t : Float) → T (le (fin false 0 (pos 0)) t) → T (le t one) → add binary32 t (add binary32 (neg t) one) ≡ one
+back-to-one : (t : Float) → T (le nought t) → T (le t one) → add binary32 t (add binary32 (neg t) one) ≡ one
 unfolding neg le
 back-to-one nan h k = absurd h
 back-to-one (inf true) h k = absurd h

@@ -1,14 +1,14 @@
 -- x / 4 is exact where it is far from the smallest values, so x / 4 + c is rounded once in two operations too. Assumes nothing.
-use mathlib.Core.Path.{_≡_, refl, sym, ap, ap₂, _∙_, subst}
+use mathlib.Core.Path.{_≡_, refl, sym, ap, _∙_, subst}
 use mathlib.Core.Bool.{Bool, true, false, _&&_}
-use Prim.Native.Nat.{ℕ, zero, suc, _+_, _-_, _*_, _%_, _^_, _≤_, _<_}
-use native.Mathlib.Nat.{mul-assoc, mul-comm, mul-left-comm, mul-right-comm, mul-one, one-mul, mul-pos, mul-lt-mul-of-pos-right, mul-le-mul-left}
-use native.Mathlib.Nat.{lt-of-lt-of-le, lt-of-le-of-lt, le-of-lt}
+use Prim.Native.Nat.{ℕ, zero, suc, _+_, _-_, _*_, _^_, _≤_, _<_}
+use native.Mathlib.Nat.{mul-assoc, mul-comm, mul-left-comm, mul-one, one-mul, mul-pos, mul-lt-mul-of-pos-right, mul-le-mul-left}
+use native.Mathlib.Nat.{lt-of-lt-of-le, lt-of-le-of-lt}
 use native.Mathlib.Omega.{arith}
 use lib.IntN.{ℤ, pos, negsuc}
-use lib.Dec.{T, leb, ltb, eqb, ltb→lt}
+use lib.Dec.{T}
 use lib.Pow.{pow-add, pow-pos, pow-mono}
-use lib.Ieee.{Float, nan, inf, fin, binary32, up, down, unlike, round, sum, add, sub, mul, neg, eq, le, fits, ofBits}
+use lib.Ieee.{Float, nan, inf, fin, binary32, up, down, round, sum, add, sub, mul, neg, eq, le, fits, ofBits}
 use lib.Ieee.Exact.{HasValue, round-exact}
 use lib.Ieee.Fits.{down-pos, and-l, and-r}
 use lib.Ieee.Positive.{above-of-le, le→cross}
@@ -16,30 +16,19 @@ use Rattle.rounding.proofs.Basics.{less-back}
 use Rattle.rounding.proofs.Sums.{sum-same}
 use Rattle.leaves.specs.Single.{_⊕_, _⊖_, _⊗_, f32, zero32}
 use Rattle.leaves.specs.Fma.{fma32, fmaOf}
-use Rattle.point.proofs.Exact.{digits-lt, nought, zero-is}
-
-abbrev quarter : Float
-quarter = fin false 1 (negsuc 1)
+use Rattle.point.proofs.Digits.{nought, quarter, zero-is, quarter-is, digits-lt, size-lt}
 
 -- 2 ^ -100
 abbrev least : Float
 least = fin false 1 (negsuc 99)
 
 -- ---- x / 4 of an x from 2 ^ -100 on
-size-lt : (m : ℕ) (e : ℤ) → T (fits binary32 (fin false (suc m) e)) → suc m * up e < 2 ^ 128 * down e
-unfolding fits
-size-lt m e F =
-    let a = eqb (suc m % 2) 1 in
-    let b = ltb (suc m) (2 ^ 24) in
-    let c = leb (down e) (2 ^ 149) in
-    ltb→lt (suc m * up e) (2 ^ 128 * down e) (and-r (a && b && c) (ltb (suc m * up e) (2 ^ 128 * down e)) F)
-
 fourth-value : (m : ℕ) (e : ℤ) → T (fits binary32 (fin false (suc m) e)) → down e ≤ suc m * up e * 2 ^ 100
     → HasValue (round binary32 false (suc m * up e) (down e * 4)) false (suc m * up e) (down e * 4)
 fourth-value m (pos k) F l =
     let q = suc m in
     round-exact binary32 false (q * 2 ^ k) (1 * 4) q (k + 147) (pow-pos 2) (digits-lt false q (pos k) F)
-    (subst (λ (x : ℕ). x < 2 ^ 277) (apart q k) (lt-of-lt-of-le (mul-lt-mul-of-pos-right (size-lt m (pos k) F) (pow-pos 147)) (pow-mono more)))
+    (subst (λ (x : ℕ). x < 2 ^ 277) (apart q k) (lt-of-lt-of-le (mul-lt-mul-of-pos-right (size-lt false m (pos k) F) (pow-pos 147)) (pow-mono more)))
     (sym (ap (λ (x : ℕ). x * 4) (sym (apart q k)) ∙ mul-assoc (q * 2 ^ k) (2 ^ 147) 4))
   where
     apart : (q k : ℕ) → q * 2 ^ k * 2 ^ 147 ≡ q * 2 ^ (k + 147)
@@ -57,7 +46,9 @@ fourth-value m (negsuc k) F l =
     round-exact binary32 false (q * 1) (D * 4) q j (mul-pos (pow-pos (suc k)) (pow-pos 2)) Q
     (lt-of-lt-of-le (mul-lt-mul-of-pos-right Q (pow-pos j)) (mul-le-mul-left (2 ^ 24) (pow-mono (room (suc k)))))
     (ap (λ (x : ℕ). x * 2 ^ 149) (mul-one q)
-    ∙ sym (sym (mul-assoc (q * 2 ^ j) D 4) ∙ ap (λ (x : ℕ). x * 4) (mul-assoc q (2 ^ j) D ∙ ap (λ (x : ℕ). q * x) (sym (pow-add 2 j (suc k)) ∙ ap (λ (x : ℕ). 2 ^ x) (back (suc k) K))) ∙ mul-assoc q (2 ^ 147) 4))
+    ∙ sym (mul-assoc q (2 ^ 147) 4)
+    ∙ ap (λ (x : ℕ). x * 4) (sym (mul-assoc q (2 ^ j) D ∙ ap (λ (x : ℕ). q * x) (sym (pow-add 2 j (suc k)) ∙ ap (λ (x : ℕ). 2 ^ x) (back (suc k) K))))
+    ∙ mul-assoc (q * 2 ^ j) D 4)
   where
     room : (k : ℕ) → 147 - k ≤ 253
     room k = omega arith
@@ -86,10 +77,10 @@ exact-fused m e u o g (fin t n d) v =
     (second (o * up g) (down d) (D * 4) G)
   where
     first : (P N G E d : ℕ) → P * E ≡ N * d → P * G * (E * G) ≡ N * G * (d * G)
-    first P N G E d h = simp (mul-assoc, mul-comm, mul-left-comm) (simp (mul-assoc, mul-comm, mul-left-comm) at (ap (λ (y : ℕ). y * (G * G)) h))
+    first P N G E d h = simp (mul-assoc, mul-comm) (simp (mul-assoc, mul-comm, mul-left-comm) at (ap (λ (y : ℕ). y * (G * G)) h))
 
     second : (C d E G : ℕ) → C * d * (E * G) ≡ C * E * (d * G)
-    second C d E G = simp (mul-assoc, mul-comm, mul-left-comm)
+    second C d E G = simp (mul-assoc, mul-left-comm)
 
 -- ---- by the tests of the code: x from 2 ^ -100 on, and both finite
 tested : (x c : Float) → T (fits binary32 x) → T (le least x) → T (eq (sub binary32 x x) nought) → T (eq (sub binary32 c c) nought)
@@ -105,12 +96,11 @@ tested (fin false (suc m) e) (inf true) F h k f = absurd f
 tested (fin false (suc m) e) (inf false) F h k f = absurd f
 tested (fin false (suc m) e) (fin u o g) F h k f =
     let x = fin false (suc m) e in
-    let l : down e ≤ suc m * up e * 2 ^ 100 = subst (λ (n : ℕ). n ≤ suc m * up e * 2 ^ 100) (one-mul (down e)) (le→cross least x tt (above-of-le least x tt h) h) in
-    exact-fused (suc m) e u o g (mul binary32 x quarter) (subst (λ (p : Float). HasValue p false (suc m * up e) (down e * 4)) (sym (mul-fourth (suc m) e)) (fourth-value m e F l))
-
-quarter-is : f32 0x3e80_0000 ≡ quarter
-unfolding ofBits
-quarter-is = refl
+    let N = suc m * up e in
+    let D = down e in
+    let l : D ≤ N * 2 ^ 100 = subst (λ (n : ℕ). n ≤ N * 2 ^ 100) (one-mul D) (le→cross least x tt (above-of-le least x tt h) h) in
+    exact-fused (suc m) e u o g (mul binary32 x quarter)
+    (subst (λ (p : Float). HasValue p false N (D * 4)) (sym (mul-fourth (suc m) e)) (fourth-value m e F l))
 
 least-is : f32 0x0d80_0000 ≡ least
 unfolding ofBits
