@@ -13,6 +13,7 @@ pub use direction::approx_atan2;
 pub use direction::changed;
 pub use direction::diff;
 ghost use mathlib.Core.Path.{_≡_};
+ghost use Rattle.leaves.specs.Single.{_⊕_, _⊗_};
 ghost use Rattle.point.specs.Point.{pointAt, plain, rationalOf, appliedOf, minusOf, sameOf, lenOf};
 ghost use Rattle.point.specs.Angle.{angleOf};
 
@@ -28,8 +29,8 @@ pub enum Angle {
 }
 
 impl Point {
-    // f32::EPSILON, 2^-23: the least length that has an angle.
-    const EPSILON: f32 = 1.1920929e-7;
+    // The square of f32::EPSILON, 2^-23: the least length that has an angle.
+    const EPSILON_SQUARED: f32 = 1.4210855e-14;
 
     pub fn new(x: f32, y: f32) -> Self
         ensures { λ r. ⌜ r ≡ pointAt x y ⌝ }
@@ -54,16 +55,24 @@ impl Point {
         (self.x == other.x) & (self.y == other.y)
     }
 
+    // The square of the length.
+    pub fn squared(self) -> f32
+        ensures { λ r. ⌜ r ≡ self .x ⊗ self .x ⊕ self .y ⊗ self .y ⌝ }
+    {
+        self.x * self.x + self.y * self.y
+    }
+
     pub fn len(self) -> f32
         ensures { λ r. ⌜ r ≡ lenOf self ⌝ }
     {
-        leaves::sqrt(self.x * self.x + self.y * self.y)
+        leaves::sqrt(self.squared())
     }
 
     pub fn angle(self) -> Angle
         ensures { λ r. ⌜ r ≡ angleOf self ⌝ }
     {
-        if self.len() >= Self::EPSILON {
+        // The rounded root reaches 2^-23 just where the square reaches 2^-46.
+        if self.squared() >= Self::EPSILON_SQUARED {
             return Angle::Known(approx_atan2(self.y, self.x));
         }
         Angle::Missing

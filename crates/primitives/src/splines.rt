@@ -12,12 +12,14 @@ ghost use mathlib.Core.Path.{_≡_};
 ghost use Prim.Native.Nat.{_-_, _<_};
 ghost use Rattle.primitives.specs.Splines.{farOf, opensOf, lineAngleOf, sumBefore, splineEditOf};
 
-const MAX_ERROR: f32 = 0.0625;
+// The square of MAX_ERROR, 0.0625.
+const MAX_ERROR_SQUARED: f32 = 0.00390625;
 
+// The rounded root reaches 0.0625 just where the square reaches its square.
 fn far(start: Point, last: SplineRow) -> bool
     ensures { λ r. ⌜ r ≡ farOf start last ⌝ }
 {
-    start.minus(last.p2).len() >= MAX_ERROR
+    start.minus(last.p2).squared() >= MAX_ERROR_SQUARED
 }
 
 pub fn opens(st: State, last: SplineRow, angle: Angle, start: Point) -> bool

@@ -4,8 +4,8 @@ use borrow.Author.Needs.{needs}
 use Rattle.point.proofs.curve.curvature.Statement.{statement}
 use Rattle.point.proofs.curve.curvature.Tie as tie
 
-fma-requires : tie.Need-fma-requires
-fma-requires c κs = search needs
+quarter-plus-requires : tie.Need-quarter-plus-requires
+quarter-plus-requires c κs = search needs
 
 sqrt-requires : tie.Need-sqrt-requires
 sqrt-requires c κs = search needs
@@ -15,7 +15,7 @@ sqrt-requires-2 c κs = search needs
 
 returns : tie.Need-returns
 unfolding curvatureOf
-returns c = rw (← c .before .before .fma .ensures, ← c .before .sqrt .ensures, ← c .sqrt2 .ensures)
+returns c = rw (← c .before .before .quarter-plus .ensures, ← c .before .sqrt .ensures, ← c .sqrt2 .ensures)
 
 pub curvature-spec : {M : Type 1} → statement M
-curvature-spec = tie.close (tie.spec fma-requires sqrt-requires sqrt-requires-2 returns)
+curvature-spec = tie.close (tie.spec quarter-plus-requires sqrt-requires sqrt-requires-2 returns)

@@ -1,4 +1,4 @@
--- `point::curve::eval_cubic` meets its contract: x, y and weight each by `cubic_at`. Assumes nothing.
+-- `point::curve::eval_cubic` meets its contract: x and y by `cubic_at`, the weight by `cubic_weight`. Assumes nothing.
 use Rattle.point.specs.Curve.{evalCubicOf}
 use borrow.Author.Needs.{needs}
 use Rattle.point.proofs.curve.eval_cubic.Statement.{statement}
@@ -10,13 +10,13 @@ cubic-at-requires c κs = search needs
 cubic-at-requires-2 : tie.Need-cubic-at-requires-2
 cubic-at-requires-2 c κs = search needs
 
-cubic-at-requires-3 : tie.Need-cubic-at-requires-3
-cubic-at-requires-3 c κs = search needs
+cubic-weight-requires : tie.Need-cubic-weight-requires
+cubic-weight-requires c κs = search needs
 
 returns : tie.Need-returns
 unfolding evalCubicOf
-returns c = rw (← c .before .before .cubic-at .ensures, ← c .before .cubic-at2 .ensures, ← c .cubic-at3 .ensures)
+returns c = rw (← c .before .before .cubic-at .ensures, ← c .before .cubic-at2 .ensures, ← c .cubic-weight .ensures)
 
 pub eval-cubic-spec : {M : Type 1} → statement M
 eval-cubic-spec =
-    tie.close (tie.spec cubic-at-requires cubic-at-requires-2 cubic-at-requires-3 returns)
+    tie.close (tie.spec cubic-at-requires cubic-at-requires-2 cubic-weight-requires returns)

@@ -1,0 +1,5 @@
+pub mod Digits
+pub mod Ones
+pub mod Exact
+pub mod Quarter
+pub mod Lengths
