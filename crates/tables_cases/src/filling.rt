@@ -33,24 +33,36 @@ pub struct Tables {
     pub contour: [u8; 128],
 }
 
-// A short column has n entries; any other has all its room.
-fn length(short: bool, n: usize, room: usize) -> usize
-    ensures { λ r. ⌜ r ≤ room ⌝ }
-{
-    if short {
-        if n < room {
-            return n;
-        }
-    }
-    room
-}
-
 // Three numbers for each of n quads, as far as there is room.
 pub fn threes(n: usize) -> usize
     ensures { λ r. ⌜ r ≤ 384 ⌝ }
 {
     if n < 128 {
         return 3 * n;
+    }
+    384
+}
+
+// The length of a column with a number for each row: full before row `place` if it is the short one, otherwise all its room.
+fn length(short: u32, column: u32, place: usize) -> usize
+    ensures { λ r. ⌜ r ≤ 128 ⌝ }
+{
+    if short == column {
+        if place < 128 {
+            return place;
+        }
+    }
+    128
+}
+
+// The same with three numbers for each row. The short one lacks the last of the three.
+fn length_of_threes(short: u32, column: u32, place: usize) -> usize
+    ensures { λ r. ⌜ r ≤ 384 ⌝ }
+{
+    if short == column {
+        if place < 128 {
+            return 3 * place + 2;
+        }
     }
     384
 }
@@ -82,44 +94,27 @@ pub fn filled(
     let mut p2x = [UNTOUCHED; 128];
     let mut p2y = [UNTOUCHED; 128];
     let mut contour = [UNTOUCHED_BYTE; 128];
-    let short_three = threes(place) + 2;
-    let n1 = length(short == 1, short_three, 384);
-    let n2 = length(short == 2, short_three, 384);
-    let n3 = length(short == 3, short_three, 384);
-    let n4 = length(short == 4, place, 128);
-    let n5 = length(short == 5, place, 128);
-    let n6 = length(short == 6, place, 128);
-    let n7 = length(short == 7, place, 128);
-    let n8 = length(short == 8, place, 128);
-    let n9 = length(short == 9, place, 128);
-    let n10 = length(short == 10, place, 128);
-    let n11 = length(short == 11, place, 128);
-    let n12 = length(short == 12, place, 128);
-    let n13 = length(short == 13, place, 128);
-    let n14 = length(short == 14, place, 128);
-    let n15 = length(short == 15, place, 128);
-    let n16 = length(short == 16, place, 128);
     let state = tables::fill(
         x,
         y,
         weight,
         commands,
-        &mut quad_x[0..n1],
-        &mut quad_y[0..n2],
-        &mut quad_weight[0..n3],
-        &mut x0[0..n4],
-        &mut dx_recip[0..n5],
-        &mut k0[0..n6],
-        &mut dk[0..n7],
-        &mut curvatures_recip[0..n8],
-        &mut partial_curvatures[0..n9],
-        &mut partial_splines[0..n10],
-        &mut curvature[0..n11],
-        &mut p0x[0..n12],
-        &mut p0y[0..n13],
-        &mut p2x[0..n14],
-        &mut p2y[0..n15],
-        &mut contour[0..n16],
+        &mut quad_x[..length_of_threes(short, 1, place)],
+        &mut quad_y[..length_of_threes(short, 2, place)],
+        &mut quad_weight[..length_of_threes(short, 3, place)],
+        &mut x0[..length(short, 4, place)],
+        &mut dx_recip[..length(short, 5, place)],
+        &mut k0[..length(short, 6, place)],
+        &mut dk[..length(short, 7, place)],
+        &mut curvatures_recip[..length(short, 8, place)],
+        &mut partial_curvatures[..length(short, 9, place)],
+        &mut partial_splines[..length(short, 10, place)],
+        &mut curvature[..length(short, 11, place)],
+        &mut p0x[..length(short, 12, place)],
+        &mut p0y[..length(short, 13, place)],
+        &mut p2x[..length(short, 14, place)],
+        &mut p2y[..length(short, 15, place)],
+        &mut contour[..length(short, 16, place)],
         setting,
         st,
     );
