@@ -1,0 +1,46 @@
+-- `tables_cases::kept::bytes_kept` meets its contract: it ends. Assumes nothing.
+use Prim.Native.Nat.{_-_, _≤_}
+use borrow.Author.Needs.{needs}
+use Rattle.tables_cases.proofs.kept.bytes_kept.Statement.{statement}
+use Rattle.tables_cases.proofs.kept.bytes_kept.Tie as tie
+
+abbrev Inv-loop : tie.InvT-loop
+Inv-loop got whole same n good₀ i₀ good i = i ≤ 128
+
+abbrev μ-loop : tie.MeasureT-loop
+μ-loop got whole same n good₀ i₀ good i = 128 - i
+
+loop-holds : tie.Need-loop-holds Inv-loop μ-loop
+loop-holds c = search needs
+
+read-u8-requires : tie.Need-read-u8-requires Inv-loop μ-loop
+read-u8-requires c κs = search needs
+
+read-u8-requires-2 : tie.Need-read-u8-requires-2 Inv-loop μ-loop
+read-u8-requires-2 c κs = search needs
+
+add-i : tie.Need-add-i Inv-loop μ-loop
+add-i c = search needs
+
+loop-less : tie.Need-loop-less Inv-loop μ-loop
+loop-less c = search needs
+
+loop-again : tie.Need-loop-again Inv-loop μ-loop
+loop-again c = search needs
+
+returns : tie.Need-returns Inv-loop μ-loop
+returns c = search needs
+
+pub bytes-kept-spec : {M : Type 1} → statement M
+bytes-kept-spec =
+    tie.close
+    (tie.spec
+    Inv-loop
+    μ-loop
+    loop-holds
+    read-u8-requires
+    read-u8-requires-2
+    add-i
+    loop-less
+    loop-again
+    returns)
