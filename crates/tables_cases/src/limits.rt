@@ -9,10 +9,11 @@ use primitives::Setting;
 use store::Call;
 use store::StoreState;
 
-// So many quads of the round come to a sum of at most 65,536.
+// So many quads of the round come to a sum of at most 65,536, and one more to a larger one.
 const ROUND: u32 = 112;
 
-// Draws `last`, and fills the tables before and after. `answer` is with room, and `full` with a quad table that is full besides.
+// Draws `last`, and fills the tables before, where they hold one spline of so many quads, and after. The answer is `answer` with room, and `full`
+// where the quad table is full besides.
 fn stops(
     x: &mut [f32; 256],
     y: &mut [f32; 256],
@@ -20,6 +21,7 @@ fn stops(
     commands: &mut [u8; 256],
     st: StoreState,
     setting: Setting,
+    quads: usize,
     last: Call,
     answer: u32,
     full: u32,
@@ -29,12 +31,13 @@ fn stops(
     let next = drawn.state;
     let drawing = drawn.answer;
     let room = filled(x, y, weight, commands, next, setting, 0, 0);
-    let none = filled(x, y, weight, commands, next, setting, 1, before.quads);
+    let none = filled(x, y, weight, commands, next, setting, 1, quads);
+    let held = (before.answer == 0) & (before.quads == quads) & (before.splines == 1);
     let answered = answer::is_done(drawing) & (room.answer == answer) & (none.answer == full);
-    answered & (before.answer == 0) & same(before, room) & same(before, none)
+    held & answered & same(before, room) & same(before, none)
 }
 
-// 65,536 away from the origin.
+// The farthest points that can be drawn.
 fn corner(x: f32, y: f32) -> Point {
     Point {
         x: 65536.0 * x,
@@ -42,7 +45,7 @@ fn corner(x: f32, y: f32) -> Point {
     }
 }
 
-// A line and a quad, then a cubic with the greatest weights and far points.
+// A quad, then a cubic with the greatest weights and far points.
 fn too_many_pieces(setting: Setting) -> bool {
     let mut x = [0.0f32; 256];
     let mut y = [0.0f32; 256];
@@ -50,10 +53,7 @@ fn too_many_pieces(setting: Setting) -> bool {
     let mut commands = [0u8; 256];
     let fresh = store::fresh(&mut x, &mut y, &mut weight, &mut commands);
     let st = fresh.state;
-    let line = Call::Line(Point { x: 10.0, y: 0.0 });
-    let lined = store::draw(&mut x, &mut y, &mut weight, &mut commands, st, line);
-    let st = lined.state;
-    let quad = Call::Quad(Point { x: 20.0, y: 0.0 }, Point { x: 20.0, y: 10.0 });
+    let quad = Call::Quad(Point { x: 10.0, y: 0.0 }, Point { x: 10.0, y: 10.0 });
     let bent = store::draw(&mut x, &mut y, &mut weight, &mut commands, st, quad);
     let st = bent.state;
     let cubic = Call::RatCubic(
@@ -70,6 +70,7 @@ fn too_many_pieces(setting: Setting) -> bool {
         &mut commands,
         st,
         setting,
+        1,
         cubic,
         5,
         5,
@@ -118,6 +119,7 @@ fn sum_too_large(setting: Setting) -> bool {
         &mut commands,
         st,
         setting,
+        ROUND as usize,
         quarter(ROUND),
         8,
         6,
