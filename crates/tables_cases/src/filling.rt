@@ -33,16 +33,6 @@ pub struct Tables {
     pub contour: [u8; 128],
 }
 
-// Three numbers for each of n quads, as far as there is room.
-pub fn threes(n: usize) -> usize
-    ensures { λ r. ⌜ r ≤ 384 ⌝ }
-{
-    if n < 128 {
-        return 3 * n;
-    }
-    384
-}
-
 // The length of a column with a number for each row: full before row `place` if it is the short one, otherwise all its room.
 fn length(short: u32, column: u32, place: usize) -> usize
     ensures { λ r. ⌜ r ≤ 128 ⌝ }

@@ -3,10 +3,17 @@ use crate::filling::Tables;
 use crate::filling::UNTOUCHED;
 use crate::filling::UNTOUCHED_BYTE;
 use crate::filling::UNTOUCHED_WORD;
-use crate::filling::threes;
 use columns::read_f32;
 use columns::read_u8;
 use columns::read_u32;
+
+// Three numbers for each of n quads, as far as there is room.
+pub fn threes(n: usize) -> usize {
+    if n < 128 {
+        return 3 * n;
+    }
+    384
+}
 
 pub fn same_float(a: f32, b: f32) -> bool {
     leaves::bits(a) == leaves::bits(b)

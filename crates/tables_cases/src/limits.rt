@@ -9,32 +9,10 @@ use primitives::Setting;
 use store::Call;
 use store::StoreState;
 
-// So many quads of the round come to a sum of at most 65,536.
-const ROUND: u32 = 112;
+// 28 rounds of four quads come to a sum of at most 65,536, and one more quad to a larger one.
+const LONGEST: u32 = 112;
 
-// Draws `last`, and fills the tables before and after. `answer` is with room, and `full` with a quad table that is full besides.
-fn stops(
-    x: &mut [f32; 256],
-    y: &mut [f32; 256],
-    weight: &mut [f32; 256],
-    commands: &mut [u8; 256],
-    st: StoreState,
-    setting: Setting,
-    last: Call,
-    answer: u32,
-    full: u32,
-) -> bool {
-    let before = filled(x, y, weight, commands, st, setting, 0, 0);
-    let drawn = store::draw(x, y, weight, commands, st, last);
-    let next = drawn.state;
-    let drawing = drawn.answer;
-    let room = filled(x, y, weight, commands, next, setting, 0, 0);
-    let none = filled(x, y, weight, commands, next, setting, 1, before.quads);
-    let answered = answer::is_done(drawing) & (room.answer == answer) & (none.answer == full);
-    answered & (before.answer == 0) & same(before, room) & same(before, none)
-}
-
-// 65,536 away from the origin.
+// The farthest points that can be drawn.
 fn corner(x: f32, y: f32) -> Point {
     Point {
         x: 65536.0 * x,
@@ -42,20 +20,66 @@ fn corner(x: f32, y: f32) -> Point {
     }
 }
 
-// A line and a quad, then a cubic with the greatest weights and far points.
-fn too_many_pieces(setting: Setting) -> bool {
+// A quad from the middle of a square's side to the next one, where k quads are left. One goes on smoothly from another, so that they make one spline.
+fn quarter(k: u32) -> Call {
+    match k % 4 {
+        0 => Call::Quad(corner(1.0, -1.0), corner(1.0, 0.0)),
+        3 => Call::Quad(corner(1.0, 1.0), corner(0.0, 1.0)),
+        2 => Call::Quad(corner(-1.0, 1.0), corner(-1.0, 0.0)),
+        _ => Call::Quad(corner(-1.0, -1.0), corner(0.0, -1.0)),
+    }
+}
+
+fn drawn(
+    x: &mut [f32; 256],
+    y: &mut [f32; 256],
+    weight: &mut [f32; 256],
+    commands: &mut [u8; 256],
+    st: StoreState,
+    call: Call,
+) -> StoreState {
+    let drawn = store::draw(x, y, weight, commands, st, call);
+    drawn.state
+}
+
+// Whole rounds, n quads in all.
+fn rounds(
+    x: &mut [f32; 256],
+    y: &mut [f32; 256],
+    weight: &mut [f32; 256],
+    commands: &mut [u8; 256],
+    n: u32,
+) -> StoreState {
+    let fresh = store::fresh(x, y, weight, commands);
+    let start = Call::Move(corner(0.0, -1.0));
+    let mut st = drawn(x, y, weight, commands, fresh.state, start);
+    let mut left = n;
+    while left > 0 {
+        st = drawn(x, y, weight, commands, st, quarter(left));
+        left -= 1;
+    }
+    st
+}
+
+// Fills the tables with n quads and then with `last` drawn behind them. The answer is `answer` with room, and `full` where the quad table is full besides.
+fn stops(setting: Setting, n: u32, last: Call, answer: u32, full: u32) -> bool {
     let mut x = [0.0f32; 256];
     let mut y = [0.0f32; 256];
     let mut weight = [0.0f32; 256];
     let mut commands = [0u8; 256];
-    let fresh = store::fresh(&mut x, &mut y, &mut weight, &mut commands);
-    let st = fresh.state;
-    let line = Call::Line(Point { x: 10.0, y: 0.0 });
-    let lined = store::draw(&mut x, &mut y, &mut weight, &mut commands, st, line);
-    let st = lined.state;
-    let quad = Call::Quad(Point { x: 20.0, y: 0.0 }, Point { x: 20.0, y: 10.0 });
-    let bent = store::draw(&mut x, &mut y, &mut weight, &mut commands, st, quad);
-    let st = bent.state;
+    let quads = n as usize;
+    let st = rounds(&mut x, &mut y, &mut weight, &mut commands, n);
+    let before = filled(&x, &y, &weight, &commands, st, setting, 0, 0);
+    let next = drawn(&mut x, &mut y, &mut weight, &mut commands, st, last);
+    let room = filled(&x, &y, &weight, &commands, next, setting, 0, 0);
+    let none = filled(&x, &y, &weight, &commands, next, setting, 1, quads);
+    let held = (before.answer == 0) & (before.quads == quads) & (before.splines == 1);
+    let answered = (room.answer == answer) & (none.answer == full);
+    held & answered & same(before, room) & same(before, none)
+}
+
+// A cubic with the greatest weights and far points, and a sum that is too large. Where the quad table is full besides, 5 comes before 6 and 6 before 8.
+fn each_limit(setting: Setting) -> Tally {
     let cubic = Call::RatCubic(
         corner(1.0, 1.0),
         corner(-1.0, -1.0),
@@ -63,69 +87,9 @@ fn too_many_pieces(setting: Setting) -> bool {
         64.0,
         64.0,
     );
-    stops(
-        &mut x,
-        &mut y,
-        &mut weight,
-        &mut commands,
-        st,
-        setting,
-        cubic,
-        5,
-        5,
-    )
-}
-
-// The k-th quad of a round that goes on smoothly, from the middle of one side of a square to the next.
-fn quarter(k: u32) -> Call {
-    match k % 4 {
-        0 => Call::Quad(corner(1.0, -1.0), corner(1.0, 0.0)),
-        1 => Call::Quad(corner(1.0, 1.0), corner(0.0, 1.0)),
-        2 => Call::Quad(corner(-1.0, 1.0), corner(-1.0, 0.0)),
-        _ => Call::Quad(corner(-1.0, -1.0), corner(0.0, -1.0)),
-    }
-}
-
-fn round(
-    x: &mut [f32; 256],
-    y: &mut [f32; 256],
-    weight: &mut [f32; 256],
-    commands: &mut [u8; 256],
-) -> StoreState {
-    let fresh = store::fresh(x, y, weight, commands);
-    let start = Call::Move(corner(0.0, -1.0));
-    let moved = store::draw(x, y, weight, commands, fresh.state, start);
-    let mut st = moved.state;
-    let mut k = 0u32;
-    while k < ROUND {
-        let drawn = store::draw(x, y, weight, commands, st, quarter(k));
-        st = drawn.state;
-        k += 1;
-    }
-    st
-}
-
-fn sum_too_large(setting: Setting) -> bool {
-    let mut x = [0.0f32; 256];
-    let mut y = [0.0f32; 256];
-    let mut weight = [0.0f32; 256];
-    let mut commands = [0u8; 256];
-    let st = round(&mut x, &mut y, &mut weight, &mut commands);
-    stops(
-        &mut x,
-        &mut y,
-        &mut weight,
-        &mut commands,
-        st,
-        setting,
-        quarter(ROUND),
-        8,
-        6,
-    )
-}
-
-fn each_limit(setting: Setting) -> Tally {
-    both(one(too_many_pieces(setting)), one(sum_too_large(setting)))
+    let pieces = stops(setting, 4, cubic, 5, 5);
+    let sum = stops(setting, LONGEST, quarter(0), 8, 6);
+    both(one(pieces), one(sum))
 }
 
 pub fn each_setting() -> Tally {

@@ -1,10 +1,10 @@
 // A drawing with a column full at each place in turn: 6 or 7, and all that was pushed before stays.
 use crate::filling::Tables;
 use crate::filling::filled;
-use crate::filling::threes;
 use crate::kept::quads_kept;
 use crate::kept::same_float;
 use crate::kept::splines_kept;
+use crate::kept::threes;
 use columns::read_f32;
 use columns::read_u8;
 use columns::read_u32;

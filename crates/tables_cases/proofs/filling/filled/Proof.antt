@@ -1,4 +1,4 @@
--- `tables_cases::filling::filled` meets its contract: it ends. Each part that is lent is as long as its count, since the count is at most the room. Assumes nothing.
+-- `tables_cases::filling::filled` meets its contract: it ends. A part that is lent has as many entries as its count says, since the room has. Assumes nothing.
 use mathlib.Core.Path.{sym}
 use lib.Seq.{length-take-le}
 use borrow.Author.Needs.{needs}
