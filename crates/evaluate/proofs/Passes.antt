@@ -11,6 +11,7 @@ use Rattle.command.specs.Packing.{packOf}
 use Rattle.point.specs.declared.Point.{Point}
 use Rattle.primitives.specs.declared.SplineRow.{SplineRow}
 use Rattle.tables.specs.Tables.{QuadTable, SplineTable, splineAt}
+use Rattle.leaves.specs.Single.{whole32}
 use Rattle.walk.specs.Walk.{cursorAtOf, cursorAt, cursorFrom, cursorAfter, startsAfterOf, subdivisionsOf, splineItemsOf, walkOf}
 use Rattle.walk.specs.Length.{stepsOf, sizeOf, splineLengthOf, walkLengthOf}
 use Rattle.walk.proofs.Lengths.{whole-up-bound, steps-bound, spline-length, spline-length-bound, walk-length}
@@ -55,7 +56,7 @@ steps-more q size (suc n) p at cursor o h = let e : suc n - 1 ≡ n = omega arit
 
 module _ (q : QuadTable) (size : Float) (n at₀ cursor₀ : ℕ) (o₀ o : Output) (at cursor p left : ℕ) (g : Stepping q size n at₀ cursor₀ o₀ o at cursor p left) where
   pub stepping-more : (cursor' : ℕ) (quad : StepQuad) (point : Point) (word : ℕ) (o' : Output) → 0 < left
-      → cursor' ≡ cursorAtOf (q .partial-curvatures) p cursor → quad ≡ stepQuadOf q cursor' → point ≡ stepPointOf quad size p → word ≡ packOf (Incr size)
+      → cursor' ≡ cursorAtOf (q .partial-curvatures) (whole32 p) cursor → quad ≡ stepQuadOf q cursor' → point ≡ stepPointOf quad size p → word ≡ packOf (Incr size)
       → o' ≡ writeEntryOf at word (finished point false) o → Same o' o
       → Stepping q size n at₀ cursor₀ o₀ o' (at + 1) cursor' (p + 1) (left - 1)
   unfolding cursorAt

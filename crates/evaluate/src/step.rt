@@ -1,7 +1,9 @@
 // The point of a step: into_segments of path.rs, for one step.
 ghost use mathlib.Core.Path.{_≡_};
 ghost use Prim.Native.Nat.{_≤_};
+ghost use Rattle.leaves.specs.Single.{whole32};
 ghost use Rattle.tables.specs.Tables.{quadTable};
+ghost use Rattle.walk.specs.Walk.{cursorAtOf};
 ghost use Rattle.evaluate.specs.Three.{threeAtOf};
 ghost use Rattle.evaluate.specs.Evaluate.{previousSumOf, stepQuadOf, parameterOf, stepPointOf};
 use crate::StepQuad;
@@ -86,6 +88,14 @@ pub fn step_quad(
         curvature_recip: read_f32(curvatures_recip, i),
         previous_sum: previous_sum(partial_curvatures, partial_splines, i),
     }
+}
+
+// The quad cursor for step p.
+pub fn step_cursor(partial_curvatures: &[f32], p: u32, cursor: usize) -> usize
+    requires { ⌜ p ≤ 65537 ⌝ }
+    ensures { λ r. ⌜ r ≡ cursorAtOf (now («partial_curvatures» .entry)) (whole32 p) cursor ⌝ }
+{
+    walk::cursor_at(partial_curvatures, p as f32, cursor)
 }
 
 // Where on its quad step p of this size lies, from 0 to 1.

@@ -92,7 +92,7 @@ fn write_steps(
     let mut p: u32 = 1;
     let mut left = n;
     while left > 0 {
-        cursor = walk::cursor_at(partial_curvatures, p, cursor);
+        cursor = step::step_cursor(partial_curvatures, p, cursor);
         let quad = step::step_quad(
             x,
             y,

@@ -40,11 +40,11 @@ unfoldable pub startsOf : SplineTable → ℕ → Bool
 startsOf s k = startsAfterOf k (splineAt s (k - 1)) (splineAt s k)
 
 -- "The quad cursor goes on by one at step p when p exceeds the cursor's sum"
-abbrev pub cursorAtOf : List Float → ℕ → ℕ → ℕ
-cursorAtOf sums p cursor = cond (lt (getD sums cursor nan) (whole32 p)) (cursor + 1) cursor
+abbrev pub cursorAtOf : List Float → Float → ℕ → ℕ
+cursorAtOf sums p cursor = cond (lt (getD sums cursor nan) p) (cursor + 1) cursor
 
 unfoldable pub cursorAt : QuadTable → ℕ → ℕ → ℕ
-cursorAt q p cursor = cursorAtOf (q .partial-curvatures) p cursor
+cursorAt q p cursor = cursorAtOf (q .partial-curvatures) (whole32 p) cursor
 
 -- n steps from step p on
 unfoldable pub stepsFrom : QuadTable → Float → ℕ → ℕ → ℕ → List Item

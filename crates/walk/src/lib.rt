@@ -1,7 +1,6 @@
 // The walk over the splines: where a Start is written, how many steps there are, where the quad cursor goes, and how long the whole is. populate_buffers of
 // path.rs.
 ghost use mathlib.Core.Path.{_≡_};
-ghost use Prim.Native.Nat.{_≤_};
 ghost use Rattle.tables.specs.Tables.{splineTable};
 ghost use Rattle.walk.specs.Walk.{startsAfterOf, cursorAtOf};
 ghost use Rattle.walk.specs.Length.{stepsOf, sizeOf, splineLengthOf, walkLengthOf};
@@ -38,13 +37,12 @@ pub fn size(sum: f32) -> f32
 }
 
 // The cursor for step p: on by one, and no further, where p exceeds the sum of its quad.
-pub fn cursor_at(partial_curvatures: &[f32], p: u32, cursor: usize) -> usize
-    requires { ⌜ p ≤ 65537 ⌝ }
+pub fn cursor_at(partial_curvatures: &[f32], p: f32, cursor: usize) -> usize
     ensures { λ r. ⌜ r ≡ cursorAtOf (now («partial_curvatures» .entry)) p cursor ⌝ }
 {
     if cursor < partial_curvatures.len() {
         let sum = partial_curvatures[cursor];
-        if p as f32 > sum {
+        if p > sum {
             return cursor + 1;
         }
     }

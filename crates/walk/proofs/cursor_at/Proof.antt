@@ -7,11 +7,10 @@ use lib.ListN.{getD, length}
 use borrow.Author.Needs.{needs}
 use Rattle.columns.proofs.Past.{getD-past}
 use Rattle.walk.specs.Walk.{cursorAtOf}
-use Rattle.walk.proofs.Lengths.{small-exact}
 use Rattle.walk.proofs.cursor_at.Statement.{statement}
 use Rattle.walk.proofs.cursor_at.Tie as tie
 
-past : (sums : List Float) (p cursor : ℕ) → length sums ≤ cursor → cursor ≡ cursorAtOf sums p cursor
+past : (sums : List Float) (p : Float) (cursor : ℕ) → length sums ≤ cursor → cursor ≡ cursorAtOf sums p cursor
 unfolding lt
 past sums p cursor h = rw (getD-past sums cursor nan h)
 
@@ -20,9 +19,6 @@ mul-sum c = search needs
 
 shared-slice-read-sum : tie.Need-shared-slice-read-sum
 shared-slice-read-sum c = search needs
-
-int-to-float-if2 : tie.Need-int-to-float-if2
-int-to-float-if2 c = small-exact _ (c .before .before .before .pre)
 
 add-result : tie.Need-add-result
 add-result c = search needs
@@ -37,4 +33,4 @@ returns-3 : tie.Need-returns-3
 returns-3 c = past (c .before .args .partial-curvatures .now) (c .before .args .p) (c .before .args .cursor) (c .if1 .left)
 
 pub cursor-at-spec : {M : Type 1} → statement M
-cursor-at-spec = tie.close (tie.spec mul-sum shared-slice-read-sum int-to-float-if2 add-result returns returns-2 returns-3)
+cursor-at-spec = tie.close (tie.spec mul-sum shared-slice-read-sum add-result returns returns-2 returns-3)

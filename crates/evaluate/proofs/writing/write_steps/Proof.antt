@@ -22,8 +22,8 @@ pack-requires c κs = search needs
 loop-holds : tie.Need-loop-holds Inv-loop μ-loop
 loop-holds c = stepping-start _ _ _ _ _ _
 
-cursor-at-requires : tie.Need-cursor-at-requires Inv-loop μ-loop
-cursor-at-requires c κs = omega (arith, c .before .loop .inv .count, c .loop-test .taken, c .before .before .before .before .before .before .before .before .before .before .before .before .before .before .before .before .before .pre .0)
+step-cursor-requires : tie.Need-step-cursor-requires Inv-loop μ-loop
+step-cursor-requires c κs = omega (arith, c .before .loop .inv .count, c .loop-test .taken, c .before .before .before .before .before .before .before .before .before .before .before .before .before .before .before .before .before .pre .0)
 
 step-quad-requires : tie.Need-step-quad-requires Inv-loop μ-loop
 step-quad-requires c κs = search needs
@@ -48,7 +48,7 @@ loop-less c = omega (arith, c .before .before .before .before .before .before .b
 
 loop-again : tie.Need-loop-again Inv-loop μ-loop
 loop-again c =
-    stepping-more _ _ _ _ _ _ _ _ _ _ _ (c .before .before .before .before .before .before .before .before .before .before .before .before .before .before .before .before .before .loop .inv) _ _ _ _ _ (c .before .before .before .before .before .before .before .before .before .before .before .before .before .before .before .before .loop-test .taken) (c .before .before .before .before .before .before .before .before .before .before .before .before .before .before .before .cursor-at .ensures) (c .before .before .before .before .before .before .before .before .before .before .before .before .before .before .step-quad .ensures) (c .before .before .before .before .before .before .before .before .before .before .before .before .before .step-point .ensures) (c .before .before .before .before .before .before .before .before .before .before .before .before .before .before .before .before .before .before .pack .ensures) (c .before .before .before .before .before .before .before .before .write-entry .ensures)
+    stepping-more _ _ _ _ _ _ _ _ _ _ _ (c .before .before .before .before .before .before .before .before .before .before .before .before .before .before .before .before .before .loop .inv) _ _ _ _ _ (c .before .before .before .before .before .before .before .before .before .before .before .before .before .before .before .before .loop-test .taken) (c .before .before .before .before .before .before .before .before .before .before .before .before .before .before .before .step-cursor .ensures) (c .before .before .before .before .before .before .before .before .before .before .before .before .before .before .step-quad .ensures) (c .before .before .before .before .before .before .before .before .before .before .before .before .before .step-point .ensures) (c .before .before .before .before .before .before .before .before .before .before .before .before .before .before .before .before .before .before .pack .ensures) (c .before .before .before .before .before .before .before .before .write-entry .ensures)
     (record { words = c .before .before .before .before .before .before .before .before .write-entry .kept .0; x = c .before .before .before .before .before .before .before .before .write-entry .kept .1 .0; y = c .before .before .before .before .before .before .before .before .write-entry .kept .1 .1 .0; end = c .before .before .before .before .before .before .before .before .write-entry .kept .1 .1 .1 .0 })
 
 same-length : tie.Need-same-length Inv-loop μ-loop
@@ -74,7 +74,7 @@ write-steps-spec =
     μ-loop
     pack-requires
     loop-holds
-    cursor-at-requires
+    step-cursor-requires
     step-quad-requires
     step-point-requires
     write-entry-requires
