@@ -25,10 +25,13 @@ use Rattle.listing.specs.declared.Progress as Progresses
 use Rattle.listing.specs.declared.Progress.the-variants as Progressing
 use Rattle.listing.specs.Reading.{Fields, read, wrong, pairFields, twoPointsFields, threePointsFields, Progress, going, finished, stopped, progressOf}
 use Rattle.listing.specs.Program.{listingOf}
-use Rattle.promises.specs.Settled.{ValueSettled, StoreColumns, held, TableColumns, heldQuads, heldSplines, OutputColumns, heldOutput, StoreSettled, DrawSettled, FreshSettled, TablesSettled, FillSettled, FlattenSettled, PairSettled, TwoPointsSettled, ThreePointsSettled, HasStopped, has-stopped, ReadSettled, ListingSettled}
+use Rattle.promises.specs.Settled.{ValueSettled, ResultAndListSettled, StoreColumns, held, TableColumns, heldQuads, heldSplines, OutputColumns, heldOutput, StoreSettled, DrawSettled, FreshSettled, TablesSettled, FillSettled, FlattenSettled, PairSettled, TwoPointsSettled, ThreePointsSettled, HasStopped, has-stopped, ReadSettled, ListingSettled}
 
 pub value-settled : ValueSettled
 value-settled A d r r' h k = h ∙ sym k
+
+pub result-and-list-settled : ResultAndListSettled
+result-and-list-settled A B d r r' e kept kept' h k = (h .0 ∙ sym (k .0), h .1 ∙ sym (k .1))
 
 -- ---- the columns, back from the records that the definitions have
 store-back : Columns → StoreColumns

@@ -30,6 +30,11 @@ use Rattle.listing.specs.Program.{listingOf}
 abbrev pub ValueSettled : Type 1
 ValueSettled = (A : Type 0) (d r r' : A) → r ≡ d → r' ≡ d → r ≡ r'
 
+-- ---- a result and what a lent list or table then holds, `(r ≡ d) × (kept ≡ e)`: the functions over the list of splines
+abbrev pub ResultAndListSettled : Type 1
+ResultAndListSettled =
+    (A B : Type 0) (d r r' : A) (e kept kept' : B) → (r ≡ d) × (kept ≡ e) → (r' ≡ d) × (kept' ≡ e) → (r ≡ r') × (kept ≡ kept')
+
 -- ---- the lent columns, column by column, as the signatures have them
 pub record StoreColumns : Type 0 where
   pub x : List Float
