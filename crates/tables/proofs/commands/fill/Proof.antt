@@ -103,8 +103,19 @@ same-length-15 c = c .before .loop .inv .splines .p2y
 same-length-16 : tie.Need-same-length-16 Inv-loop μ-loop
 same-length-16 c = c .before .loop .inv .splines .contour
 
+-- The tables at entry are named: to find them takes five gigabytes.
 returns : tie.Need-returns Inv-loop μ-loop
-returns c = filled _ _ _ _ _ _ _ _ _ _ _ _ (c .before .loop .inv) (c .loop-test .left) (c .before .before .before .before .before .before .before .before .before .before .quad-capacity .ensures) (c .before .before .before .spline-capacity .ensures) (c .before .before .least .ensures)
+returns c =
+    let a = c .before .before .before .before .before .before .before .before .before .before .before .before .before .before .before .before .before .before .before .before .before .before .before .before .before .before .before .before .before .before .before .before .before .before .before .before .before .before .before .before .before .args in
+    filled _ _ _
+    (quadTable (a .quad-x .now) (a .quad-y .now) (a .quad-weight .now) (a .x0 .now) (a .dx-recip .now) (a .k0 .now) (a .dk .now) (a .curvatures-recip .now) (a .partial-curvatures .now) (a .partial-splines .now))
+    (splineTable (a .curvature .now) (a .p0x .now) (a .p0y .now) (a .p2x .now) (a .p2y .now) (a .contour .now))
+    _ _ _ _ _ _ _
+    (c .before .loop .inv)
+    (c .loop-test .left)
+    (c .before .before .before .before .before .before .before .before .before .before .quad-capacity .ensures)
+    (c .before .before .before .spline-capacity .ensures)
+    (c .before .before .least .ensures)
 
 pub fill-spec : {M : Type 1} → statement M
 fill-spec =
