@@ -67,3 +67,12 @@ pub mod original;
 pub mod rng;
 pub mod seen;
 pub mod wild;
+
+/// A setting of a run: the word at this place, or the variable, or the default.
+pub fn number(at: usize, variable: &str, default: u64) -> u64 {
+    std::env::args()
+        .nth(at)
+        .or_else(|| std::env::var(variable).ok())
+        .map(|t| t.parse().unwrap_or_else(|_| panic!("{t} is no number")))
+        .unwrap_or(default)
+}

@@ -3,6 +3,7 @@
 //! compare [DRAWINGS [SEED]], or the variables KERMEZHUL_DRAWINGS and KERMEZHUL_SEED.
 
 use against_rust::{
+    number,
     against::{compare_drawing, compare_store, Counts, Room},
     drawings::{by_hand, directed, kind, long_rows, random, rational_difference, DIFFERENT, KINDS},
     call::{p, Call},
@@ -11,14 +12,6 @@ use against_rust::{
     rng::Rng,
 };
 use std::time::Instant;
-
-fn number(at: usize, variable: &str, default: u64) -> u64 {
-    std::env::args()
-        .nth(at)
-        .or_else(|| std::env::var(variable).ok())
-        .map(|t| t.parse().unwrap_or_else(|_| panic!("{t} is no number")))
-        .unwrap_or(default)
-}
 
 fn main() {
     let drawings = number(1, "KERMEZHUL_DRAWINGS", 100_000);

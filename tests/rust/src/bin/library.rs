@@ -3,6 +3,7 @@
 //! library [HOSTILE [SEED [DRAWINGS]]], or the variables KERMEZHUL_HOSTILE, KERMEZHUL_SEED and KERMEZHUL_LIBRARY_DRAWINGS.
 
 use against_rust::{
+    number,
     against::{same_columns, same_store},
     call::{written, Call},
     drawings::{directed, kind, random},
@@ -17,14 +18,6 @@ use against_rust::{
     wild::{any_call, any_float, any_store},
 };
 use std::time::Instant;
-
-fn number(at: usize, variable: &str, default: u64) -> u64 {
-    std::env::args()
-        .nth(at)
-        .or_else(|| std::env::var(variable).ok())
-        .map(|t| t.parse().unwrap_or_else(|_| panic!("{t} is no number")))
-        .unwrap_or(default)
-}
 
 #[derive(Default)]
 struct Teller {
