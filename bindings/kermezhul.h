@@ -22,12 +22,14 @@ extern "C" {
 #endif
 
 /* A drawing: columns x, y, weight of one length, and the commands (0 Move, 1 Line, 2 Quad, 3 Cubic) with a length of their own. `points` and `used` say how
- * many of each are in use, `opening` which point opened the contour. A call reads and changes them; a refused call changes nothing. */
+ * many of each are in use, `opening` which point opened the contour. A call reads and changes them; a refused call changes nothing, save that a refused
+ * `kermezhul_fresh` leaves the three 0. */
 #define KERMEZHUL_DRAWING                                                                                                                                \
     float *x, size_t x_len, float *y, size_t y_len, float *weight, size_t weight_len, uint8_t *commands, size_t commands_len, size_t *points, size_t *used, \
         size_t *opening
 
-/* A fresh drawing: a Move at (0,0). The three counts are written and not read. Answers 0, 3 (columns of unequal length) or 4 (no room). */
+/* A fresh drawing: a Move at (0,0). The three counts are written and not read: where it is refused they are 0, and the columns stay as they were. Answers 0,
+ * 3 (columns of unequal length) or 4 (no room). */
 uint32_t kermezhul_fresh(KERMEZHUL_DRAWING);
 
 /* The drawing calls test 3, 1, 2, 4 in that order. */

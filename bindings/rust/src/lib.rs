@@ -141,7 +141,7 @@ mod raw {
 }
 
 impl Columns<'_> {
-    /// A fresh drawing: a Move at (0,0). Answers 0, 3 (columns of unequal length) or 4 (no room).
+    /// A fresh drawing: a Move at (0,0). Answers 0, 3 (columns of unequal length) or 4 (no room); refused, its state has counts and index 0.
     pub fn fresh(&mut self) -> (u32, State) {
         let mut st = State::default();
         // SAFETY: the pointers and lengths are those of slices that do not overlap, since each is borrowed mutably

@@ -1,5 +1,5 @@
-// The drawing calls. points, used and opening are the store's counts and open index: each call reads them, leaves the new ones and returns the answer's number. On a
-// refusal nothing changes.
+// The drawing calls. points, used and opening are the store's counts and open index: each call reads them, leaves the new ones and returns the answer's number. A
+// refused call changes nothing, but for `kermezhul_fresh`, which reads no counts: refused, it leaves all three 0.
 
 ghost use mathlib.Core.Path.{_≡_};
 ghost use Rattle.point.specs.Point.{pointAt};
