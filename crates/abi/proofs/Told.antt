@@ -6,7 +6,7 @@ use Rattle.answer.specs.Number.{numberOf}
 use Rattle.store.specs.declared.StoreState.{StoreState}
 use Rattle.store.specs.Columns.{Columns, stateAt}
 use Rattle.store.specs.Drawing.{Outcome, outcome}
-use Rattle.primitives.specs.declared.Setting.{Setting}
+use Rattle.point.specs.declared.Setting.{Setting}
 use Rattle.tables.specs.Tables.{QuadTable, SplineTable}
 use Rattle.evaluate.specs.Output.{Output}
 use Rattle.flatten.specs.declared.Flattened.{Flattened}

@@ -4,8 +4,8 @@ use Rattle.answer.specs.Number.{numberOf}
 use Rattle.store.specs.declared.StoreState.{StoreState}
 use Rattle.store.specs.Columns.{Columns}
 use Rattle.store.specs.Drawing.{Outcome}
-use Rattle.primitives.specs.declared.Setting.{Setting}
-use Rattle.primitives.specs.declared.Setting.the-variants.{Screen, Knife}
+use Rattle.point.specs.declared.Setting.{Setting}
+use Rattle.point.specs.declared.Setting.the-variants.{Screen, Knife}
 use Rattle.tables.specs.Tables.{QuadTable, SplineTable}
 use Rattle.evaluate.specs.Output.{Output}
 use Rattle.flatten.specs.Flatten.{Flattening}

@@ -6,7 +6,7 @@ ghost use Rattle.tables.specs.Tables.{quadTable, splineTable};
 ghost use Rattle.evaluate.specs.Output.{output};
 ghost use Rattle.flatten.specs.Flatten.{flattenOf};
 ghost use Rattle.abi.specs.Reply.{flatReply, flatReplyOf, settingOf};
-use primitives::Setting;
+use point::Setting;
 use store::StoreState;
 
 fn setting_of(number: u32) -> Setting

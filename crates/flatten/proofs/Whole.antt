@@ -7,7 +7,7 @@ use mathlib.Core.List.{List}
 use lib.ListN.{length}
 use Rattle.answer.specs.declared.Answer.the-variants.{Done, Unusable, OutputShort}
 use Rattle.answer.specs.Number.{isDone}
-use Rattle.primitives.specs.declared.Setting.{Setting}
+use Rattle.point.specs.declared.Setting.{Setting}
 use Rattle.primitives.specs.declared.State.{State}
 use Rattle.store.specs.declared.StoreState.{StoreState}
 use Rattle.store.specs.Columns.{Columns}

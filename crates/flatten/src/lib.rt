@@ -5,7 +5,7 @@ ghost use Rattle.tables.specs.Tables.{quadTable, splineTable};
 ghost use Rattle.evaluate.specs.Output.{output};
 ghost use Rattle.flatten.specs.Flatten.{flattened, flattening, flattenOf};
 use answer::Answer;
-use primitives::Setting;
+use point::Setting;
 use store::StoreState;
 
 // The answer, and how many splines, quads and points there are.

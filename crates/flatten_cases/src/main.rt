@@ -4,7 +4,7 @@ mod comparing;
 mod reading;
 
 use libc::STDOUT_FILENO;
-use primitives::Setting;
+use point::Setting;
 use store::StoreState;
 
 // The counts and the open index of a drawing's first row.

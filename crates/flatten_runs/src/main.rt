@@ -7,7 +7,7 @@ use columns::read_u32;
 use flatten::Flattened;
 use libc::STDOUT_FILENO;
 use point::Point;
-use primitives::Setting;
+use point::Setting;
 use store::StoreState;
 
 // Room for 32,769 quads, and their walk.

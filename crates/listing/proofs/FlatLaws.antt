@@ -12,7 +12,7 @@ use lib.ListN.{length, drop, getD, length-map}
 use lib.Seq.{drop-drop, getD-drop}
 use Rattle.columns.specs.Flags.{flagByteOf, isFlagOf}
 use Rattle.answer.specs.Number.{isDone}
-use Rattle.primitives.specs.declared.Setting.{Setting}
+use Rattle.point.specs.declared.Setting.{Setting}
 use Rattle.store.specs.declared.StoreState.{StoreState}
 use Rattle.store.specs.Columns.{Columns}
 use Rattle.store.specs.Drawable.{drawableOf}

@@ -12,7 +12,7 @@ use Rattle.text.proofs.Decimals.{decimal-short}
 use Rattle.answer.specs.declared.Answer.{Answer}
 use Rattle.answer.specs.declared.Answer.the-variants.{Done, InputTooLong}
 use Rattle.answer.specs.Number.{numberOf, isDone}
-use Rattle.primitives.specs.declared.Setting.the-variants.{Screen}
+use Rattle.point.specs.declared.Setting.the-variants.{Screen}
 use Rattle.store.specs.declared.StoreState.{StoreState}
 use Rattle.store.specs.declared.Call.the-variants.{Build}
 use Rattle.store.specs.Columns.{Columns, evenOf, putPoint, putCommand}

@@ -9,7 +9,7 @@ use Rattle.leaves.specs.Single.{zero32}
 use Rattle.answer.specs.declared.Answer.{Answer}
 use Rattle.answer.specs.declared.Answer.the-variants.{Done, InputTooLong}
 use Rattle.answer.specs.Number.{isDone}
-use Rattle.primitives.specs.declared.Setting.the-variants.{Screen}
+use Rattle.point.specs.declared.Setting.the-variants.{Screen}
 use Rattle.store.specs.declared.Call.the-variants.{Build}
 use Rattle.store.specs.declared.StoreState.{StoreState}
 use Rattle.store.specs.Columns.{Columns, columns}

@@ -12,7 +12,7 @@ use crate::Progress;
 use crate::reading;
 use crate::writing;
 use answer::Answer;
-use primitives::Setting;
+use point::Setting;
 use store::StoreState;
 
 // The most bytes that are read as a listing.

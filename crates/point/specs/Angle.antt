@@ -6,6 +6,7 @@ use Rattle.leaves.specs.Fma.{fma32}
 use Rattle.leaves.specs.Small.{absOf, minOf, maxOf}
 use Rattle.point.specs.declared.Point.{Point}
 use Rattle.point.specs.declared.Angle.{Angle}
+use Rattle.point.specs.declared.Setting.{Setting}
 use Rattle.point.specs.declared.Angle.the-variants.{Missing, Known}
 use Rattle.point.specs.Point.{lenOf}
 
@@ -40,7 +41,7 @@ diffOf a0 a1 =
     cond (lt halfPi folded) (pi ⊖ folded) folded
 
 -- "Changed means both angles known and diff over 0.001. So a full reversal is no change."
-unfoldable pub changedOf : Angle → Angle → Bool
-changedOf Missing a1 = false
-changedOf (Known a0) Missing = false
-changedOf (Known a0) (Known a1) = lt (f32 0x3a83_126f) (diffOf a0 a1)
+unfoldable pub changedOf : Setting → Angle → Angle → Bool
+changedOf setting Missing a1 = false
+changedOf setting (Known a0) Missing = false
+changedOf setting (Known a0) (Known a1) = lt (f32 0x3a83_126f) (diffOf a0 a1)

@@ -1,5 +1,6 @@
 // Angles of directions, and when one has changed.
 use crate::Angle;
+use crate::Setting;
 ghost use mathlib.Core.Path.{_≡_};
 ghost use Rattle.point.specs.Angle.{approxAtan2Of, diffOf, changedOf};
 
@@ -50,8 +51,9 @@ pub fn diff(a0: f32, a1: f32) -> f32
     diff
 }
 
-pub fn changed(a0: Angle, a1: Angle) -> bool
-    ensures { λ r. ⌜ r ≡ changedOf a0 a1 ⌝ }
+// Both settings are alike here.
+pub fn changed(setting: Setting, a0: Angle, a1: Angle) -> bool
+    ensures { λ r. ⌜ r ≡ changedOf setting a0 a1 ⌝ }
 {
     match a0 {
         Angle::Missing => false,

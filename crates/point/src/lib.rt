@@ -22,6 +22,12 @@ pub struct Point {
     pub y: f32,
 }
 
+// The screen setting is the Rust's. In the knife setting a line without angle keeps the last angle.
+pub enum Setting {
+    Screen,
+    Knife,
+}
+
 // The Rust's Option<f32>: a direction too short has no angle.
 pub enum Angle {
     Missing,

@@ -5,6 +5,7 @@ use libc::STDIN_FILENO;
 use libc::STDOUT_FILENO;
 use point::Angle;
 use point::Point;
+use point::Setting;
 use point::WeightedPoint;
 
 // What is given, and what the list has for it.
@@ -85,7 +86,7 @@ fn angle_read() -> Angle {
 fn changed() -> Check {
     let a0 = angle_read();
     let a1 = angle_read();
-    against(if point::changed(a0, a1) { 1 } else { 0 })
+    against(if point::changed(Setting::Screen, a0, a1) { 1 } else { 0 })
 }
 
 fn curvature() -> Check {

@@ -17,7 +17,7 @@ use Rattle.point.specs.declared.Angle.the-variants.{Missing, Known}
 use Rattle.point.specs.Point.{pointAt, plain, appliedOf, minusOf, lenOf}
 use Rattle.point.specs.Angle.{halfPi, approxAtan2Of, angleOf, diffOf, changedOf}
 use Rattle.point.specs.Curve.{curvatureOf}
-use Rattle.primitives.specs.declared.Setting.the-variants.{Screen, Knife}
+use Rattle.point.specs.declared.Setting.the-variants.{Screen, Knife}
 use Rattle.primitives.specs.declared.Capacities.{Capacities}
 use Rattle.primitives.specs.declared.State.{State}
 use Rattle.primitives.specs.declared.Cubic.{Cubic}

@@ -14,7 +14,7 @@ use Rattle.point.specs.declared.Angle.{Angle}
 use Rattle.point.specs.declared.Angle.the-variants.{Missing, Known}
 use Rattle.point.specs.Point.{appliedOf, minusOf}
 use Rattle.point.specs.Angle.{angleOf}
-use Rattle.primitives.specs.declared.Setting.{Setting}
+use Rattle.point.specs.declared.Setting.{Setting}
 use Rattle.primitives.specs.declared.Capacities.{Capacities}
 use Rattle.primitives.specs.declared.State.{State}
 use Rattle.primitives.specs.declared.Primitive.{Primitive}
@@ -33,14 +33,14 @@ unfoldable pub refusedOf : State → Answer → State
 refusedOf st answer = stateOf answer (st .splines) (st .quads) (st .mark) (st .last)
 
 -- `push_contour`: a mark waits
-unfoldable pub markedOf : State → State
-markedOf st = stateOf (st .answer) (st .splines) (st .quads) true (st .last)
+unfoldable pub markedOf : Setting → State → State
+markedOf setting st = stateOf (st .answer) (st .splines) (st .quads) true (st .last)
 
 -- `push_line`
 unfoldable pub planLineOf : Setting → Capacities → State → SplineRow → Point → Point → Edit
 planLineOf setting caps st last start end =
     let angle = angleOf (minusOf end start) in
-    let opens = opensOf st last angle start in
+    let opens = opensOf setting st last angle start in
     cond (opens && leb (caps .splines) (st .splines)) (Keep (refusedOf st SplinesFull))
     (Extend (splineEditOf opens st last start end (sumBefore opens last) (st .quads) (lineAngleOf setting (st .last) angle)))
 
@@ -60,11 +60,11 @@ quadRowOf p0 p1 p2 curve edit =
     }
 
 -- a quad with both angles, from its points as stored and as applied
-unfoldable pub planCurveOf : Capacities → State → SplineRow → WeightedPoint → WeightedPoint → WeightedPoint → Angle → Angle → Edit
-planCurveOf caps st last p0 p1 p2 in-angle out-angle =
+unfoldable pub planCurveOf : Setting → Capacities → State → SplineRow → WeightedPoint → WeightedPoint → WeightedPoint → Angle → Angle → Edit
+planCurveOf setting caps st last p0 p1 p2 in-angle out-angle =
     let start = appliedOf p0 in
     let end = appliedOf p2 in
-    let opens = opensOf st last in-angle start in
+    let opens = opensOf setting st last in-angle start in
     let curve = curveOf start (appliedOf p1) end in
     let sum = sumBefore opens last ⊕ curve .curvature in
     let edit = splineEditOf opens st last start end sum (st .quads + 1) out-angle in
@@ -78,7 +78,7 @@ unfoldable pub planLegsOf : Setting → Capacities → State → SplineRow → W
 planLegsOf setting caps st last p0 p1 p2 Missing Missing = Keep st
 planLegsOf setting caps st last p0 p1 p2 Missing (Known a) = planLineOf setting caps st last (appliedOf p0) (appliedOf p2)
 planLegsOf setting caps st last p0 p1 p2 (Known a) Missing = planLineOf setting caps st last (appliedOf p0) (appliedOf p2)
-planLegsOf setting caps st last p0 p1 p2 (Known a) (Known b) = planCurveOf caps st last p0 p1 p2 (Known a) (Known b)
+planLegsOf setting caps st last p0 p1 p2 (Known a) (Known b) = planCurveOf setting caps st last p0 p1 p2 (Known a) (Known b)
 
 -- `push_quad`
 unfoldable pub planQuadOf : Setting → Capacities → State → SplineRow → WeightedPoint → WeightedPoint → WeightedPoint → Edit
@@ -86,7 +86,7 @@ planQuadOf setting caps st last p0 p1 p2 =
     planLegsOf setting caps st last p0 p1 p2 (angleOf (minusOf (appliedOf p1) (appliedOf p0))) (angleOf (minusOf (appliedOf p2) (appliedOf p1)))
 
 unfoldable pub planOf : Setting → Capacities → State → SplineRow → Primitive → Edit
-planOf setting caps st last Contour = Keep (markedOf st)
+planOf setting caps st last Contour = Keep (markedOf setting st)
 planOf setting caps st last (Line p0 p1) = planLineOf setting caps st last (appliedOf p0) (appliedOf p1)
 planOf setting caps st last (Quad p0 p1 p2) = planQuadOf setting caps st last p0 p1 p2
 planOf setting caps st last Excess = Keep (refusedOf st TooManyPieces)

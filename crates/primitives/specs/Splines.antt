@@ -10,8 +10,8 @@ use Rattle.point.specs.declared.Angle.{Angle}
 use Rattle.point.specs.declared.Angle.the-variants.{Missing, Known}
 use Rattle.point.specs.Point.{minusOf, lenOf}
 use Rattle.point.specs.Angle.{changedOf}
-use Rattle.primitives.specs.declared.Setting.{Setting}
-use Rattle.primitives.specs.declared.Setting.the-variants.{Screen, Knife}
+use Rattle.point.specs.declared.Setting.{Setting}
+use Rattle.point.specs.declared.Setting.the-variants.{Screen, Knife}
 use Rattle.primitives.specs.declared.State.{State}
 use Rattle.primitives.specs.declared.SplineRow.{SplineRow}
 use Rattle.primitives.specs.declared.SplineEdit.{SplineEdit}
@@ -28,8 +28,8 @@ unfoldable pub farOf : Point → SplineRow → Bool
 farOf start last = le maxError (lenOf (minusOf start (last .p2)))
 
 -- "A primitive opens a new spline if a contour mark waits, or the angle changed, or its start is 0.0625 or more from the last spline's end."
-unfoldable pub opensOf : State → SplineRow → Angle → Point → Bool
-opensOf st last angle start = st .mark || changedOf (st .last) angle || farOf start last
+unfoldable pub opensOf : Setting → State → SplineRow → Angle → Point → Bool
+opensOf setting st last angle start = st .mark || changedOf setting (st .last) angle || farOf start last
 
 -- "A line sets the last angle to its own, missing or not. Knife setting: a line without angle keeps the last angle."
 unfoldable pub lineAngleOf : Setting → Angle → Angle → Angle

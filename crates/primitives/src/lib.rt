@@ -13,12 +13,6 @@ use point::Angle;
 use point::Point;
 use point::WeightedPoint;
 
-// The screen setting is the Rust's. In the knife setting a line without angle keeps the last angle.
-pub enum Setting {
-    Screen,
-    Knife,
-}
-
 // How many quads and splines the tables take.
 pub struct Capacities {
     pub quads: usize,

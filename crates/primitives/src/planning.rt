@@ -3,7 +3,6 @@ use crate::Capacities;
 use crate::Edit;
 use crate::Primitive;
 use crate::QuadRow;
-use crate::Setting;
 use crate::SplineEdit;
 use crate::SplineRow;
 use crate::State;
@@ -16,6 +15,7 @@ use crate::splines::sum_before;
 use answer::Answer;
 use point::Angle;
 use point::Point;
+use point::Setting;
 use point::WeightedPoint;
 ghost use mathlib.Core.Path.{_≡_};
 ghost use Rattle.primitives.specs.Plan.{refusedOf, markedOf, planLineOf, quadRowOf, planCurveOf, planLegsOf, planQuadOf, planOf};
@@ -37,8 +37,8 @@ fn refused(st: State, answer: Answer) -> State
 }
 
 // push_contour: a mark waits.
-fn marked(st: State) -> State
-    ensures { λ r. ⌜ r ≡ markedOf st ⌝ }
+fn marked(setting: Setting, st: State) -> State
+    ensures { λ r. ⌜ r ≡ markedOf setting st ⌝ }
 {
     let answer = st.answer;
     let last = st.last;
@@ -63,7 +63,7 @@ fn plan_line(
     ensures { λ r. ⌜ r ≡ planLineOf setting caps st last start end ⌝ }
 {
     let angle = end.minus(start).angle();
-    let opens = opens(st, last, angle, start);
+    let opens = opens(setting, st, last, angle, start);
     if opens & (caps.splines <= st.splines) {
         return Edit::Keep(refused(st, Answer::SplinesFull));
     }
@@ -110,6 +110,7 @@ fn quad_row(
 
 // A quad with both angles.
 fn plan_curve(
+    setting: Setting,
     caps: Capacities,
     st: State,
     last: SplineRow,
@@ -119,14 +120,14 @@ fn plan_curve(
     in_angle: Angle,
     out_angle: Angle,
 ) -> Edit
-    ensures { λ r. ⌜ r ≡ planCurveOf caps st last p0 p1 p2 «in_angle» «out_angle» ⌝ }
+    ensures { λ r. ⌜ r ≡ planCurveOf setting caps st last p0 p1 p2 «in_angle» «out_angle» ⌝ }
 {
     if caps.quads <= st.quads {
         return Edit::Keep(refused(st, Answer::QuadsFull));
     }
     let start = p0.applied();
     let end = p2.applied();
-    let opens = opens(st, last, in_angle, start);
+    let opens = opens(setting, st, last, in_angle, start);
     if opens & (caps.splines <= st.splines) {
         return Edit::Keep(refused(st, Answer::SplinesFull));
     }
@@ -161,7 +162,7 @@ fn plan_legs(
         },
         Angle::Known(_) => match out_angle {
             Angle::Missing => plan_line(setting, caps, st, last, p0.applied(), p2.applied()),
-            Angle::Known(_) => plan_curve(caps, st, last, p0, p1, p2, in_angle, out_angle),
+            Angle::Known(_) => plan_curve(setting, caps, st, last, p0, p1, p2, in_angle, out_angle),
         },
     }
 }
@@ -188,7 +189,7 @@ pub fn plan(setting: Setting, caps: Capacities, st: State, last: SplineRow, p: P
     ensures { λ r. ⌜ r ≡ planOf setting caps st last p ⌝ }
 {
     match p {
-        Primitive::Contour => Edit::Keep(marked(st)),
+        Primitive::Contour => Edit::Keep(marked(setting, st)),
         Primitive::Line(p0, p1) => plan_line(setting, caps, st, last, p0.applied(), p1.applied()),
         Primitive::Quad(p0, p1, p2) => plan_quad(setting, caps, st, last, p0, p1, p2),
         Primitive::Excess => Edit::Keep(refused(st, Answer::TooManyPieces)),

@@ -1,11 +1,11 @@
 // When a primitive opens a spline, and the spline's row and the state after it: last_spline_or_insert_with as a plain decision.
-use crate::Setting;
 use crate::SplineEdit;
 use crate::SplineRow;
 use crate::State;
 use answer::Answer;
 use point::Angle;
 use point::Point;
+use point::Setting;
 use point::changed;
 ghost use mathlib.Core.Bool.{true};
 ghost use mathlib.Core.Path.{_≡_};
@@ -22,11 +22,11 @@ fn far(start: Point, last: SplineRow) -> bool
     start.minus(last.p2).squared() >= MAX_ERROR_SQUARED
 }
 
-pub fn opens(st: State, last: SplineRow, angle: Angle, start: Point) -> bool
-    ensures { λ r. ⌜ r ≡ opensOf st last angle start ⌝ }
+pub fn opens(setting: Setting, st: State, last: SplineRow, angle: Angle, start: Point) -> bool
+    ensures { λ r. ⌜ r ≡ opensOf setting st last angle start ⌝ }
 {
     let before = st.last;
-    st.mark | changed(before, angle) | far(start, last)
+    st.mark | changed(setting, before, angle) | far(start, last)
 }
 
 // The last angle after a line: the one place where the settings differ.

@@ -19,7 +19,7 @@ use Rattle.point.specs.declared.Angle.{Angle}
 use Rattle.point.specs.declared.Angle.the-variants.{Missing, Known}
 use Rattle.point.specs.Point.{appliedOf, minusOf}
 use Rattle.point.specs.Angle.{angleOf}
-use Rattle.primitives.specs.declared.Setting.{Setting}
+use Rattle.point.specs.declared.Setting.{Setting}
 use Rattle.primitives.specs.declared.Capacities.{Capacities}
 use Rattle.primitives.specs.declared.State.{State}
 use Rattle.primitives.specs.declared.SplineRow.{SplineRow}

@@ -9,7 +9,7 @@ use lib.ListN.{take, getD, replicate}
 use Rattle.answer.specs.declared.Answer.the-variants.{Done}
 use Rattle.command.specs.declared.PointCommand.{PointCommand}
 use Rattle.command.specs.declared.PointCommand.the-variants.{Start, Incr, End}
-use Rattle.primitives.specs.declared.Setting.{Setting}
+use Rattle.point.specs.declared.Setting.{Setting}
 use Rattle.store.specs.declared.StoreState.{StoreState}
 use Rattle.store.specs.Columns.{Columns, moveCommand}
 use Rattle.tables.specs.Tables.{QuadTable, SplineTable, capacitiesOf, splineAt}

@@ -5,7 +5,7 @@ use lib.Ieee.{Float}
 use Rattle.leaves.specs.Single.{f32, whole32, zero32}
 use Rattle.point.specs.Point.{pointAt, plain}
 use Rattle.store.specs.declared.Call.the-variants.{Move, Line, Build}
-use Rattle.primitives.specs.declared.Setting.the-variants.{Screen, Knife}
+use Rattle.point.specs.declared.Setting.the-variants.{Screen, Knife}
 use Rattle.primitives.specs.declared.Primitive.{Primitive}
 use Rattle.primitives.specs.declared.Primitive.the-variants.{Line as Straight}
 use Rattle.tables.specs.Tables.{capacitiesOf}

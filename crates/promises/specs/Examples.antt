@@ -19,8 +19,8 @@ use Rattle.store.specs.declared.Call.the-variants.{Move, Line, Quad, Build}
 use Rattle.store.specs.Columns.{Columns, columns}
 use Rattle.store.specs.Drawing.{Outcome, freshOf}
 use Rattle.store.specs.Replay.{replayOf}
-use Rattle.primitives.specs.declared.Setting.{Setting}
-use Rattle.primitives.specs.declared.Setting.the-variants.{Screen, Knife}
+use Rattle.point.specs.declared.Setting.{Setting}
+use Rattle.point.specs.declared.Setting.the-variants.{Screen, Knife}
 use Rattle.tables.specs.Tables.{QuadTable, quadTable, SplineTable, splineTable}
 use Rattle.walk.specs.Walk.{Item, walkOf}
 use Rattle.flatten.specs.Flatten.{Flattening, Output, output, flattenOf}

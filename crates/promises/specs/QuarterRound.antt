@@ -6,7 +6,7 @@ use Rattle.leaves.specs.Single.{f32, zero32}
 use Rattle.point.specs.Point.{pointAt}
 use Rattle.store.specs.declared.Call.{Call}
 use Rattle.store.specs.declared.Call.the-variants.{Quad, Cubic, Build}
-use Rattle.primitives.specs.declared.Setting.the-variants.{Screen}
+use Rattle.point.specs.declared.Setting.the-variants.{Screen}
 use Rattle.promises.specs.Examples.{Example, example, P, wordsAfter, pointsAfter}
 
 abbrev pub quadRound : List Call

@@ -8,7 +8,7 @@ use mathlib.Core.List.{List}
 use lib.Ieee.{Float}
 use Rattle.answer.specs.declared.Answer.{Answer}
 use Rattle.primitives.specs.declared.State.{State}
-use Rattle.primitives.specs.declared.Setting.{Setting}
+use Rattle.point.specs.declared.Setting.{Setting}
 use Rattle.store.specs.declared.StoreState.{StoreState}
 use Rattle.store.specs.declared.Call.{Call}
 use Rattle.store.specs.Columns.{Columns, columns}

@@ -13,7 +13,7 @@ use Rattle.leaves.specs.Single.{_⊖_, _⊗_, half32, whole32, recip}
 use Rattle.answer.specs.Number.{isDone}
 use Rattle.point.specs.declared.Point.{Point}
 use Rattle.point.specs.Point.{plain, appliedOf}
-use Rattle.primitives.specs.declared.Setting.{Setting}
+use Rattle.point.specs.declared.Setting.{Setting}
 use Rattle.primitives.specs.declared.Capacities.{Capacities}
 use Rattle.primitives.specs.declared.Cubic.{Cubic}
 use Rattle.primitives.specs.declared.Primitive.{Primitive}

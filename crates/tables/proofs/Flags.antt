@@ -16,7 +16,7 @@ use Rattle.answer.specs.Number.{isDone}
 use Rattle.columns.specs.Flags.{flagByteOf, isFlagOf}
 use Rattle.point.specs.declared.Point.{Point}
 use Rattle.point.specs.declared.Angle.{Angle}
-use Rattle.primitives.specs.declared.Setting.{Setting}
+use Rattle.point.specs.declared.Setting.{Setting}
 use Rattle.primitives.specs.declared.Capacities.{Capacities}
 use Rattle.primitives.specs.declared.Primitive.{Primitive}
 use Rattle.primitives.specs.declared.SplineRow.{SplineRow}
@@ -211,7 +211,7 @@ module _ (caps : Capacities) (E : ℕ → Type 0) (w : World) (S : Sound caps w)
   pub flagged-push : {b : Bool} {w' : World} → Pushed caps w b w' → Flagged (λ (m : ℕ). E m ⊎ Now w b m) w'
   unfolding refusedOf markedOf applyOf
   flagged-push (kept answer) = no-move (record { closed = G .closed; closing = G .closing; waits = G .waits; free = G .free; within = G .within })
-  flagged-push marked =
+  flagged-push (marked setting) =
       record {
         closed = λ j h e. elim (G .closed j h e) [ inl a ↦ inl a | inr a ↦ inr (inl a) ];
         closing = λ j h c. G .closing j h (back j c);

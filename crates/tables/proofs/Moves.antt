@@ -10,7 +10,7 @@ use lib.Dec.{T, leb}
 use lib.ListN.{length, getD, take, drop}
 use lib.Seq.{take-add, take-take}
 use Rattle.answer.specs.Number.{isDone}
-use Rattle.primitives.specs.declared.Setting.{Setting}
+use Rattle.point.specs.declared.Setting.{Setting}
 use Rattle.primitives.specs.declared.Capacities.{Capacities}
 use Rattle.primitives.specs.declared.Cubic.{Cubic}
 use Rattle.primitives.specs.declared.Primitive.{Primitive}
@@ -40,7 +40,7 @@ module _ (setting : Setting) (caps : Capacities) where
   push-grows : (w : World) {b : Bool} {w' : World} → Pushed caps w b w' → w .state .splines ≤ w' .state .splines
   unfolding refusedOf markedOf applyOf splineEditOf
   push-grows w (kept answer) = le-refl (w .state .splines)
-  push-grows w marked = le-refl (w .state .splines)
+  push-grows w (marked _) = le-refl (w .state .splines)
   push-grows w (lined true start end angle A) = more (w .state .splines)
     where
       more : (n : ℕ) → n ≤ n + 1

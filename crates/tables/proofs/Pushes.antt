@@ -25,7 +25,7 @@ use Rattle.point.specs.declared.Angle.{Angle}
 use Rattle.point.specs.declared.Angle.the-variants.{Missing, Known}
 use Rattle.point.specs.Point.{appliedOf, minusOf}
 use Rattle.point.specs.Angle.{angleOf}
-use Rattle.primitives.specs.declared.Setting.{Setting}
+use Rattle.point.specs.declared.Setting.{Setting}
 use Rattle.primitives.specs.declared.Capacities.{Capacities}
 use Rattle.primitives.specs.declared.State.{State}
 use Rattle.primitives.specs.declared.Primitive.{Primitive}
@@ -122,7 +122,7 @@ splineEdit w opens start end sum quads angle = splineEditOf opens (w .state) (la
 -- the second argument says whether the primitive is a Move's
 pub data Pushed (caps : Capacities) (w : World) : Bool → World → Type 0 where
   kept : (answer : Answer) → Pushed caps w false (world (refusedOf (w .state) answer) (w .quads) (w .splines))
-  marked : Pushed caps w true (world (markedOf (w .state)) (w .quads) (w .splines))
+  marked : (setting : Setting) → Pushed caps w true (world (markedOf setting (w .state)) (w .quads) (w .splines))
   lined : (opens : Bool) (start end : Point) (angle : Angle) → Allowed caps w opens
       → Pushed caps w false (applyOf (Extend (splineEdit w opens start end (sumBefore opens (lastOf w)) (w .state .quads) angle)) (w .quads) (w .splines))
   bent : (opens : Bool) (start end : Point) (angle : Angle) (c : Float) (row : QuadRow) → Allowed caps w opens → Bent c → w .state .quads < caps .quads → T (le (sumBefore opens (lastOf w) ⊕ c) limit32)
@@ -136,34 +136,34 @@ first-false : (a b c : Bool) → a || b || c ≡ false → a ≡ false
 first-false true b c h = h
 first-false false b c h = refl
 
-unmarked : (st : State) (last : SplineRow) (angle : Angle) (start : Point) → opensOf st last angle start ≡ false → st .mark ≡ false
+unmarked : (setting : Setting) (st : State) (last : SplineRow) (angle : Angle) (start : Point) → opensOf setting st last angle start ≡ false → st .mark ≡ false
 unfolding opensOf
-unmarked st last angle start h = first-false (st .mark) _ _ h
+unmarked setting st last angle start h = first-false (st .mark) _ _ h
 
 under : (a b : ℕ) → leb a b ≡ false → b < a
 under a b h = nleb→lt a b (subst (λ (t : Bool). T (not t)) (sym h) tt)
 
-allowed : (caps : Capacities) (w : World) (angle : Angle) (start : Point) (opens full : Bool) → opensOf (w .state) (lastOf w) angle start ≡ opens → leb (caps .splines) (w .state .splines) ≡ full → opens && full ≡ false → Allowed caps w opens
-allowed caps w angle start true full e f h = record { joins = λ k. absurd (true≢false k); room = λ k. under (caps .splines) (w .state .splines) (f ∙ h) }
-allowed caps w angle start false full e f h = record { joins = λ k. unmarked (w .state) (lastOf w) angle start e; room = λ k. absurd (true≢false (sym k)) }
+allowed : (setting : Setting) (caps : Capacities) (w : World) (angle : Angle) (start : Point) (opens full : Bool) → opensOf setting (w .state) (lastOf w) angle start ≡ opens → leb (caps .splines) (w .state .splines) ≡ full → opens && full ≡ false → Allowed caps w opens
+allowed setting caps w angle start true full e f h = record { joins = λ k. absurd (true≢false k); room = λ k. under (caps .splines) (w .state .splines) (f ∙ h) }
+allowed setting caps w angle start false full e f h = record { joins = λ k. unmarked setting (w .state) (lastOf w) angle start e; room = λ k. absurd (true≢false (sym k)) }
 
 module _ (setting : Setting) (caps : Capacities) (w : World) where
   line-pushed : (start end : Point) → Pushed caps w false (applyOf (planLineOf setting caps (w .state) (lastOf w) start end) (w .quads) (w .splines))
   unfolding planLineOf applyOf
-  line-pushed start end = go (opensOf (w .state) (lastOf w) angle start) (leb (caps .splines) (w .state .splines)) refl refl
+  line-pushed start end = go (opensOf setting (w .state) (lastOf w) angle start) (leb (caps .splines) (w .state .splines)) refl refl
     where
       angle : Angle
       angle = angleOf (minusOf end start)
 
-      go : (opens full : Bool) → opensOf (w .state) (lastOf w) angle start ≡ opens → leb (caps .splines) (w .state .splines) ≡ full
+      go : (opens full : Bool) → opensOf setting (w .state) (lastOf w) angle start ≡ opens → leb (caps .splines) (w .state .splines) ≡ full
           → Pushed caps w false (applyOf (cond (opens && full) (Keep (refusedOf (w .state) SplinesFull)) (Extend (splineEdit w opens start end (sumBefore opens (lastOf w)) (w .state .quads) (lineAngleOf setting (w .state .last) angle)))) (w .quads) (w .splines))
       go true true e f = kept SplinesFull
-      go true false e f = lined true start end _ (allowed caps w angle start true false e f refl)
-      go false full e f = lined false start end _ (allowed caps w angle start false full e f refl)
+      go true false e f = lined true start end _ (allowed setting caps w angle start true false e f refl)
+      go false full e f = lined false start end _ (allowed setting caps w angle start false full e f refl)
 
-  curve-pushed : (p0 p1 p2 : WeightedPoint) (a b : Angle) → Pushed caps w false (applyOf (planCurveOf caps (w .state) (lastOf w) p0 p1 p2 a b) (w .quads) (w .splines))
+  curve-pushed : (p0 p1 p2 : WeightedPoint) (a b : Angle) → Pushed caps w false (applyOf (planCurveOf setting caps (w .state) (lastOf w) p0 p1 p2 a b) (w .quads) (w .splines))
   unfolding planCurveOf applyOf quadRowOf splineEditOf
-  curve-pushed p0 p1 p2 a b = go (opensOf (w .state) (lastOf w) a start) (leb (caps .splines) (w .state .splines)) (leb (caps .quads) (w .state .quads)) (le (sum (opensOf (w .state) (lastOf w) a start)) limit32) refl refl refl refl
+  curve-pushed p0 p1 p2 a b = go (opensOf setting (w .state) (lastOf w) a start) (leb (caps .splines) (w .state .splines)) (leb (caps .quads) (w .state .quads)) (le (sum (opensOf setting (w .state) (lastOf w) a start)) limit32) refl refl refl refl
     where
       start : Point
       start = appliedOf p0
@@ -180,7 +180,7 @@ module _ (setting : Setting) (caps : Capacities) (w : World) where
       fit : (b : Bool) (x : Float) → le x limit32 ≡ b → b ≡ true → T (le x limit32)
       fit b x e f = subst T (sym (e ∙ f)) tt
 
-      go : (opens full qfull low : Bool) → opensOf (w .state) (lastOf w) a start ≡ opens → leb (caps .splines) (w .state .splines) ≡ full → leb (caps .quads) (w .state .quads) ≡ qfull → le (sum opens) limit32 ≡ low
+      go : (opens full qfull low : Bool) → opensOf setting (w .state) (lastOf w) a start ≡ opens → leb (caps .splines) (w .state .splines) ≡ full → leb (caps .quads) (w .state .quads) ≡ qfull → le (sum opens) limit32 ≡ low
           → Pushed caps w false
           (applyOf
           (cond qfull (Keep (refusedOf (w .state) QuadsFull))
@@ -192,11 +192,11 @@ module _ (setting : Setting) (caps : Capacities) (w : World) where
       go true true false low e f g h = kept SplinesFull
       go true false false false e f g h = kept SumTooLarge
       go true false false true e f g h =
-          bent true start (appliedOf p2) b (curve .curvature) (quadRowOf p0 p1 p2 curve (edit true)) (allowed caps w a start true false e f refl) (curve-bent start (appliedOf p1) (appliedOf p2)) (under (caps .quads) (w .state .quads) g)
+          bent true start (appliedOf p2) b (curve .curvature) (quadRowOf p0 p1 p2 curve (edit true)) (allowed setting caps w a start true false e f refl) (curve-bent start (appliedOf p1) (appliedOf p2)) (under (caps .quads) (w .state .quads) g)
           (fit true (sum true) h refl) refl refl
       go false full false false e f g h = kept SumTooLarge
       go false full false true e f g h =
-          bent false start (appliedOf p2) b (curve .curvature) (quadRowOf p0 p1 p2 curve (edit false)) (allowed caps w a start false full e f refl) (curve-bent start (appliedOf p1) (appliedOf p2)) (under (caps .quads) (w .state .quads) g)
+          bent false start (appliedOf p2) b (curve .curvature) (quadRowOf p0 p1 p2 curve (edit false)) (allowed setting caps w a start false full e f refl) (curve-bent start (appliedOf p1) (appliedOf p2)) (under (caps .quads) (w .state .quads) g)
           (fit true (sum false) h refl) refl refl
 
   legs-pushed : (p0 p1 p2 : WeightedPoint) (a b : Angle) → Pushed caps w false (applyOf (planLegsOf setting caps (w .state) (lastOf w) p0 p1 p2 a b) (w .quads) (w .splines))
@@ -208,7 +208,7 @@ module _ (setting : Setting) (caps : Capacities) (w : World) where
 
   pub pushed : (p : Primitive) → Pushed caps w (isMark p) (pushOf setting caps p w)
   unfolding pushOf planOf planQuadOf applyOf
-  pushed Contour = marked
+  pushed Contour = marked setting
   pushed (Line p0 p1) = line-pushed (appliedOf p0) (appliedOf p1)
   pushed (Quad p0 p1 p2) = legs-pushed p0 p1 p2 _ _
   pushed Excess = kept TooManyPieces

@@ -20,7 +20,7 @@ use lib.Seq.{getD-set-same, getD-set-other}
 use Rattle.leaves.specs.Single.{_⊕_, zero32}
 use Rattle.leaves.specs.Whole.{limit32}
 use Rattle.answer.specs.Number.{isDone}
-use Rattle.primitives.specs.declared.Setting.{Setting}
+use Rattle.point.specs.declared.Setting.{Setting}
 use Rattle.primitives.specs.declared.Capacities.{Capacities}
 use Rattle.primitives.specs.declared.Primitive.{Primitive}
 use Rattle.primitives.specs.declared.SplineRow.{SplineRow}
@@ -280,7 +280,7 @@ module _ (caps : Capacities) (w : World) (S : Sound caps w) where
   pub sound-push : {b : Bool} {w' : World} → Pushed caps w b w' → Sound caps w'
   unfolding refusedOf markedOf
   sound-push (kept answer) = same-tables (refusedOf (w .state) answer) refl refl (λ h. h)
-  sound-push marked = same-tables (markedOf (w .state)) refl refl (λ h. absurd (true≢false h))
+  sound-push (marked setting) = same-tables (markedOf setting (w .state)) refl refl (λ h. absurd (true≢false h))
   sound-push (lined opens start end angle A) = sound-lined opens start end angle A
   sound-push (bent opens start end angle c row A B K fit e o) = sound-bent opens start end angle c row A B K fit e o
 

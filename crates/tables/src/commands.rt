@@ -15,7 +15,7 @@ use point::WeightedPoint;
 use primitives::Capacities;
 use primitives::Cubic;
 use primitives::Primitive;
-use primitives::Setting;
+use point::Setting;
 use primitives::State;
 use store::StoreState;
 ghost use mathlib.Core.Bool.{cond};

@@ -7,7 +7,7 @@ use primitives::Capacities;
 use primitives::Cubic;
 use primitives::Edit;
 use primitives::Primitive;
-use primitives::Setting;
+use point::Setting;
 use primitives::State;
 use primitives::cubic_pieces;
 use primitives::cubic_point;

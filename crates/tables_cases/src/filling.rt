@@ -1,5 +1,5 @@
 // A run over a drawing into tables of this program's own, whose entries past the counts can be told from written ones.
-use primitives::Setting;
+use point::Setting;
 use store::StoreState;
 ghost use Prim.Native.Nat.{_≤_};
 

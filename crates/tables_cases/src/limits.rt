@@ -5,7 +5,7 @@ use crate::refusing::Tally;
 use crate::refusing::both;
 use crate::refusing::one;
 use point::Point;
-use primitives::Setting;
+use point::Setting;
 use store::Call;
 use store::StoreState;
 

@@ -10,7 +10,7 @@ mod refusing;
 use filling::Tables;
 use filling::filled;
 use libc::STDOUT_FILENO;
-use primitives::Setting;
+use point::Setting;
 use refusing::Tally;
 use refusing::both;
 use refusing::each_column;

@@ -8,7 +8,7 @@ use crate::kept::threes;
 use columns::read_f32;
 use columns::read_u8;
 use columns::read_u32;
-use primitives::Setting;
+use point::Setting;
 use std::num::wrapping_add_u32;
 use store::StoreState;
 

@@ -1,7 +1,7 @@
 -- `abi::flattening::setting_of` meets its contract: by the test. Assumes nothing.
 use Prim.Native.Nat.{ℕ, zero, suc}
 use mathlib.Core.Path.{_≡_, refl, sym, ap}
-use Rattle.primitives.specs.declared.Setting.the-variants.{Screen, Knife}
+use Rattle.point.specs.declared.Setting.the-variants.{Screen, Knife}
 use Rattle.abi.specs.Reply.{settingOf}
 use Rattle.abi.proofs.flattening.setting_of.Statement.{statement}
 use Rattle.abi.proofs.flattening.setting_of.Tie as tie
