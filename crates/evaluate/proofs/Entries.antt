@@ -15,6 +15,7 @@ use Rattle.leaves.specs.Whole.{wholeUpOf}
 use Rattle.columns.specs.Flags.{flagByteOf}
 use Rattle.command.specs.declared.PointCommand.the-variants.{Start, Incr, End}
 use Rattle.command.specs.Packing.{packOf}
+use Rattle.point.specs.declared.Setting.{Setting}
 use Rattle.tables.specs.Tables.{QuadTable, SplineTable, splineAt}
 use Rattle.walk.specs.Walk.{Item, item, subdivisionsOf, stepSizeOf, startsAfterOf, startsOf, cursorAtOf, cursorAt, stepsFrom, cursorFrom, cursorAfter, splineItemsOf, walkFrom, walkOf, wordOf, wordsOf}
 use Rattle.walk.specs.Length.{stepsOf, sizeOf}
@@ -136,16 +137,16 @@ module _ (q : QuadTable) (s : SplineTable) (k : ℕ) (from : Place) (o : Output)
       (ap₂ placeAt (finish-at (from .at) n start steps end e) (finish-cursor q (subdivisionsOf s k) (from .cursor)))
 
 -- ---- the whole walk
-walk-from-written : (q : QuadTable) (s : SplineTable) (n k : ℕ) (from : Place) (o : Output)
-    → writeWalkFrom q s n k from o ≡ writeItems q s (from .at) (walkFrom q s n k (from .cursor)) o
+walk-from-written : (setting : Setting) (q : QuadTable) (s : SplineTable) (n k : ℕ) (from : Place) (o : Output)
+    → writeWalkFrom setting q s n k from o ≡ writeItems q s (from .at) (walkFrom setting q s n k (from .cursor)) o
 unfolding writeWalkFrom walkFrom writeItems
-walk-from-written q s zero k from o = refl
-walk-from-written q s (suc n) k from o =
+walk-from-written setting q s zero k from o = refl
+walk-from-written setting q s (suc n) k from o =
     let items = splineItemsOf q s k (from .cursor) in
     let cursor = cursorAfter q s k (from .cursor) in
-    ap (λ (w : Written). writeWalkFrom q s n (k + 1) (w .place) (w .output)) (spline-written q s k from o)
-    ∙ walk-from-written q s n (k + 1) (placeAt (from .at + length items) cursor) (writeItems q s (from .at) items o)
-    ∙ sym (items-append q s (from .at) items (walkFrom q s n (k + 1) cursor) o)
+    ap (λ (w : Written). writeWalkFrom setting q s n (k + 1) (w .place) (w .output)) (spline-written q s k from o)
+    ∙ walk-from-written setting q s n (k + 1) (placeAt (from .at + length items) cursor) (writeItems q s (from .at) items o)
+    ∙ sym (items-append q s (from .at) items (walkFrom setting q s n (k + 1) cursor) o)
 
 -- ---- the four columns
 columnsFrom : QuadTable → SplineTable → List Item → Output → ℕ → Output
@@ -190,7 +191,7 @@ written-fits q s items o h =
       map-over (λ (p : Finished). flagByteOf (p .end)) points (o .end) n e (a .1),
     )
 
-pub walk-written : (q : QuadTable) (s : SplineTable) (n : ℕ) (o : Output) → fitsOutput (length (walkOf q s n)) o ≡ true
-    → writeWalkOf q s n o ≡ writeOutput q s (walkOf q s n) o
+pub walk-written : (setting : Setting) (q : QuadTable) (s : SplineTable) (n : ℕ) (o : Output) → fitsOutput (length (walkOf setting q s n)) o ≡ true
+    → writeWalkOf setting q s n o ≡ writeOutput q s (walkOf setting q s n) o
 unfolding writeWalkOf walkOf
-walk-written q s n o e = walk-from-written q s n 0 (placeAt 0 0) o ∙ written-fits q s (walkOf q s n) o e
+walk-written setting q s n o e = walk-from-written setting q s n 0 (placeAt 0 0) o ∙ written-fits q s (walkOf setting q s n) o e

@@ -8,6 +8,7 @@ use Rattle.leaves.specs.Whole.{wholeUpOf}
 use Rattle.command.specs.declared.PointCommand.the-variants.{Start, Incr, End}
 use Rattle.command.specs.Packing.{packOf}
 use Rattle.columns.specs.Flags.{flagByteOf}
+use Rattle.point.specs.declared.Setting.{Setting}
 use Rattle.primitives.specs.declared.SplineRow.{SplineRow}
 use Rattle.tables.specs.Tables.{QuadTable, SplineTable, splineAt}
 use Rattle.walk.specs.Walk.{cursorAt, startsAfterOf, walkOf}
@@ -60,14 +61,14 @@ writeSplineOf q k last row from o =
     written (writeEntryOf (b .place .at) (packOf (End k (row .contour))) (finished (row .p2) (row .contour)) (b .output)) (endPlaceOf (row .curvature) (b .place))
 
 -- n splines from spline k on
-unfoldable pub writeWalkFrom : QuadTable → SplineTable → ℕ → ℕ → Place → Output → Output
-writeWalkFrom q s zero k from o = o
-writeWalkFrom q s (suc n) k from o =
+unfoldable pub writeWalkFrom : Setting → QuadTable → SplineTable → ℕ → ℕ → Place → Output → Output
+writeWalkFrom setting q s zero k from o = o
+writeWalkFrom setting q s (suc n) k from o =
     let w = writeSplineOf q k (splineAt s (k - 1)) (splineAt s k) from o in
-    writeWalkFrom q s n (k + 1) (w .place) (w .output)
+    writeWalkFrom setting q s n (k + 1) (w .place) (w .output)
 
-unfoldable pub writeWalkOf : QuadTable → SplineTable → ℕ → Output → Output
-writeWalkOf q s n o = writeWalkFrom q s n 0 (placeAt 0 0) o
+unfoldable pub writeWalkOf : Setting → QuadTable → SplineTable → ℕ → Output → Output
+writeWalkOf setting q s n o = writeWalkFrom setting q s n 0 (placeAt 0 0) o
 
 -- whether the walk fits and how long it is, with the outputs
 pub record Delivery : Type 0 where
@@ -78,7 +79,7 @@ abbrev pub delivery : Bool → ℕ → Output → Delivery
 delivery fits points output = record { result = record { fits = fits; points = points }; output = output }
 
 -- "9: words or outputs are shorter than the walk": then nothing is written
-unfoldable pub deliverOf : QuadTable → SplineTable → ℕ → Output → Delivery
-deliverOf q s n o =
-    let items = walkOf q s n in
+unfoldable pub deliverOf : Setting → QuadTable → SplineTable → ℕ → Output → Delivery
+deliverOf setting q s n o =
+    let items = walkOf setting q s n in
     cond (fitsOutput (length items) o) (delivery true (length items) (writeOutput q s items o)) (delivery false 0 o)

@@ -52,11 +52,11 @@ module _ (setting : Setting) (st : StoreState) (c : Columns) (q : QuadTable) (s 
     unfolding flattenOf flattenDrawable tabled
     refused r hr h = ap (λ (x : Flattened). flattening x q' s' o) hr ∙ rw (e, ← hw, h)
 
-    module _ (fits : Bool) (points : ℕ) (o' : Output) (h : isDone (state .answer) ≡ true) (hd : delivery fits points o' ≡ deliverOf q' s' (state .splines) o) where
+    module _ (fits : Bool) (points : ℕ) (o' : Output) (h : isDone (state .answer) ≡ true) (hd : delivery fits points o' ≡ deliverOf setting q' s' (state .splines) o) where
       pub done : fits ≡ true → flattening (flattened Done (state .splines) (state .quads) points) q' s' o' ≡ flattenOf setting st c q s o
       unfolding flattenOf flattenDrawable tabled deliverOf laid
-      done f = rw (e, ← hw, h) (whole (world state q' s') (walkOf q' s' (state .splines)) o (fitsOutput (length (walkOf q' s' (state .splines))) o) fits points o' hd f)
+      done f = rw (e, ← hw, h) (whole (world state q' s') (walkOf setting q' s' (state .splines)) o (fitsOutput (length (walkOf setting q' s' (state .splines))) o) fits points o' hd f)
 
       pub too-short : (r : Flattened) → r ≡ flattened OutputShort (state .splines) (state .quads) 0 → fits ≡ false → flattening r q' s' o' ≡ flattenOf setting st c q s o
       unfolding flattenOf flattenDrawable tabled deliverOf laid
-      too-short r hr f = ap (λ (x : Flattened). flattening x q' s' o') hr ∙ rw (e, ← hw, h) (short (world state q' s') (walkOf q' s' (state .splines)) o (fitsOutput (length (walkOf q' s' (state .splines))) o) fits points o' hd f)
+      too-short r hr f = ap (λ (x : Flattened). flattening x q' s' o') hr ∙ rw (e, ← hw, h) (short (world state q' s') (walkOf setting q' s' (state .splines)) o (fitsOutput (length (walkOf setting q' s' (state .splines))) o) fits points o' hd f)

@@ -41,14 +41,14 @@ walked true w items o =
     flattening (flattened Done (w .state .splines) (w .state .quads) (length items)) (w .quads) (w .splines) (writeOutput (w .quads) (w .splines) items o)
 
 -- "On 5 to 8 the tables hold all that was pushed before the refused primitive"
-unfoldable pub tabled : Bool → World → Output → Flattening
-tabled false w o = flattening (flattened (w .state .answer) (w .state .splines) (w .state .quads) 0) (w .quads) (w .splines) o
-tabled true w o = let items = walkOf (w .quads) (w .splines) (w .state .splines) in walked (fitsOutput (length items) o) w items o
+unfoldable pub tabled : Setting → Bool → World → Output → Flattening
+tabled setting false w o = flattening (flattened (w .state .answer) (w .state .splines) (w .state .quads) 0) (w .quads) (w .splines) o
+tabled setting true w o = let items = walkOf setting (w .quads) (w .splines) (w .state .splines) in walked (fitsOutput (length items) o) w items o
 
 -- "On 3 no buffer is written and all counts are 0."
 unfoldable pub flattenDrawable : Bool → Setting → StoreState → Columns → QuadTable → SplineTable → Output → Flattening
 flattenDrawable false setting st c q s o = flattening (flattened Unusable 0 0 0) q s o
-flattenDrawable true setting st c q s o = let w = tablesOf setting st c q s in tabled (isDone (w .state .answer)) w o
+flattenDrawable true setting st c q s o = let w = tablesOf setting st c q s in tabled setting (isDone (w .state .answer)) w o
 
 unfoldable pub flattenOf : Setting → StoreState → Columns → QuadTable → SplineTable → Output → Flattening
 flattenOf setting st c q s o = flattenDrawable (drawableOf st c) setting st c q s o

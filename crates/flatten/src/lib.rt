@@ -99,6 +99,7 @@ pub fn flatten(
         out_x,
         out_y,
         out_end,
+        setting,
         state.splines,
     );
     if !delivered.fits {

@@ -86,7 +86,11 @@ fn angle_read() -> Angle {
 fn changed() -> Check {
     let a0 = angle_read();
     let a1 = angle_read();
-    against(if point::changed(Setting::Screen, a0, a1) { 1 } else { 0 })
+    against(if point::changed(Setting::Screen, a0, a1) {
+        1
+    } else {
+        0
+    })
 }
 
 fn curvature() -> Check {

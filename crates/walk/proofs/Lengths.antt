@@ -14,6 +14,7 @@ use Rattle.leaves.specs.Single.{zero32}
 use Rattle.leaves.specs.Whole.{limit32, wholeUpOf}
 use Rattle.leaves.proofs.WholeUp.{in-range, whole-up-is}
 use Rattle.command.specs.declared.PointCommand.the-variants.{Start, End}
+use Rattle.point.specs.declared.Setting.{Setting}
 use Rattle.primitives.specs.declared.SplineRow.{SplineRow}
 use Rattle.tables.specs.Tables.{QuadTable, SplineTable, splineAt}
 use Rattle.walk.specs.Walk.{Item, item, subdivisionsOf, stepSizeOf, startsAfterOf, startsOf, stepsFrom, splineItemsOf, cursorAfter, walkFrom, walkOf}
@@ -67,16 +68,16 @@ spline-length q s k cursor =
     (stepsFrom q (stepSizeOf s k) (subdivisionsOf s k - 1) 1 cursor) (subdivisionsOf s k - 1) (startsOf s k)
     (steps-length q (stepSizeOf s k) (subdivisionsOf s k - 1) 1 cursor)
 
-walk-from-length : (q : QuadTable) (s : SplineTable) (n k cursor : ℕ) → length (walkFrom q s n k cursor) ≡ lengthFrom s n k
+walk-from-length : (setting : Setting) (q : QuadTable) (s : SplineTable) (n k cursor : ℕ) → length (walkFrom setting q s n k cursor) ≡ lengthFrom s n k
 unfolding walkFrom lengthFrom
-walk-from-length q s zero k cursor = refl
-walk-from-length q s (suc n) k cursor =
-    length-append (splineItemsOf q s k cursor) (walkFrom q s n (k + 1) (cursorAfter q s k cursor))
-    ∙ ap₂ (λ (a b : ℕ). a + b) (spline-length q s k cursor) (walk-from-length q s n (k + 1) (cursorAfter q s k cursor))
+walk-from-length setting q s zero k cursor = refl
+walk-from-length setting q s (suc n) k cursor =
+    length-append (splineItemsOf q s k cursor) (walkFrom setting q s n (k + 1) (cursorAfter q s k cursor))
+    ∙ ap₂ (λ (a b : ℕ). a + b) (spline-length q s k cursor) (walk-from-length setting q s n (k + 1) (cursorAfter q s k cursor))
 
-pub walk-length : (q : QuadTable) (s : SplineTable) (n : ℕ) → length (walkOf q s n) ≡ walkLengthOf s n
+pub walk-length : (setting : Setting) (q : QuadTable) (s : SplineTable) (n : ℕ) → length (walkOf setting q s n) ≡ walkLengthOf s n
 unfolding walkOf walkLengthOf
-walk-length q s n = walk-from-length q s n 0 0
+walk-length setting q s n = walk-from-length setting q s n 0 0
 
 -- ---- the loop that counts: what is left comes to what the whole comes to
 pub record Counted (s : SplineTable) (n total : ℕ) (last : SplineRow) (k left : ℕ) : Type 0 where

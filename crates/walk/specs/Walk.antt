@@ -7,6 +7,7 @@ use lib.Ieee.{Float, nan, lt}
 use lib.ListN.{getD}
 use Rattle.leaves.specs.Single.{_⊘_, whole32}
 use Rattle.leaves.specs.Whole.{wholeUpOf}
+use Rattle.point.specs.declared.Setting.{Setting}
 use Rattle.point.specs.Point.{minusOf, lenOf}
 use Rattle.command.specs.declared.PointCommand.{PointCommand}
 use Rattle.command.specs.declared.PointCommand.the-variants.{Start, Incr, End}
@@ -68,12 +69,12 @@ splineItemsOf q s k cursor =
     ++ (item (End k (splineAt s k .contour)) 0 0 ∷ []))
 
 -- n splines from spline k on
-unfoldable pub walkFrom : QuadTable → SplineTable → ℕ → ℕ → ℕ → List Item
-walkFrom q s zero k cursor = []
-walkFrom q s (suc n) k cursor = splineItemsOf q s k cursor ++ walkFrom q s n (k + 1) (cursorAfter q s k cursor)
+unfoldable pub walkFrom : Setting → QuadTable → SplineTable → ℕ → ℕ → ℕ → List Item
+walkFrom setting q s zero k cursor = []
+walkFrom setting q s (suc n) k cursor = splineItemsOf q s k cursor ++ walkFrom setting q s n (k + 1) (cursorAfter q s k cursor)
 
-unfoldable pub walkOf : QuadTable → SplineTable → ℕ → List Item
-walkOf q s n = walkFrom q s n 0 0
+unfoldable pub walkOf : Setting → QuadTable → SplineTable → ℕ → List Item
+walkOf setting q s n = walkFrom setting q s n 0 0
 
 unfoldable pub wordOf : Item → ℕ
 wordOf i = packOf (i .command)
