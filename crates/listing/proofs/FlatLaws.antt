@@ -27,30 +27,30 @@ use Rattle.flatten.specs.Flatten.{Flattening, walked, tabled, flattenDrawable, 
 use Rattle.listing.specs.Writing.{columnPoints}
 
 -- ---- what was delivered
-abbrev itemsOf : Flattening → List Item
-itemsOf f = walkOf (f .quads) (f .splines) (f .result .splines)
+abbrev itemsOf : Setting → Flattening → List Item
+itemsOf setting f = walkOf setting (f .quads) (f .splines) (f .result .splines)
 
-pub record Delivered (f : Flattening) (o : Output) : Type 0 where
-  pub fits : fitsOutput (length (itemsOf f)) o ≡ true
-  pub points : f .result .points ≡ length (itemsOf f)
-  pub written : f .output ≡ writeOutput (f .quads) (f .splines) (itemsOf f) o
+pub record Delivered (setting : Setting) (f : Flattening) (o : Output) : Type 0 where
+  pub fits : fitsOutput (length (itemsOf setting f)) o ≡ true
+  pub points : f .result .points ≡ length (itemsOf setting f)
+  pub written : f .output ≡ writeOutput (f .quads) (f .splines) (itemsOf setting f) o
 
-walked-done : (b : Bool) (w : World) (o : Output) → fitsOutput (length (walkOf (w .quads) (w .splines) (w .state .splines))) o ≡ b → isDone (walked b w (walkOf (w .quads) (w .splines) (w .state .splines)) o .result .answer) ≡ true → Delivered (walked b w (walkOf (w .quads) (w .splines) (w .state .splines)) o) o
+walked-done : (setting : Setting) (b : Bool) (w : World) (o : Output) → fitsOutput (length (walkOf setting (w .quads) (w .splines) (w .state .splines))) o ≡ b → isDone (walked b w (walkOf setting (w .quads) (w .splines) (w .state .splines)) o .result .answer) ≡ true → Delivered setting (walked b w (walkOf setting (w .quads) (w .splines) (w .state .splines)) o) o
 unfolding walked
-walked-done true w o e h = record { fits = e; points = refl; written = refl }
-walked-done false w o e h = absurd (let z : _≡_ {A = ℕ} 0 1 = cc in omega arith)
+walked-done setting true w o e h = record { fits = e; points = refl; written = refl }
+walked-done setting false w o e h = absurd (let z : _≡_ {A = ℕ} 0 1 = cc in omega arith)
 
-tabled-done : (b : Bool) (w : World) (o : Output) → isDone (w .state .answer) ≡ b → isDone (tabled b w o .result .answer) ≡ true → Delivered (tabled b w o) o
+tabled-done : (setting : Setting) (b : Bool) (w : World) (o : Output) → isDone (w .state .answer) ≡ b → isDone (tabled setting b w o .result .answer) ≡ true → Delivered setting (tabled setting b w o) o
 unfolding tabled
-tabled-done true w o e h = walked-done (fitsOutput (length (walkOf (w .quads) (w .splines) (w .state .splines))) o) w o refl h
-tabled-done false w o e h = absurd (let z : _≡_ {A = ℕ} 0 1 = cc in omega arith)
+tabled-done setting true w o e h = walked-done setting (fitsOutput (length (walkOf setting (w .quads) (w .splines) (w .state .splines))) o) w o refl h
+tabled-done setting false w o e h = absurd (let z : _≡_ {A = ℕ} 0 1 = cc in omega arith)
 
-drawable-done : (b : Bool) (setting : Setting) (st : StoreState) (c : Columns) (q : QuadTable) (s : SplineTable) (o : Output) → isDone (flattenDrawable b setting st c q s o .result .answer) ≡ true → Delivered (flattenDrawable b setting st c q s o) o
+drawable-done : (b : Bool) (setting : Setting) (st : StoreState) (c : Columns) (q : QuadTable) (s : SplineTable) (o : Output) → isDone (flattenDrawable b setting st c q s o .result .answer) ≡ true → Delivered setting (flattenDrawable b setting st c q s o) o
 unfolding flattenDrawable
-drawable-done true setting st c q s o h = let w = tablesOf setting st c q s in tabled-done (isDone (w .state .answer)) w o refl h
+drawable-done true setting st c q s o h = let w = tablesOf setting st c q s in tabled-done setting (isDone (w .state .answer)) w o refl h
 drawable-done false setting st c q s o h = absurd (let z : _≡_ {A = ℕ} 0 1 = cc in omega arith)
 
-pub flatten-done : (setting : Setting) (st : StoreState) (c : Columns) (q : QuadTable) (s : SplineTable) (o : Output) → isDone (flattenOf setting st c q s o .result .answer) ≡ true → Delivered (flattenOf setting st c q s o) o
+pub flatten-done : (setting : Setting) (st : StoreState) (c : Columns) (q : QuadTable) (s : SplineTable) (o : Output) → isDone (flattenOf setting st c q s o .result .answer) ≡ true → Delivered setting (flattenOf setting st c q s o) o
 unfolding flattenOf
 flatten-done setting st c q s o h = drawable-done (drawableOf st c) setting st c q s o h
 
@@ -86,22 +86,22 @@ first-of : (a b c d : Bool) → (a && b && c && d) ≡ true → a ≡ true
 first-of true b c d h = refl
 first-of false b c d h = h
 
-module _ (f : Flattening) (o : Output) (d : Delivered f o) where
+module _ (setting : Setting) (f : Flattening) (o : Output) (d : Delivered setting f o) where
   abbrev delivered : List Finished
-  delivered = pointsOf (f .quads) (f .splines) (itemsOf f)
+  delivered = pointsOf (f .quads) (f .splines) (itemsOf setting f)
 
   delivered-count : length delivered ≡ f .result .points
   unfolding pointsOf
-  delivered-count = length-map (itemsOf f) (itemPointOf (f .quads) (f .splines)) ∙ sym (d .points)
+  delivered-count = length-map (itemsOf setting f) (itemPointOf (f .quads) (f .splines)) ∙ sym (d .points)
 
   pub delivered-points : columnPoints 0 (f .result .points) (f .output .x) (f .output .y) (f .output .end) ≡ delivered
   unfolding writeOutput over
   delivered-points =
-      let w = writeOutput (f .quads) (f .splines) (itemsOf f) o in
+      let w = writeOutput (f .quads) (f .splines) (itemsOf setting f) o in
       ap (λ (n : ℕ). columnPoints 0 n (f .output .x) (f .output .y) (f .output .end)) (sym delivered-count)
       ∙ ap (λ (u : Output). columnPoints 0 (length delivered) (u .x) (u .y) (u .end)) (d .written)
       ∙ points-from delivered 0 (w .x) (w .y) (w .end) (drop (length (map (λ p. p .point .x) delivered)) (o .x)) (drop (length (map (λ p. p .point .y) delivered)) (o .y)) (drop (length (map (λ p. flagByteOf (p .end)) delivered)) (o .end)) refl refl refl
 
   pub delivered-fit : f .result .points ≤ length (o .words)
   unfolding fitsOutput
-  delivered-fit = omega (arith, d .points, leb-true (length (itemsOf f)) (length (o .words)) (first-of (leb (length (itemsOf f)) (length (o .words))) (leb (length (itemsOf f)) (length (o .x))) (leb (length (itemsOf f)) (length (o .y))) (leb (length (itemsOf f)) (length (o .end))) (d .fits)))
+  delivered-fit = omega (arith, d .points, leb-true (length (itemsOf setting f)) (length (o .words)) (first-of (leb (length (itemsOf setting f)) (length (o .words))) (leb (length (itemsOf setting f)) (length (o .x))) (leb (length (itemsOf setting f)) (length (o .y))) (leb (length (itemsOf setting f)) (length (o .end))) (d .fits)))
