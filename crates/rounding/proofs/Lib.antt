@@ -18,5 +18,6 @@ pub mod Nearest
 pub mod NearestOnly
 pub mod Overflow
 pub mod RootNearest
+pub mod RootOnly
 pub mod Cuts
 pub mod RootLargest

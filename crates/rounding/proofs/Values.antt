@@ -3,7 +3,7 @@ use mathlib.Core.Path.{_≡_, sym, ap, _∙_, subst}
 use mathlib.Core.Bool.{Bool, _&&_}
 use Prim.Native.Nat.{ℕ, zero, suc, _+_, _*_, _%_, _^_, _<_}
 use native.Mathlib.Nat.{lt-of-lt-of-le, le-trans, le-of-eq, zero-mul, mul-comm, mul-right-comm, mul-pos, mul-le-mul-left, mul-lt-mul-of-pos-right}
-use native.Mathlib.Nat.{lt-of-mul-lt-mul-right}
+use native.Mathlib.Nat.{lt-of-mul-lt-mul-right, lt-of-le-of-lt, mul-assoc}
 use lib.Dec.{T, leb, ltb, eqb, ltb→lt}
 use lib.Pow.{pow-add, pow-pos, pow-mono}
 use lib.Ieee.{Float, nan, inf, fin, Format, prec, emax, low, up, down, fits, top, toBits}
@@ -23,6 +23,14 @@ pub cross : (x : Float) (s : Bool) (a c : ℕ) → HasValue x s a c → num x * 
 cross nan s a c h = absurd h
 cross (inf t) s a c h = absurd h
 cross (fin t m e) s a c h = h .1
+
+-- an order of A / L and B / L is one of the fractions that they equal
+pub fraction-lt : (a d b e A B L : ℕ) → 0 < d * e → a * L ≡ A * d → b * L ≡ B * e → A < B → a * e < b * d
+fraction-lt a d b e A B L D g h l =
+    lt-of-mul-lt-mul-right L
+    (lt-of-le-of-lt (le-of-eq (mul-right-comm a e L ∙ ap (λ (z : ℕ). z * e) g ∙ mul-assoc A d e))
+    (lt-of-lt-of-le (mul-lt-mul-of-pos-right l D)
+    (le-of-eq (ap (λ (z : ℕ). B * z) (mul-comm d e) ∙ sym (mul-assoc B e d) ∙ ap (λ (z : ℕ). z * d) (sym h) ∙ mul-right-comm b L d))))
 
 -- the number of smallest values in x, from its pattern
 unfoldable pub worth : Format → Float → ℕ
