@@ -11,3 +11,4 @@ pub mod Halving
 pub mod SixthParts
 pub mod SixthLargest
 pub mod Fits
+pub mod FmaOnly
