@@ -1,9 +1,9 @@
 -- `fma32` obeys the laws of IEEE 754's fusedMultiplyAdd, and whatever obeys them is `fma32`. Assumes nothing.
 use mathlib.Core.Path.{_≡_, refl, sym, ap, _∙_, subst}
 use mathlib.Core.Logic.{_⊎_, inl, inr}
-use mathlib.Core.Bool.{Bool, true, false, not, _&&_, _||_, Bool·beq, cond}
+use mathlib.Core.Bool.{Bool, true, false, not, _&&_, _||_, cond}
 use Prim.Native.Nat.{ℕ, zero, suc, _-_, _*_, _^_, _≤_, _<_}
-use lib.IntN.{ℤ, pos, negsuc, natAbs}
+use lib.IntN.{ℤ, natAbs}
 use lib.Dec.{T, leb, eqb·suc-zero}
 use lib.Ieee.{Float, nan, inf, fin, binary32, unlike, isNan, add, mul, toBits, top}
 use lib.Ieee.Bits.{is-true}

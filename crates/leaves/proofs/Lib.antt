@@ -12,3 +12,4 @@ pub mod SixthParts
 pub mod SixthLargest
 pub mod Fits
 pub mod FmaOnly
+pub mod SqrtOnly

@@ -2,7 +2,7 @@
 -- be x * y + z. For any x, y and z exactly one r obeys: `fma32 x y z` (`fma-lawful` and `fma-only`, leaves/proofs/FmaOnly). Assumes nothing.
 use mathlib.Core.Path.{_≡_}
 use mathlib.Core.Bool.{Bool, true, false, not, _&&_, _||_}
-use Prim.Native.Nat.{ℕ, zero, suc, _-_, _*_, _^_, _≤_, _<_}
+use Prim.Native.Nat.{zero, suc, _-_, _*_, _^_, _≤_, _<_}
 use lib.IntN.{ℤ, pos, negsuc, natAbs}
 use lib.Dec.{T}
 use lib.Ieee.{Float, nan, inf, binary32, unlike, isNan, fits}

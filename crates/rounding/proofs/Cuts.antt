@@ -4,8 +4,8 @@ use mathlib.Core.Path.{_≡_, refl, sym, ap, _∙_, subst}
 use mathlib.Core.Logic.{_⊎_, inl, inr}
 use mathlib.Core.Bool.{false}
 use Prim.Native.Nat.{ℕ, suc, _+_, _-_, _*_, _/_, _%_, _^_, _≤_, _<_}
-use native.Mathlib.Nat.{mul-comm, mul-assoc, mul-right-comm, mul-pos, mul-lt-mul-of-pos-right, lt-of-mul-lt-mul-right, eq-zero-or-pos, le-div-iff-mul-le}
-use native.Mathlib.Nat.{div-mul-le-self, div-add-mod', mod-lt, suc-mul, mul-le-mul-right, lt-of-lt-of-le, lt-of-le-of-lt, le-trans, le-of-eq, le-of-lt}
+use native.Mathlib.Nat.{mul-pos, mul-lt-mul-of-pos-right, eq-zero-or-pos, le-div-iff-mul-le}
+use native.Mathlib.Nat.{div-mul-le-self, div-add-mod', mod-lt, suc-mul, mul-le-mul-right, lt-of-le-of-lt, le-trans, le-of-eq, le-of-lt}
 use native.Mathlib.Omega.{arith}
 use lib.Dec.{T}
 use lib.Pow.{pow-pos}

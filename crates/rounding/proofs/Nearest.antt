@@ -1,22 +1,22 @@
 -- Rounding gives a nearest value of the format, and at a tie the one whose significand is even: once, for every format. The plan: in units of the smallest
 -- value a / b is n / b, the result is R = q * 2 ^ k, and any value of the format is c * 2 ^ j with c of prec digits. That is a multiple of 2 ^ k, of which
 -- `closest` takes a nearest; or it lies below 2 ^ (prec - 1 + k), itself a multiple of 2 ^ k that n / b reaches, and so is farther still. Assumes nothing.
-use mathlib.Core.Path.{_≡_, refl, sym, ap, ap₂, _∙_, subst}
+use mathlib.Core.Path.{_≡_, refl, sym, ap, _∙_, subst}
 use mathlib.Core.Logic.{_⊎_, inl, inr}
 use mathlib.Core.Bool.{Bool, true, false, cond}
 use Prim.Native.Nat.{ℕ, suc, _+_, _-_, _*_, _/_, _%_, _^_, _≤_, _<_, compare}
-use native.Mathlib.Nat.{mul-assoc, mul-comm, mul-right-comm, mul-pos, mul-lt-mul-of-pos-right, mul-le-mul-right, le-of-mul-le-mul-right}
-use native.Mathlib.Nat.{eq-of-mul-eq-mul-right, zero-mul, pow-suc, div-mul-le-self, div-div-eq-div-mul, le-div-iff-mul-le, le-trans, le-of-eq, eq-zero-or-pos}
+use native.Mathlib.Nat.{mul-assoc, mul-comm, mul-right-comm, mul-pos, mul-lt-mul-of-pos-right, mul-le-mul-right}
+use native.Mathlib.Nat.{eq-of-mul-eq-mul-right, zero-mul, div-mul-le-self, div-div-eq-div-mul, le-div-iff-mul-le, le-trans, le-of-eq, eq-zero-or-pos}
 use native.Mathlib.Omega.{arith}
-use lib.IntN.{ℤ, pos, natAbs, _-ℤ_, _*ℤ_}
+use lib.IntN.{pos, _*ℤ_}
 use lib.Dec.{T, leb, ltb, ltb→lt}
 use lib.Pow.{pow-pos}
-use lib.Ieee.{Float, nan, inf, fin, Format, prec, low, up, down, odd, units, round, fits, hid, ones, top, toBits}
+use lib.Ieee.{Float, inf, Format, prec, low, odd, units, round, fits, hid, ones, top, toBits}
 use lib.Ieee.Fits.{two, two-le-pos, round-is, round-fits, kept-lt, nearest-le}
 use lib.Ieee.Exact.{HasValue, units-val}
 use lib.Ieee.Nearest.{closest, nearest-ge}
 use lib.Ieee.Order.{drop, kept}
-use lib.Ieee.Positive.{num, den, den-pos}
+use lib.Ieee.Positive.{den}
 use lib.Ieee.Scale.{finite, overflow}
 use Rattle.rounding.specs.Parts.{sig, place}
 use Rattle.rounding.specs.Nearest.{signed, signedNum, farFrom, NearestTo}
