@@ -138,7 +138,8 @@ module _ (x y z : Float) (X : T (finite x)) (Y : T (finite y)) (Z : T (finite z)
       record {
         overflows = λ l.
             subst (λ (v : Float). T (isInf v))
-            (sym (r .is ∙ round-overflows binary32 (r .S) (r .M) (exactDen x y z) D (subst (λ (k : ℕ). (2 ^ 128 - 2 ^ 103) * exactDen x y z ≤ k) size-is l))) tt;
+            (sym (r .is ∙ round-overflows binary32 (r .S) (r .M) (exactDen x y z) D
+            (subst (λ (k : ℕ). (2 ^ 128 - 2 ^ 103) * exactDen x y z ≤ k) size-is l))) tt;
         rounds = λ l.
             fma-nearest x y z X Y Z
             (subst (λ (v : Float). T (finite v)) (sym (r .is))

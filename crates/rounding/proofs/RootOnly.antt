@@ -38,7 +38,8 @@ module _ (f : Format) (c z q k : ℕ) (C : c < 2 ^ prec f) (Z : 0 < z) (K : Lead
       elim K [
         | inl i ↦ empty i
         | inr h ↦
-            large (2 ^ prec f) (hid f) (le-trans (le-mul-of-pos-right m m-pos) (le-trans (le-mul-of-pos-right (m * m) (pow-pos (k + k - z))) (le-of-eq (sym is)))) h C
+            large (2 ^ prec f) (hid f)
+            (le-trans (le-mul-of-pos-right m m-pos) (le-trans (le-mul-of-pos-right (m * m) (pow-pos (k + k - z))) (le-of-eq (sym is)))) h C
             (top-digit (prec f) (two-le-pos (prec f) (two f)))
       ]
     where
