@@ -14,6 +14,7 @@ use lib.Ieee.Positive.{den-pos}
 use lib.Ieee.Scale.{finite, round-same}
 use Rattle.rounding.specs.Nearest.{signed, NearestTo}
 use Rattle.rounding.specs.Sums.{sumSign, sumSize}
+use Rattle.rounding.proofs.Distances.{abs-signed}
 use Rattle.rounding.proofs.Signed.{signed-times, sum-rounds, sum-signed, zero-sign}
 use Rattle.rounding.proofs.Nearest.{round-nearest}
 use Rattle.leaves.specs.Single.{_⊕_, one32}
@@ -63,16 +64,11 @@ fma-rounds (fin s m e) (inf t) z X Y Z = absurd Y
 fma-rounds (fin s m e) (fin t n d) nan X Y Z = absurd Z
 fma-rounds (fin s m e) (fin t n d) (inf u) X Y Z = absurd Z
 
-exactDen-pos : (x y z : Float) → 0 < exactDen x y z
+pub exactDen-pos : (x y z : Float) → 0 < exactDen x y z
 unfolding exactDen
 exactDen-pos x y z = mul-pos (mul-pos (den-pos x) (den-pos y)) (den-pos z)
 
 -- ---- signs
-abs-signed : (s : Bool) (a : ℕ) → natAbs (signed s a) ≡ a
-abs-signed false a = refl
-abs-signed true zero = refl
-abs-signed true (suc a) = refl
-
 odd-sign : (d : ℕ) (s : Bool) (q k l : ℕ) → negativeOf (odd d s q k l) ≡ s
 unfolding odd negativeOf
 odd-sign d s zero k l = refl

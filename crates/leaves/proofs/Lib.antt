@@ -11,3 +11,5 @@ pub mod Halving
 pub mod SixthParts
 pub mod SixthLargest
 pub mod Fits
+pub mod FmaOnly
+pub mod SqrtOnly

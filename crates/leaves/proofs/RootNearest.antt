@@ -28,10 +28,10 @@ use Rattle.leaves.proofs.RootParts.{root-value}
 
 -- ---- fractions: r = R / L, y = Y / L, x = A / L
 module _ (nr dr ny dy nx dx R Y A L : ℕ) (r : nr * L ≡ R * dr) (y : ny * L ≡ Y * dy) (x : nx * L ≡ A * dx) (P : 0 < L) where
-  M : ℕ
+  unfoldable pub M : ℕ
   M = nr * dy + ny * dr
 
-  W : ℕ
+  unfoldable pub W : ℕ
   W = dr * dy
 
   sum-scale : M * L ≡ (Y + R) * W
@@ -72,6 +72,14 @@ module _ (nr dr ny dy nx dx R Y A L : ℕ) (r : nr * L ≡ R * dr) (y : ny * L �
 
   upper : A * L * 4 ≤ (Y + R) * (Y + R) → nx * (2 * W * (2 * W)) ≤ M * M * dx
   upper h = le-of-mul-le-mul-right (le-trans (le-of-eq right) (le-trans (mul-le-mul-right (W * W * dx) h) (le-of-eq (sym left)))) LL
+
+  -- and back, of denominators above 0
+  module _ (D : 0 < W * W * dx) where
+    pub of-lower : M * M * dx ≤ nx * (2 * W * (2 * W)) → (Y + R) * (Y + R) ≤ A * L * 4
+    of-lower h = le-of-mul-le-mul-right (le-trans (le-of-eq (sym left)) (le-trans (mul-le-mul-right (L * L) h) (le-of-eq right))) D
+
+    pub of-upper : nx * (2 * W * (2 * W)) ≤ M * M * dx → A * L * 4 ≤ (Y + R) * (Y + R)
+    of-upper h = le-of-mul-le-mul-right (le-trans (le-of-eq (sym right)) (le-trans (mul-le-mul-right (L * L) h) (le-of-eq left))) D
 
 -- an order of fractions is one of their smallest values
 order : (na da nb db a b L : ℕ) → 0 < L → na * L ≡ a * da → nb * L ≡ b * db → na * db < nb * da → a < b

@@ -1,7 +1,7 @@
 -- 01, port order 1: absolute, min, max, clamp ("zeros keep IEEE signs; clamp keeps NaN, min and max drop it") and the next whole number up, as a float.
 -- Assumes nothing.
-use Prim.Native.Nat.{_+_, _-_, _*_, _/_}
-use mathlib.Core.Bool.{Bool, false, not, _&&_, _||_, cond}
+use Prim.Native.Nat.{zero, suc, _+_, _-_, _*_, _/_}
+use mathlib.Core.Bool.{Bool, true, false, not, _&&_, _||_, cond}
 use lib.Ieee.{Float, nan, inf, fin, binary32, up, down, round, lt, eq, isNan}
 
 -- the sign of a value that is no NaN, of a zero too
@@ -9,6 +9,18 @@ unfoldable pub negativeOf : Float → Bool
 negativeOf nan = false
 negativeOf (inf s) = s
 negativeOf (fin s m e) = s
+
+unfoldable pub isInf : Float → Bool
+isInf nan = false
+isInf (inf s) = true
+isInf (fin s m e) = false
+
+-- either zero
+unfoldable pub isZero : Float → Bool
+isZero nan = false
+isZero (inf s) = false
+isZero (fin s zero e) = true
+isZero (fin s (suc m) e) = false
 
 -- the sign goes, of a zero too
 unfoldable pub absOf : Float → Float

@@ -4,8 +4,8 @@ use mathlib.Core.Path.{_≡_, refl, sym, ap, _∙_, subst}
 use mathlib.Core.Logic.{_⊎_, inl, inr}
 use mathlib.Core.Bool.{false}
 use Prim.Native.Nat.{ℕ, suc, _+_, _-_, _*_, _/_, _%_, _^_, _≤_, _<_}
-use native.Mathlib.Nat.{mul-comm, mul-assoc, mul-right-comm, mul-pos, mul-lt-mul-of-pos-right, lt-of-mul-lt-mul-right, eq-zero-or-pos, le-div-iff-mul-le}
-use native.Mathlib.Nat.{div-mul-le-self, div-add-mod', mod-lt, suc-mul, mul-le-mul-right, lt-of-lt-of-le, lt-of-le-of-lt, le-trans, le-of-eq, le-of-lt}
+use native.Mathlib.Nat.{mul-pos, mul-lt-mul-of-pos-right, eq-zero-or-pos, le-div-iff-mul-le}
+use native.Mathlib.Nat.{div-mul-le-self, div-add-mod', mod-lt, suc-mul, mul-le-mul-right, lt-of-le-of-lt, le-trans, le-of-eq, le-of-lt}
 use native.Mathlib.Omega.{arith}
 use lib.Dec.{T}
 use lib.Pow.{pow-pos}
@@ -19,7 +19,7 @@ use Rattle.rounding.proofs.Basics.{le-or-lt}
 use Rattle.rounding.proofs.Grid.{leading, on-grid}
 use Rattle.rounding.proofs.Packing.{finite-bits, units-in, units-fits, units-bits, units-finite}
 use Rattle.rounding.proofs.Rounding.{size-at}
-use Rattle.rounding.proofs.Values.{cross, value-finite}
+use Rattle.rounding.proofs.Values.{cross, fraction-lt, value-finite}
 
 -- w is q * 2 ^ k and less than 2 ^ k more, where q has as many digits as the format keeps
 pub cut-at : (f : Format) (w q k : ℕ) → w / 2 ^ k ≡ q → 2 ^ (prec f - 1) ≤ q → q < 2 ^ prec f → cutTo f w ≡ units f false q k
@@ -122,16 +122,9 @@ module _ (f : Format) (w : ℕ) where
       next-greater =
           let r = cutTo f w in
           let x = nextAbove f r in
-          apart (num r) (den r) (num x) (den x) (kept * 2 ^ gone) ((kept + 1) * 2 ^ gone) (2 ^ low f) (mul-pos (den-pos r) (den-pos x))
+          fraction-lt (num r) (den r) (num x) (den x) (kept * 2 ^ gone) ((kept + 1) * 2 ^ gone) (2 ^ low f) (mul-pos (den-pos r) (den-pos x))
           (cross r false (kept * 2 ^ gone) (2 ^ low f) cut-value)
           (cross x false ((kept + 1) * 2 ^ gone) (2 ^ low f) next-value) (mul-lt-mul-of-pos-right (step kept) (pow-pos gone))
         where
           step : (c : ℕ) → c < c + 1
           step c = omega arith
-
-          apart : (a d b e A B L : ℕ) → 0 < d * e → a * L ≡ A * d → b * L ≡ B * e → A < B → a * e < b * d
-          apart a d b e A B L D g h l =
-              lt-of-mul-lt-mul-right L
-              (lt-of-le-of-lt (le-of-eq (mul-right-comm a e L ∙ ap (λ (z : ℕ). z * e) g ∙ mul-assoc A d e))
-              (lt-of-lt-of-le (mul-lt-mul-of-pos-right l D)
-              (le-of-eq (ap (λ (z : ℕ). B * z) (mul-comm d e) ∙ sym (mul-assoc B e d) ∙ ap (λ (z : ℕ). z * d) (sym h) ∙ mul-right-comm b L d))))

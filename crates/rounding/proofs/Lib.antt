@@ -12,7 +12,12 @@ pub mod RootTest
 pub mod Signed
 pub mod Grid
 pub mod Closest
+pub mod Distances
+pub mod Neighbours
 pub mod Nearest
+pub mod NearestOnly
+pub mod Overflow
 pub mod RootNearest
+pub mod RootOnly
 pub mod Cuts
 pub mod RootLargest

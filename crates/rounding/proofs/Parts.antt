@@ -2,7 +2,7 @@
 use mathlib.Core.Path.{_≡_, refl, sym, ap, ap₂, _∙_, subst}
 use mathlib.Core.Logic.{_⊎_, inl, inr}
 use Prim.Native.Nat.{ℕ, zero, suc, _+_, _-_, _*_, _/_, _%_, _^_, _≤_, _<_}
-use native.Mathlib.Nat.{zero-add, mul-comm, mul-pos, zero-lt-suc, mod-lt, div-lt-iff-lt-mul, le-add-right}
+use native.Mathlib.Nat.{zero-add, mul-assoc, mul-comm, mul-pos, zero-lt-suc, mod-lt, div-add-mod', div-lt-iff-lt-mul, le-add-right, pow-suc}
 use native.Mathlib.Omega.{arith}
 use mathlib.Core.Bool.{Bool, true, false, cond}
 use lib.Dec.{T, leb, eqb, eqb·suc-zero}
@@ -58,6 +58,29 @@ decode f v F h =
     let e : ofBits f n ≡ v = ofBits-toBits f v F in
     subst (λ (w : Float). HasValue w (leb (top f) n) (sig f n * 2 ^ place f n) (2 ^ low f)) e
     (pattern-value f n (subst (λ (w : Float). T (finite w)) (sym e) h))
+
+-- ---- the last digit
+pub hid-even : (f : Format) → hid f ≡ 2 ^ (prec f - 2) * 2
+hid-even f = ap (λ (x : ℕ). 2 ^ x) (one (prec f) (two f)) ∙ pow-suc 2 (prec f - 2)
+  where
+    one : (p : ℕ) → 2 ≤ p → p - 1 ≡ suc (p - 2)
+    one p h = omega arith
+
+pub sig-last : (f : Format) (n : ℕ) → sig f n % 2 ≡ n % 2
+unfolding sig
+sig-last f n =
+    go (eqb (field f n) 0) (hid f) (2 ^ (prec f - 2)) (n / hid f) (n / hid f * 2 ^ (prec f - 2)) (n % hid f) (hid-even f)
+    (ap (λ (x : ℕ). n / hid f * x) (hid-even f) ∙ sym (mul-assoc (n / hid f) (2 ^ (prec f - 2)) 2)) (div-add-mod' n (hid f))
+  where
+    go : (b : Bool) (h h' c e t : ℕ) → h ≡ h' * 2 → c * h ≡ e * 2 → c * h + t ≡ n → (cond b 0 h + t) % 2 ≡ n % 2
+    go true h h' c e t i j k = last (c * h) j k
+      where
+        last : (d : ℕ) → d ≡ e * 2 → d + t ≡ n → (0 + t) % 2 ≡ n % 2
+        last d j k = omega arith
+    go false h h' c e t i j k = last (c * h) j k
+      where
+        last : (d : ℕ) → d ≡ e * 2 → d + t ≡ n → (h + t) % 2 ≡ n % 2
+        last d j k = omega (arith, i)
 
 -- ---- bounds
 pub sig-lt : (f : Format) (n : ℕ) → sig f n < 2 ^ prec f

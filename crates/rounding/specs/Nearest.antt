@@ -1,10 +1,10 @@
 -- What "nearest, ties to even" means: 01, head. Values are compared as fractions of whole numbers, with signs. Assumes nothing.
 use mathlib.Core.Path.{_≡_}
 use mathlib.Core.Bool.{Bool, cond}
-use Prim.Native.Nat.{ℕ, _*_, _%_, _≤_}
+use Prim.Native.Nat.{ℕ, suc, _-_, _*_, _%_, _^_, _≤_}
 use lib.IntN.{ℤ, pos, negℤ, natAbs, _-ℤ_, _*ℤ_}
 use lib.Dec.{T}
-use lib.Ieee.{Float, nan, inf, fin, Format, up, fits, toBits}
+use lib.Ieee.{Float, nan, inf, fin, Format, prec, emax, up, fits, toBits}
 use lib.Ieee.Scale.{finite}
 use lib.Ieee.Positive.{den}
 
@@ -29,3 +29,8 @@ pub record NearestTo (f : Format) (E : ℤ) (D : ℕ) (r : Float) : Type 0 where
   pub closest : (x : Float) → T (fits f x) → T (finite x) → farFrom r E D * den x ≤ farFrom x E D * den r
   pub even : (x : Float) → T (fits f x) → T (finite x) → farFrom r E D * den x ≡ farFrom x E D * den r
       → (signedNum x *ℤ pos (den r) ≡ signedNum r *ℤ pos (den x) → ⊥) → toBits f r % 2 ≡ 0
+
+-- IEEE 754, "roundTiesToEven": from 2 ^ emax * (2 - 2 ^ -prec) up a value rounds to an infinity, 2 ^ 128 - 2 ^ 103 for binary32. That is the middle between
+-- the largest finite value and the next power of two
+unfoldable pub limit : Format → ℕ
+limit f = 2 ^ suc (emax f) - 2 ^ (emax f - prec f)
