@@ -5,3 +5,4 @@ pub mod StepLaws
 pub mod WritingLaws
 pub mod FlatLaws
 pub mod ProgramLaws
+pub mod PrintingLaws
