@@ -28,7 +28,7 @@ use Rattle.listing.proofs.WritingLaws.{refusal-report, points-report, h
 use Rattle.listing.proofs.FlatLaws.{Delivered, flatten-done, delivered-points, delivered-fit}
 
 -- ---- a fresh drawing is made
-fresh-done : freshOf programColumns .answer ≡ Done
+pub fresh-done : freshOf programColumns .answer ≡ Done
 unfolding freshOf programColumns zeros evenOf
 fresh-done = refl
 

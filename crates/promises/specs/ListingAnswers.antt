@@ -93,32 +93,34 @@ pub record Flattens (text : List ℕ) (a : Answer) : Type 0 where
 abbrev pub pointsIn : Flattening → List Finished
 pointsIn f = pointsOf (f .quads) (f .splines) (walkIn f)
 
--- ---- what the program says: the answer, and the line
-abbrev pub Says : List ℕ → Answer → ℕ → Type 0
-Says text a line = (saidOf text .answer ≡ a) × (saidOf text .line ≡ line)
-
+-- ---- "Numbered answers: No, Given when", of the program, each with its line
 abbrev pub Short : List ℕ → Type 0
 Short text = length text ≤ 16384
 
+abbrev pub GivenWhen : List ℕ → Answer → ℕ → Type 0
+GivenWhen text Done line = Short text × Flattens text Done × (line ≡ 0)
+GivenWhen text BadCoordinate line = Short text × RefusedCall text BadCoordinate line
+GivenWhen text BadWeight line = Short text × RefusedCall text BadWeight line
+-- a store that is drawn by these calls alone is never unusable
+GivenWhen text Unusable line = ⊥
+-- "(0 for the final build)"
+GivenWhen text StoreFull line = Short text × (RefusedCall text StoreFull line ⊎ (Builds text StoreFull × (line ≡ 0)))
+GivenWhen text TooManyPieces line = Short text × Flattens text TooManyPieces × (line ≡ 0)
+GivenWhen text QuadsFull line = Short text × Flattens text QuadsFull × (line ≡ 0)
+GivenWhen text SplinesFull line = Short text × Flattens text SplinesFull × (line ≡ 0)
+GivenWhen text SumTooLarge line = Short text × Flattens text SumTooLarge × (line ≡ 0)
+GivenWhen text OutputShort line = Short text × Flattens text OutputShort × (line ≡ 0)
+GivenWhen text BadText line = Short text × Faulty text line
+-- "input over 16,384 bytes"
+GivenWhen text InputTooLong line = (16384 < length text) × (line ≡ 0)
+
 pub record ListingAnswers (text : List ℕ) : Type 0 where
-  pub eleven : (line : ℕ) → Says text InputTooLong line ↔ ((16384 < length text) × (line ≡ 0))
-  pub ten : (line : ℕ) → Says text BadText line ↔ (Short text × Faulty text line)
-  pub one : (line : ℕ) → Says text BadCoordinate line ↔ (Short text × RefusedCall text BadCoordinate line)
-  pub two : (line : ℕ) → Says text BadWeight line ↔ (Short text × RefusedCall text BadWeight line)
-  -- a store that is drawn by these calls alone is never unusable
-  pub three : saidOf text .answer ≢ Unusable
-  -- "(0 for the final build)"
-  pub four : (line : ℕ) → Says text StoreFull line ↔ (Short text × (RefusedCall text StoreFull line ⊎ (Builds text StoreFull × (line ≡ 0))))
-  pub five : (line : ℕ) → Says text TooManyPieces line ↔ (Short text × Flattens text TooManyPieces × (line ≡ 0))
-  pub six : (line : ℕ) → Says text QuadsFull line ↔ (Short text × Flattens text QuadsFull × (line ≡ 0))
-  pub seven : (line : ℕ) → Says text SplinesFull line ↔ (Short text × Flattens text SplinesFull × (line ≡ 0))
-  pub eight : (line : ℕ) → Says text SumTooLarge line ↔ (Short text × Flattens text SumTooLarge × (line ≡ 0))
-  pub nine : (line : ℕ) → Says text OutputShort line ↔ (Short text × Flattens text OutputShort × (line ≡ 0))
-  pub zero : (line : ℕ) → Says text Done line ↔ (Short text × Flattens text Done × (line ≡ 0))
-  -- the points are those of the drawing, and the bytes those of what is said
+  pub answers : (a : Answer) (line : ℕ) → ((saidOf text .answer ≡ a) × (saidOf text .line ≡ line)) ↔ GivenWhen text a line
+  -- on 0 the points are those of the drawing that the calls make
   pub points : Short text → (F : Flattens text Done) → saidOf text .points ≡ pointsIn (flatteningOf (jobOf (F .read .good .commands)))
   -- "On a refusal points is 0 and no point follows."
   pub no-points : saidOf text .answer ≢ Done → saidOf text .points ≡ []
+  -- the output is what is said
   pub output : listingOf text ≡ reportOf (saidOf text .answer) (saidOf text .line) (saidOf text .points)
 
 abbrev pub ListingExact : Type 0
