@@ -30,22 +30,25 @@ module _ {A : Type 0} where
   overlap (x ∷ xs) ys [] ws h = longer (x ∷ xs) refl (sym h)
   overlap (x ∷ xs) ys (z ∷ zs) ws h = overlap-cons x z xs ys zs ws (cc) (overlap xs ys zs ws (cc))
 
-  pub append-same : (xs ys zs ws : List A) → length xs ≡ length zs → xs ++ ys ≡ zs ++ ws → (xs ≡ zs) × (ys ≡ ws)
-  append-same [] ys [] ws e h = (refl, h)
-  append-same [] ys (z ∷ zs) ws e h = absurd (omega arith)
-  append-same (x ∷ xs) ys [] ws e h = absurd (omega arith)
-  append-same (x ∷ xs) ys (z ∷ zs) ws e h =
-      let later : (xs ≡ zs) × (ys ≡ ws) = append-same xs ys zs ws (omega arith) (cc) in
-      let first : x ≡ z = cc in
-      let rest : xs ≡ zs = later .0 in
-      (cc, later .1)
-
 pub newlines-append : (a b : List ℕ) → newlines (a ++ b) ≡ newlines a + newlines b
 unfolding newlines
 newlines-append [] b = sym (zero-add (newlines b))
 newlines-append (x ∷ a) b = go (eqb x 0x0a) (newlines-append a b)
   where
     go : (t : Bool) → newlines (a ++ b) ≡ newlines a + newlines b → cond t (suc (newlines (a ++ b))) (newlines (a ++ b)) ≡ cond t (suc (newlines a)) (newlines a) + newlines b
+    go true e = omega arith
+    go false e = e
+
+-- of two beginnings of a text the longer has no fewer newlines
+pub newlines-longer : (a b x y : List ℕ) → a ++ x ≡ b ++ y → length a ≤ length b → newlines a ≤ newlines b
+unfolding newlines
+newlines-longer [] b x y h l = omega arith
+newlines-longer (p ∷ a) [] x y h l = absurd (omega arith)
+newlines-longer (p ∷ a) (q ∷ b) x y h l =
+    let same : p ≡ q = cc in
+    rw same (go (eqb q 0x0a) (newlines-longer a b x y (cc) (omega arith)))
+  where
+    go : (t : Bool) → newlines a ≤ newlines b → cond t (suc (newlines a)) (newlines a) ≤ cond t (suc (newlines b)) (newlines b)
     go true e = omega arith
     go false e = e
 
