@@ -124,12 +124,14 @@ module _ (text : List ℕ) where
   along [] rest n at line o P A e = (at, e, ap (λ (k : ℕ). stepsOf k text (going at line o)) (zero-add n) ∙ ap (λ (k : ℕ). stepsOf n text (going at k o)) (sym (add-zero line)))
   along (c ∷ cs) rest n at line o (more p P) (then d A) e =
       let h : drop at text ≡ commandLines c ++ (printed cs ++ rest) = e ∙ append-assoc (commandLines c) (printed cs) rest in
-      let z = along cs rest n (at + length (commandLines c)) (line + newlines (commandLines c)) (drawn (callIn c) o) P A (onward text at c (printed cs ++ rest) h) in
-      (z .0, z .1,
+      let z = along cs rest n (at + length (commandLines c)) (line + newlines (commandLines c)) (drawn (callIn c) o) P A (onward text at c (printed cs ++ rest) h) in (
+        z .0,
+        z .1,
         ap (λ (k : ℕ). stepsOf k text (going at line o)) (suc-add (length cs) n)
-        ∙ ap (stepsOf (length cs + n) text) (step-done text at line o c (printed cs ++ rest) p h (ap isDone d))
-        ∙ z .2
-        ∙ ap (λ (k : ℕ). stepsOf n text (going (z .0) k (replayOf (callsIn cs) (drawn (callIn c) o)))) (lines c line o p d cs))
+            ∙ ap (stepsOf (length cs + n) text) (step-done text at line o c (printed cs ++ rest) p h (ap isDone d))
+            ∙ z .2
+            ∙ ap (λ (k : ℕ). stepsOf n text (going (z .0) k (replayOf (callsIn cs) (drawn (callIn c) o)))) (lines c line o p d cs),
+      )
 
   split : (k t m : ℕ) → k ≤ m → m ≤ t → t + 1 ≡ k + suc (t - k)
   split k t m h l = omega arith
