@@ -9,8 +9,7 @@ use native.Mathlib.Nat.{le-antisymm}
 use native.Mathlib.Decide.{decLe}
 use native.Mathlib.Omega.{arith}
 use lib.Dec.{lit≤, lit<}
-use lib.ListN.{length, take}
-use lib.Seq.{take-append-seam}
+use lib.ListN.{length}
 use Rattle.answer.specs.declared.Answer.{Answer}
 use Rattle.answer.specs.declared.Answer.the-variants.{Done, BadCoordinate, BadWeight, Unusable, StoreFull, TooManyPieces, QuadsFull, SplinesFull, SumTooLarge, OutputShort, BadText, InputTooLong}
 use Rattle.answer.specs.Number.{numberOf, isDone}
@@ -25,11 +24,12 @@ use Rattle.store.proofs.Laws.{draw-answer, drawn-drawable, replay-drawable, rep
 use Rattle.evaluate.specs.Evaluate.{Finished}
 use Rattle.flatten.specs.Flatten.{fitsOutput}
 use Rattle.text.specs.Places.{LongestBeginning, newlines}
+use Rattle.text.proofs.Shapes.{newlines-append, newlines-longer}
 use Rattle.listing.specs.Printing.{TextCommand, commandLines, printed, ProperCommand, Proper, Good, callIn, callsIn}
 use Rattle.listing.specs.Reading.{Progress, going, finished, stopped, readOf}
 use Rattle.listing.specs.Program.{programColumns, Said, said, flatReport, flatOf, built, builtFrom, saidOf, listingOf}
 use Rattle.listing.proofs.ProgramLaws.{fresh-done, too-long, after-stopped, after-finished}
-use Rattle.listing.proofs.PrintingLaws.{newlines-append, printed-same, good-after, longest-after}
+use Rattle.listing.proofs.PrintingLaws.{printed-same, good-after, longest-after}
 use Rattle.promises.specs.Accepted.{Job, flatteningOf}
 use Rattle.promises.specs.FlattenAnswers.{Refused, walkLength}
 use Rattle.promises.specs.ListingAnswers.{drawn, AllDone, drawingOf, RefusedCall, Faulty, ReadWhole, builtOf, jobOf, Builds, Flattens, pointsIn, Short, GivenWhen, ListingAnswers, ListingExact, GoodOnce}
@@ -152,15 +152,12 @@ same-stop : (a b : Answer) (l m : ℕ) → stopped a l ≡ stopped b m → a ≡
 unfolding stopAnswer
 same-stop a b l m e = ap stopAnswer e
 
--- there is one longest beginning
-longest-same : (Fine : List ℕ → Type 0) (text a b : List ℕ) → LongestBeginning Fine text a → LongestBeginning Fine text b → a ≡ b
-longest-same Fine text a b A B =
-    sym (front text a (A .rest) (A .split))
-    ∙ ap (λ (n : ℕ). take n text) (le-antisymm (B .longest a (A .rest) (A .split) (A .completable)) (A .longest b (B .rest) (B .split) (B .completable)))
-    ∙ front text b (B .rest) (B .split)
-  where
-    front : (text a rest : List ℕ) → text ≡ a ++ rest → take (length a) text ≡ a
-    front text a rest h = ap (take (length a)) h ∙ take-append-seam a rest
+-- two longest beginnings have as many lines
+longest-lines : (text a b : List ℕ) → LongestBeginning Good text a → LongestBeginning Good text b → newlines a ≡ newlines b
+longest-lines text a b A B =
+    le-antisymm
+    (newlines-longer a b (A .rest) (B .rest) (sym (A .split) ∙ B .split) (B .longest a (A .rest) (A .split) (A .completable)))
+    (newlines-longer b a (B .rest) (A .rest) (sym (B .split) ∙ A .split) (A .longest b (B .rest) (B .split) (B .completable)))
 
 module _ (text : List ℕ) where
   -- ---- from a cause to how the reading ends
@@ -215,7 +212,7 @@ module _ (text : List ℕ) where
       go : (r : Progress) → Cause r → r ≡ stopped BadText l
       go r (by-whole R) = absurd (F .not-good (R .good))
       go r (by-refusal a k R) = absurd (F .none-refused a k R)
-      go r (by-fault k G) = ap (stopped BadText) (G .due ∙ ap (λ (b : List ℕ). 1 + newlines b) (longest-same Good text (G .beginning) (F .beginning) (G .longest) (F .longest)) ∙ sym (F .due))
+      go r (by-fault k G) = ap (stopped BadText) (G .due ∙ ap (λ (n : ℕ). 1 + n) (longest-lines text (G .beginning) (F .beginning) (G .longest) (F .longest)) ∙ sym (F .due))
 
   -- ---- what is said, from each cause
   module _ (s : Short text) where

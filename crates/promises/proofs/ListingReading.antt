@@ -8,7 +8,6 @@ use mathlib.Core.List.{List, [], _∷_, _++_, append-assoc}
 use native.Mathlib.Nat.{add-zero, suc-add, zero-add, le-refl}
 use native.Mathlib.Omega.{arith}
 use lib.ListN.{length, drop, length-append}
-use lib.Seq.{drop-drop, drop-append-seam}
 use Rattle.answer.specs.declared.Answer.{Answer}
 use Rattle.answer.specs.declared.Answer.the-variants.{Done, BadText}
 use Rattle.answer.specs.Number.{isDone}
@@ -17,11 +16,13 @@ use Rattle.store.specs.declared.Call.{Call}
 use Rattle.store.specs.Drawing.{Outcome, drawOf}
 use Rattle.store.specs.Replay.{replayOf}
 use Rattle.text.specs.Places.{LongestBeginning, newlines}
+use Rattle.text.proofs.Standing.{drop-behind}
+use Rattle.text.proofs.Shapes.{newlines-append}
 use Rattle.listing.specs.Grammar.{opLineOf, keysOf}
 use Rattle.listing.specs.Printing.{TextCommand, fieldLines, commandLines, printed, ProperCommand, Proper, none, more, Good, callIn, callsIn}
 use Rattle.listing.specs.Reading.{commandAt, Progress, going, finished, stopped, afterCall, afterCommand, stepOf, stepsOf, readOf}
 use Rattle.listing.proofs.StepLaws.{step-finish, step-fault, op-length, steps-finished, steps-stopped}
-use Rattle.listing.proofs.PrintingLaws.{newlines-append, command-finish, command-reads, Broken, Stands, nothing, whole, broken, stands}
+use Rattle.listing.proofs.PrintingLaws.{command-finish, command-reads, Broken, Stands, nothing, whole, broken, stands}
 use Rattle.promises.specs.ListingAnswers.{drawn, AllDone, no-call, then, drawAll, GoodReads}
 
 -- ---- every command has a byte, so there are no more commands than bytes
@@ -38,12 +39,9 @@ printed-long (c ∷ cs) = omega (arith, printed-long cs, command-some c, length-
 
 module _ (text : List ℕ) where
   -- ---- one step
-  onward : (at : ℕ) (c : TextCommand) (rest : List ℕ) → drop at text ≡ commandLines c ++ rest → drop (at + length (commandLines c)) text ≡ rest
-  onward at c rest h = sym (drop-drop (length (commandLines c)) at text) ∙ ap (drop (length (commandLines c))) h ∙ drop-append-seam (commandLines c) rest
-
   shorter : (at n : ℕ) (c : TextCommand) (rest : List ℕ) → drop at text ≡ commandLines c ++ rest → length (drop at text) < suc n → length (drop (at + length (commandLines c)) text) < n
   shorter at n c rest h l =
-      omega (arith, command-some c, ap length (onward at c rest h), ap length h, length-append (commandLines c) rest)
+      omega (arith, command-some c, ap length (drop-behind text at (commandLines c) rest h), ap length h, length-append (commandLines c) rest)
 
   module _ (at line : ℕ) (o : Outcome) (c : TextCommand) (rest : List ℕ) (p : ProperCommand c) (h : drop at text ≡ commandLines c ++ rest) where
     step-whole : stepOf text (going at line o) ≡ afterCall line (at + length (commandLines c)) (line + newlines (commandLines c)) (drawn (callIn c) o)
@@ -87,7 +85,7 @@ module _ (text : List ℕ) where
   Ends n at line o = Verdict (drop at text) line o (stepsOf n text (going at line o))
 
   ends-step : (n at line : ℕ) (o : Outcome) → length (drop at text) < suc n → ((at line : ℕ) (o : Outcome) → length (drop at text) < n → Ends n at line o) → Stands text at line → Ends (suc n) at line o
-  unfolding Ends stepsOf printed callsIn replayOf
+  unfolding Ends stepsOf printed callsIn replayOf newlines
   ends-step n at line o l rec (nothing e) =
       subst (Verdict (drop at text) line o) (sym (ap (stepsOf n text) (sym (step-finish text at line o (command-finish text at line e))) ∙ steps-finished n text o)) (read-whole [] none e no-call)
   ends-step n at line o l rec (whole c rest p e) = by-answer (isDone (d .answer)) refl
@@ -98,7 +96,7 @@ module _ (text : List ℕ) where
       by-answer : (b : Bool) → isDone (d .answer) ≡ b → Verdict (drop at text) line o (stepsOf n text (stepOf text (going at line o)))
       by-answer true k =
           let z = rec (at + length (commandLines c)) (line + newlines (commandLines c)) d (shorter text at n c rest e l) in
-          let y = subst (λ (t : List ℕ). Verdict t (line + newlines (commandLines c)) d (stepsOf n text (going (at + length (commandLines c)) (line + newlines (commandLines c)) d))) (onward text at c rest e) z in
+          let y = subst (λ (t : List ℕ). Verdict t (line + newlines (commandLines c)) d (stepsOf n text (going (at + length (commandLines c)) (line + newlines (commandLines c)) d))) (drop-behind text at (commandLines c) rest e) z in
           subst (λ (t : List ℕ). Verdict t line o (stepsOf n text (stepOf text (going at line o)))) (sym e)
           (behind-one c line o p (done-is (d .answer) k) rest (stepsOf n text (stepOf text (going at line o)))
           (subst (Verdict rest (line + newlines (commandLines c)) d) (ap (stepsOf n text) (sym (step-done text at line o c rest p e k))) y))
@@ -120,11 +118,11 @@ module _ (text : List ℕ) where
   -- ---- whole commands that are done are passed, a step for each
   along : (cs : List TextCommand) (rest : List ℕ) (n at line : ℕ) (o : Outcome) → Proper cs → AllDone (callsIn cs) o → drop at text ≡ printed cs ++ rest
       → (at' : ℕ) × (drop at' text ≡ rest) × (stepsOf (length cs + n) text (going at line o) ≡ stepsOf n text (going at' (line + newlines (printed cs)) (replayOf (callsIn cs) o)))
-  unfolding printed callsIn replayOf stepsOf
+  unfolding printed callsIn replayOf stepsOf newlines
   along [] rest n at line o P A e = (at, e, ap (λ (k : ℕ). stepsOf k text (going at line o)) (zero-add n) ∙ ap (λ (k : ℕ). stepsOf n text (going at k o)) (sym (add-zero line)))
   along (c ∷ cs) rest n at line o (more p P) (then d A) e =
       let h : drop at text ≡ commandLines c ++ (printed cs ++ rest) = e ∙ append-assoc (commandLines c) (printed cs) rest in
-      let z = along cs rest n (at + length (commandLines c)) (line + newlines (commandLines c)) (drawn (callIn c) o) P A (onward text at c (printed cs ++ rest) h) in (
+      let z = along cs rest n (at + length (commandLines c)) (line + newlines (commandLines c)) (drawn (callIn c) o) P A (drop-behind text at (commandLines c) (printed cs ++ rest) h) in (
         z .0,
         z .1,
         ap (λ (k : ℕ). stepsOf k text (going at line o)) (suc-add (length cs) n)
@@ -166,7 +164,7 @@ module _ (text : List ℕ) where
   draws cs zero at line o P e l = absurd (omega arith)
   draws [] (suc n) at line o P e l = ap (stepsOf n text) (sym (step-finish text at line o (command-finish text at line e))) ∙ steps-finished n text o
   draws (c ∷ cs) (suc n) at line o (more p P) e l =
-      by-answer (isDone (d .answer)) refl (draws cs n (at + length (commandLines c)) (line + newlines (commandLines c)) d P (onward text at c (printed cs) e) (omega arith))
+      by-answer (isDone (d .answer)) refl (draws cs n (at + length (commandLines c)) (line + newlines (commandLines c)) d P (drop-behind text at (commandLines c) (printed cs) e) (omega arith))
     where
       d : Outcome
       d = drawn (callIn c) o
