@@ -1,9 +1,9 @@
--- The shape of a field's line, a row of fields and a command: what is printed fits it, what fits it is printed; and the reader finds a line where one of its shape stands.
--- Assumes nothing.
+-- The shape of a field's line, a row of fields and a command: what is printed fits it, what fits it is printed; and the reader finds a line where
+-- one of its shape stands. Assumes nothing.
 use mathlib.Core.Path.{_≡_, refl, sym, ap, _∙_}
 use mathlib.Core.Bool.{Bool, true, false, _&&_, cond}
 use mathlib.Core.List.{List, [], _∷_, _++_, map, append-nil, append-assoc}
-use Prim.Native.Nat.{ℕ, zero, suc, _+_, _-_, _^_, _≤_, _<_}
+use Prim.Native.Nat.{ℕ, suc, _+_, _-_, _^_, _<_}
 use native.Mathlib.Omega.{arith}
 use borrow.Author.Tests.{eqb-true}
 use lib.Dec.{eqb}
@@ -15,13 +15,15 @@ use Rattle.text.specs.Hex.{hexOf, hexStandsAt, hexNumberAt}
 use Rattle.text.specs.Places.{newlines}
 use Rattle.text.proofs.Standing.{both-true, stands-split, split-stands, drop-behind}
 use Rattle.text.proofs.Hexes.{hex-digits-length, DigitsOf, NumberAt, hex-split, split-hex, split-number}
-use Rattle.text.proofs.Shapes.{Class, byte, digit, admits, Fits, none as fits-none, more as fits-more, digits, fits-append, FitsParts, fits-parts, fits-bytes, bytes-fit, fits-hex, hex-fit, fit, plain, plain-newlines, LineAt, whole, part, line-at, line-newlines, newlines-append}
+use Rattle.text.proofs.Shapes.{Class, byte, admits, Fits, none as fits-none, more as fits-more, digits, fits-append, FitsParts, fits-parts, fits-bytes, bytes-fit, fits-hex, hex-fit, fit, plain, plain-newlines, LineAt, whole, part, line-at, line-newlines, newlines-append}
 use Rattle.listing.specs.declared.Op.{Op}
 use Rattle.listing.specs.declared.Op.the-variants.{Move, Line, Quad, RatQuad, Cubic, RatCubic}
 use Rattle.listing.specs.Grammar.{opLineOf, keysOf, quadKeys, cubicKeys}
-use Rattle.listing.specs.Reading.{fieldStandsAt, fieldValueAt, fieldWidth, Fields, read, wrong, fieldsFrom}
+use Rattle.listing.specs.Reading.{fieldStandsAt, fieldValueAt, fieldWidth, read, wrong, fieldsFrom}
 use Rattle.listing.specs.Writing.{lineOf}
 use Rattle.listing.specs.Printing.{TextCommand, fieldLines, commandLines, Patterns, none, more, ProperCommand}
+use Rattle.listing.proofs.FieldLaws.{read-at}
+use Rattle.listing.proofs.WritingLaws.{hex-line-length}
 
 -- ---- one field
 abbrev pub fieldLine : List ℕ → ℕ → List ℕ
@@ -31,11 +33,6 @@ fieldLine key n = lineOf key (hexOf n)
 field-parts : (key digits rest : List ℕ) → lineOf key digits ++ rest ≡ (key ++ bytes "=") ++ (digits ++ (0x0a ∷ rest))
 unfolding lineOf
 field-parts key digits rest = simp append-assoc
-
-field-length : (key : List ℕ) (n : ℕ) → length (fieldLine key n) ≡ fieldWidth key
-unfolding lineOf hexOf
-field-length key n =
-    length-append key (0x3d ∷ (hexOf n ++ (0x0a ∷ []))) ∙ omega (arith, length-append (hexOf n) (0x0a ∷ []), hex-digits-length 8 n)
 
 pub record FieldThere (rest key : List ℕ) : Type 0 where
   pub number : ℕ
@@ -101,7 +98,7 @@ module _ (text : List ℕ) (at : ℕ) (key : List ℕ) where
 
     behind-field : drop (at + fieldWidth key) text ≡ f .behind
     behind-field =
-        ap (λ (m : ℕ). drop (at + m) text) (sym (field-length key (f .number)))
+        ap (λ (m : ℕ). drop (at + m) text) (sym (hex-line-length key (f .number)))
         ∙ drop-behind text at (fieldLine key (f .number)) (f .behind) (f .split)
 
 field-once : (rest key : List ℕ) (f g : FieldThere rest key) → (f .number ≡ g .number) × (f .behind ≡ g .behind)
@@ -154,7 +151,8 @@ field-at text at key later h = go (line-at (fieldShape key) later (drop at text)
     go (whole s rest split f) = there (rw split (shape-field key s rest f))
     go (part z) = stood (fieldStandsAt text at key) refl z
 
-field-newlines : (rest key : List ℕ) (later : List Class) → plain (fieldShape key) ≡ true → (f : FieldThere rest key) → newlines (fit (fieldShape key ++ (byte 0x0a ∷ later)) rest) ≡ suc (newlines (fit later (f .behind)))
+field-newlines : (rest key : List ℕ) (later : List Class) → plain (fieldShape key) ≡ true → (f : FieldThere rest key)
+    → newlines (fit (fieldShape key ++ (byte 0x0a ∷ later)) rest) ≡ suc (newlines (fit later (f .behind)))
 field-newlines rest key later h f =
     ap (λ (l : List ℕ). newlines (fit (fieldShape key ++ (byte 0x0a ∷ later)) l)) (f .split ∙ field-text key (f .number) (f .behind))
     ∙ line-newlines (fieldShape key) later (fieldText key (f .number)) (f .behind) h (field-fits key (f .number))
@@ -188,7 +186,8 @@ pub record RowText (keys : List (List ℕ)) (s : List ℕ) : Type 0 where
   pub patterns : Patterns keys numbers
   pub text : s ≡ fieldLines keys numbers
 
-row-more : (key : List ℕ) (keys : List (List ℕ)) (line rest : List ℕ) → Fits (fieldShape key) line → RowText keys rest → RowText (key ∷ keys) (line ++ (0x0a ∷ rest))
+row-more : (key : List ℕ) (keys : List (List ℕ)) (line rest : List ℕ) → Fits (fieldShape key) line → RowText keys rest
+    → RowText (key ∷ keys) (line ++ (0x0a ∷ rest))
 unfolding fieldLines shape-field
 row-more key keys line rest f r =
     let first : FieldThere (line ++ (0x0a ∷ rest)) key = shape-field key line rest f in
@@ -198,7 +197,8 @@ row-more key keys line rest f r =
       text = first .split ∙ ap (λ (l : List ℕ). fieldLine key (first .number) ++ l) (r .text);
     }
 
-row-line : (key : List ℕ) (keys : List (List ℕ)) (line t : List ℕ) → Fits (fieldShape key) line → Fits (byte 0x0a ∷ fieldShapes keys) t → ((u : List ℕ) → Fits (fieldShapes keys) u → RowText keys u) → RowText (key ∷ keys) (line ++ t)
+row-line : (key : List ℕ) (keys : List (List ℕ)) (line t : List ℕ) → Fits (fieldShape key) line → Fits (byte 0x0a ∷ fieldShapes keys) t
+    → ((u : List ℕ) → Fits (fieldShapes keys) u → RowText keys u) → RowText (key ∷ keys) (line ++ t)
 unfolding admits
 row-line key keys line (b ∷ rest) f (fits-more e g) later = rw (eqb-true b 0x0a e) (row-more key keys line rest f (later rest g))
 
@@ -218,39 +218,45 @@ fields-newlines (more {key = key} {keys = keys} {n = n} {numbers = numbers} smal
     ∙ newlines-append (fieldText key n) (0x0a ∷ fieldLines keys numbers)
     ∙ omega (arith, plain-newlines (fieldShape key) (fieldText key n) (both .0) (field-fits key n), fields-newlines ps (both .1))
 
-fields-step : (text : List ℕ) (at line : ℕ) (values : List Float) (key : List ℕ) (keys : List (List ℕ)) → (f : FieldThere (drop at text) key) → fieldsFrom text at line values (key ∷ keys) ≡ fieldsFrom text (at + fieldWidth key) (line + 1) (values ++ (floatOf (f .number) ∷ [])) keys
+fields-step : (text : List ℕ) (at line : ℕ) (values : List Float) (key : List ℕ) (keys : List (List ℕ)) → (f : FieldThere (drop at text) key)
+    → fieldsFrom text at line values (key ∷ keys) ≡ fieldsFrom text (at + fieldWidth key) (line + 1) (values ++ (floatOf (f .number) ∷ [])) keys
 unfolding fieldsFrom
 fields-step text at line values key keys f = rw (split-field text at key f, split-value text at key f)
 
-read-alike : (values values' : List Float) (at at' line line' : ℕ) → values ≡ values' → at ≡ at' → line ≡ line' → read values at line ≡ read values' at' line'
-read-alike values values' at at' line line' d e f = cc
-
-pub row-reads : {keys : List (List ℕ)} {numbers : List ℕ} → Patterns keys numbers → (text : List ℕ) (at line : ℕ) (values : List Float) (rest : List ℕ) → drop at text ≡ fieldLines keys numbers ++ rest → fieldsFrom text at line values keys ≡ read (values ++ map floatOf numbers) (at + length (fieldLines keys numbers)) (line + length keys)
+pub row-reads : {keys : List (List ℕ)} {numbers : List ℕ} → Patterns keys numbers → (text : List ℕ) (at line : ℕ) (values : List Float) (rest : List ℕ)
+    → drop at text ≡ fieldLines keys numbers ++ rest
+    → fieldsFrom text at line values keys ≡ read (values ++ map floatOf numbers) (at + length (fieldLines keys numbers)) (line + length keys)
 unfolding fieldLines fieldsFrom
 row-reads none text at line values rest h =
-    read-alike values (values ++ []) at (at + 0) line (line + 0) (sym (append-nil values)) (omega arith) (omega arith)
+    ap (λ (v : List Float). read v at line) (sym (append-nil values)) ∙ read-at (values ++ []) at (at + 0) line (line + 0) (omega arith) (omega arith)
 row-reads (more {key = key} {keys = keys} {n = n} {numbers = numbers} small ps) text at line values rest h =
     let later = fieldLines keys numbers in
-    let f : FieldThere (drop at text) key = record { number = n; small = small; behind = later ++ rest; split = h ∙ append-assoc (fieldLine key n) later rest } in
+    let f : FieldThere (drop at text) key =
+    record { number = n; small = small; behind = later ++ rest; split = h ∙ append-assoc (fieldLine key n) later rest } in
     let start = values ++ (floatOf n ∷ []) in
-    let end : at + fieldWidth key + length later ≡ at + length (fieldLine key n ++ later) =
-    omega (arith, field-length key n, length-append (fieldLine key n) later) in
+    let all = values ++ (floatOf n ∷ map floatOf numbers) in
+    let end = at + fieldWidth key + length later in
+    let same : end ≡ at + length (fieldLine key n ++ later) = omega (arith, hex-line-length key n, length-append (fieldLine key n) later) in
     fields-step text at line values key keys f
     ∙ row-reads ps text (at + fieldWidth key) (line + 1) start rest (behind-field text at key f)
-    ∙ read-alike (start ++ map floatOf numbers) (values ++ (floatOf n ∷ map floatOf numbers)) (at + fieldWidth key + length later) (at + length (fieldLine key n ++ later)) (line + 1 + length keys) (line + suc (length keys)) (append-assoc values (floatOf n ∷ []) (map floatOf numbers)) end (omega arith)
+    ∙ ap (λ (v : List Float). read v end (line + 1 + length keys)) (append-assoc values (floatOf n ∷ []) (map floatOf numbers))
+    ∙ read-at all end (at + length (fieldLine key n ++ later)) (line + 1 + length keys) (line + suc (length keys)) same (omega arith)
 
 pub data RowAt (text : List ℕ) (at line : ℕ) (values : List Float) (keys : List (List ℕ)) : Type 0 where
   there : (numbers rest : List ℕ) → Patterns keys numbers → drop at text ≡ fieldLines keys numbers ++ rest → RowAt text at line values keys
-  missing : (l : ℕ) → fieldsFrom text at line values keys ≡ wrong l → l ≡ line + newlines (fit (fieldShapes keys) (drop at text)) → RowAt text at line values keys
+  missing : (l : ℕ) → fieldsFrom text at line values keys ≡ wrong l → l ≡ line + newlines (fit (fieldShapes keys) (drop at text))
+      → RowAt text at line values keys
 
 pub row-at : (text : List ℕ) (at line : ℕ) (values : List Float) (keys : List (List ℕ)) → plainKeys keys ≡ true → RowAt text at line values keys
 unfolding fieldsFrom fieldLines fieldShapes plainKeys
 row-at text at line values [] h = there [] (drop at text) none refl
 row-at text at line values (key ∷ keys) h =
     let both = both-true (plain (fieldShape key)) (plainKeys keys) h in
-    go (both .0) (field-at text at key (fieldShapes keys) (both .0)) (λ (v : Float). row-at text (at + fieldWidth key) (line + 1) (values ++ (v ∷ [])) keys (both .1))
+    go (both .0) (field-at text at key (fieldShapes keys) (both .0))
+    (λ (v : Float). row-at text (at + fieldWidth key) (line + 1) (values ++ (v ∷ [])) keys (both .1))
   where
-    on : (f : FieldThere (drop at text) key) → plain (fieldShape key) ≡ true → RowAt text (at + fieldWidth key) (line + 1) (values ++ (floatOf (f .number) ∷ [])) keys → RowAt text at line values (key ∷ keys)
+    on : (f : FieldThere (drop at text) key) → plain (fieldShape key) ≡ true
+        → RowAt text (at + fieldWidth key) (line + 1) (values ++ (floatOf (f .number) ∷ [])) keys → RowAt text at line values (key ∷ keys)
     on f p (there numbers rest ps split) =
         there (f .number ∷ numbers) rest (more (f .small) ps)
         (f .split
@@ -262,11 +268,13 @@ row-at text at line values (key ∷ keys) h =
         ap (λ (r : List ℕ). newlines (fit shapes r)) (behind-field text at key f) in
         missing l (fields-step text at line values key keys f ∙ e) (c ∙ omega (arith, same, field-newlines (drop at text) key shapes p f))
 
-    go : plain (fieldShape key) ≡ true → FieldAt text at key (fieldShapes keys) → ((v : Float) → RowAt text (at + fieldWidth key) (line + 1) (values ++ (v ∷ [])) keys) → RowAt text at line values (key ∷ keys)
+    go : plain (fieldShape key) ≡ true → FieldAt text at key (fieldShapes keys)
+        → ((v : Float) → RowAt text (at + fieldWidth key) (line + 1) (values ++ (v ∷ [])) keys) → RowAt text at line values (key ∷ keys)
     go p (there f) later = on f p (later (floatOf (f .number)))
     go p (missing e z) later = missing line (rw e) (omega arith)
 
-pub row-once : {keys : List (List ℕ)} {ns ms : List ℕ} → Patterns keys ns → Patterns keys ms → (r s : List ℕ) → fieldLines keys ns ++ r ≡ fieldLines keys ms ++ s → (ns ≡ ms) × (r ≡ s)
+pub row-once : {keys : List (List ℕ)} {ns ms : List ℕ} → Patterns keys ns → Patterns keys ms → (r s : List ℕ)
+    → fieldLines keys ns ++ r ≡ fieldLines keys ms ++ s → (ns ≡ ms) × (r ≡ s)
 unfolding fieldLines
 row-once none none r s h = (refl, h)
 row-once (more {key = key} {keys = keys} {n = n} {numbers = ns} a ps) (more {n = m} {numbers = ms} b qs) r s h =
@@ -327,13 +335,11 @@ op-text : (op : Op) (rest : List ℕ) → opLineOf op ++ rest ≡ nameOf op ++ (
 op-text op rest = ap (λ (l : List ℕ). l ++ rest) (op-line op) ∙ append-assoc (nameOf op) (0x0a ∷ []) rest
 
 pub op-newlines : (op : Op) → newlines (opLineOf op) ≡ 1
-unfolding opLineOf newlines
-op-newlines Move = refl
-op-newlines Line = refl
-op-newlines Quad = refl
-op-newlines RatQuad = refl
-op-newlines Cubic = refl
-op-newlines RatCubic = refl
+unfolding newlines
+op-newlines op =
+    ap newlines (op-line op)
+    ∙ newlines-append (nameOf op) (0x0a ∷ [])
+    ∙ omega (arith, plain-newlines (map byte (nameOf op)) (nameOf op) (plain-name op) (fits-bytes (nameOf op)))
 
 pub command-fits : (c : TextCommand) → ProperCommand c → Fits (shapeOf (c .op)) (commandLines c)
 unfolding shapeOf commandLines admits
@@ -358,7 +364,9 @@ command-line op first (b ∷ rest) e (fits-more k g) =
 pub shape-command : (op : Op) (s : List ℕ) → Fits (shapeOf op) s → CommandText op s
 unfolding shapeOf
 shape-command op s f =
-    let parts : FitsParts (map byte (nameOf op)) (byte 0x0a ∷ fieldShapes (keysOf op)) s = fits-parts (map byte (nameOf op)) (byte 0x0a ∷ fieldShapes (keysOf op)) s f in
+    let name = map byte (nameOf op) in
+    let row = byte 0x0a ∷ fieldShapes (keysOf op) in
+    let parts : FitsParts name row s = fits-parts name row s f in
     rw (parts .split) (command-line op (parts .first) (parts .second) (bytes-fit (nameOf op) (parts .first) (parts .fits-first)) (parts .fits-second))
 
 -- an op line stands, and the rest of its shape counts behind it; or the beginning that fits its shape has no newline
@@ -375,7 +383,8 @@ op-line-at op s = go (line-at (map byte (nameOf op)) (fieldShapes (keysOf op)) s
         there rest (split ∙ ap (λ (l : List ℕ). l ++ (0x0a ∷ rest)) (bytes-fit (nameOf op) line f) ∙ sym (op-text op rest))
     go (part z) = missing z
 
-pub op-line-newlines : (op : Op) (s rest : List ℕ) → s ≡ opLineOf op ++ rest → newlines (fit (shapeOf op) s) ≡ suc (newlines (fit (fieldShapes (keysOf op)) rest))
+pub op-line-newlines : (op : Op) (s rest : List ℕ) → s ≡ opLineOf op ++ rest
+    → newlines (fit (shapeOf op) s) ≡ suc (newlines (fit (fieldShapes (keysOf op)) rest))
 unfolding shapeOf
 op-line-newlines op s rest h =
     ap (λ (l : List ℕ). newlines (fit (shapeOf op) l)) (h ∙ op-text op rest)

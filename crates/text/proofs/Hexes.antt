@@ -183,7 +183,12 @@ hex-split text at h =
     let rest = drop at text in
     let both = both-true (eqb (length (take 8 rest)) 8) (allHex (take 8 rest)) h in
     let d : DigitsOf 8 (take 8 rest) = digits-of 8 (take 8 rest) (eqb-true (length (take 8 rest)) 8 (both .0)) (both .1) in
-    record { number = d .number; small = d .small; behind = drop 8 rest; split = sym (take-append-drop 8 rest) ∙ ap (λ (l : List ℕ). l ++ drop 8 rest) (d .digits) }
+    record {
+      number = d .number;
+      small = d .small;
+      behind = drop 8 rest;
+      split = sym (take-append-drop 8 rest) ∙ ap (λ (l : List ℕ). l ++ drop 8 rest) (d .digits);
+    }
 
 module _ (text : List ℕ) (at n : ℕ) (rest : List ℕ) (split : drop at text ≡ hexOf n ++ rest) where
   part-is : partAt text at 8 ≡ hexOf n

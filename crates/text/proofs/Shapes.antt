@@ -1,10 +1,10 @@
--- Shapes of texts: a list of classes of bytes, each one byte or any hex digit. The longest beginning of a text that fits a shape; it can be completed to the whole shape,
--- and its newlines are those of the shape's whole lines that stand. Assumes nothing.
+-- Shapes of texts: a list of classes of bytes, each one byte or any hex digit. The longest beginning of a text that fits a shape; it can be completed
+-- to the whole shape, and its newlines are those of the shape's whole lines that stand. Assumes nothing.
 use mathlib.Core.Path.{_≡_, refl, sym, ap, _∙_}
 use mathlib.Core.Bool.{Bool, true, false, not, _&&_, cond}
 use mathlib.Core.List.{List, [], _∷_, _++_, map}
-use Prim.Native.Nat.{ℕ, zero, suc, _+_, _≤_, _<_}
-use native.Mathlib.Nat.{suc-add, zero-add}
+use Prim.Native.Nat.{ℕ, zero, suc, _+_, _≤_}
+use native.Mathlib.Nat.{zero-add}
 use native.Mathlib.Omega.{arith}
 use borrow.Author.Tests.{eqb-true, eq-eqb, not-true}
 use lib.Dec.{eqb, ltb}
@@ -35,7 +35,8 @@ unfolding newlines
 newlines-append [] b = sym (zero-add (newlines b))
 newlines-append (x ∷ a) b = go (eqb x 0x0a) (newlines-append a b)
   where
-    go : (t : Bool) → newlines (a ++ b) ≡ newlines a + newlines b → cond t (suc (newlines (a ++ b))) (newlines (a ++ b)) ≡ cond t (suc (newlines a)) (newlines a) + newlines b
+    go : (t : Bool) → newlines (a ++ b) ≡ newlines a + newlines b
+        → cond t (suc (newlines (a ++ b))) (newlines (a ++ b)) ≡ cond t (suc (newlines a)) (newlines a) + newlines b
     go true e = omega arith
     go false e = e
 
@@ -84,7 +85,13 @@ pub fits-parts : (p q : List Class) (s : List ℕ) → Fits (p ++ q) s → FitsP
 fits-parts [] q s f = record { first = []; second = s; split = refl; fits-first = none; fits-second = f }
 fits-parts (k ∷ p) q (b ∷ s) (more e f) =
     let r = fits-parts p q s f in
-    record { first = b ∷ r .first; second = r .second; split = ap (λ (l : List ℕ). b ∷ l) (r .split); fits-first = more e (r .fits-first); fits-second = r .fits-second }
+    record {
+      first = b ∷ r .first;
+      second = r .second;
+      split = ap (λ (l : List ℕ). b ∷ l) (r .split);
+      fits-first = more e (r .fits-first);
+      fits-second = r .fits-second;
+    }
 
 pub fits-bytes : (s : List ℕ) → Fits (map byte s) s
 unfolding admits
@@ -210,7 +217,8 @@ line-at (k ∷ p) q (b ∷ s) h = go (admits k b) refl (line-at p q s (plain-res
     go true e (part z) = part (rw (e, plain-first k p b h e) z)
     go false e r = part (rw e)
 
-pub line-newlines : (p q : List Class) (line rest : List ℕ) → plain p ≡ true → Fits p line → newlines (fit (p ++ (byte 0x0a ∷ q)) (line ++ (0x0a ∷ rest))) ≡ suc (newlines (fit q rest))
+pub line-newlines : (p q : List Class) (line rest : List ℕ) → plain p ≡ true → Fits p line
+    → newlines (fit (p ++ (byte 0x0a ∷ q)) (line ++ (0x0a ∷ rest))) ≡ suc (newlines (fit q rest))
 unfolding fit newlines admits
 line-newlines p q line rest h f =
     ap newlines (fit-append (byte 0x0a ∷ q) (0x0a ∷ rest) f)
