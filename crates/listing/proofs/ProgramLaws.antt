@@ -1,13 +1,12 @@
 -- Laws of the whole program: what each way through it writes, and that 14,418 bytes hold every output. Assumes nothing.
 use mathlib.Core.Path.{_≡_, refl, sym, ap, _∙_, subst}
 use mathlib.Core.Bool.{Bool, true, false}
-use mathlib.Core.List.{List, [], _∷_}
-use Prim.Native.Nat.{ℕ, _+_, _*_, _≤_, _<_}
+use mathlib.Core.List.{List, []}
+use Prim.Native.Nat.{ℕ, _≤_, _<_}
 use native.Mathlib.Omega.{arith}
 use borrow.Author.Tests.{le-leb, lt-leb}
 use lib.Dec.{leb}
-use lib.Ieee.{Float}
-use lib.ListN.{length, replicate, length-append, length-replicate}
+use lib.ListN.{length, length-append, length-replicate}
 use Rattle.text.proofs.Decimals.{decimal-short}
 use Rattle.answer.specs.declared.Answer.{Answer}
 use Rattle.answer.specs.declared.Answer.the-variants.{Done, InputTooLong}
@@ -15,11 +14,9 @@ use Rattle.answer.specs.Number.{numberOf, isDone}
 use Rattle.primitives.specs.declared.Setting.the-variants.{Screen}
 use Rattle.store.specs.declared.StoreState.{StoreState}
 use Rattle.store.specs.declared.Call.the-variants.{Build}
-use Rattle.store.specs.Columns.{Columns, evenOf, putPoint, putCommand}
+use Rattle.store.specs.Columns.{Columns, evenOf}
 use Rattle.store.specs.Drawing.{Outcome, outcome, drawOf, freshOf}
-use Rattle.evaluate.specs.Evaluate.{Finished, pointsOf}
-use Rattle.evaluate.specs.Output.{Output}
-use Rattle.walk.specs.Walk.{walkOf}
+use Rattle.evaluate.specs.Evaluate.{Finished}
 use Rattle.flatten.specs.Flatten.{Flattening, flattenOf}
 use Rattle.listing.specs.Reading.{Progress, going, finished, stopped, readOf}
 use Rattle.listing.specs.Writing.{allPointLines, reportOf, columnPoints, headOf}

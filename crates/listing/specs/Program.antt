@@ -1,7 +1,7 @@
 -- 01, "The program": "It reads standard input, builds, flattens in the screen setting." All of its output, from all of its input. Assumes nothing.
-use Prim.Native.Nat.{ℕ, _*_}
-use mathlib.Core.Bool.{Bool, true, false, cond}
-use mathlib.Core.List.{List, [], _∷_}
+use Prim.Native.Nat.{ℕ}
+use mathlib.Core.Bool.{Bool, true, false}
+use mathlib.Core.List.{List, []}
 use lib.Dec.{leb}
 use lib.Ieee.{Float}
 use lib.ListN.{length, replicate}
@@ -15,9 +15,8 @@ use Rattle.store.specs.declared.StoreState.{StoreState}
 use Rattle.store.specs.Columns.{Columns, columns}
 use Rattle.store.specs.Drawing.{Outcome, drawOf, freshOf}
 use Rattle.tables.specs.Tables.{QuadTable, quadTable, SplineTable, splineTable}
-use Rattle.tables.specs.Run.{World}
 use Rattle.walk.specs.Walk.{walkOf}
-use Rattle.evaluate.specs.Evaluate.{Finished, finished as finishedPoint, pointsOf}
+use Rattle.evaluate.specs.Evaluate.{Finished, pointsOf}
 use Rattle.flatten.specs.Flatten.{Flattening, Output, output, flattenOf}
 use Rattle.listing.specs.Reading.{Progress, going, finished, stopped, readOf}
 use Rattle.listing.specs.Writing.{reportOf}
