@@ -5,3 +5,5 @@ pub mod StepLaws
 pub mod WritingLaws
 pub mod FlatLaws
 pub mod ProgramLaws
+pub mod ShapeLaws
+pub mod PrintingLaws

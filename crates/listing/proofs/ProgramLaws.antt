@@ -1,13 +1,12 @@
 -- Laws of the whole program: what each way through it writes, and that 14,418 bytes hold every output. Assumes nothing.
 use mathlib.Core.Path.{_≡_, refl, sym, ap, _∙_, subst}
 use mathlib.Core.Bool.{Bool, true, false}
-use mathlib.Core.List.{List, [], _∷_}
-use Prim.Native.Nat.{ℕ, _+_, _*_, _≤_, _<_}
+use mathlib.Core.List.{List, []}
+use Prim.Native.Nat.{ℕ, _≤_, _<_}
 use native.Mathlib.Omega.{arith}
 use borrow.Author.Tests.{le-leb, lt-leb}
 use lib.Dec.{leb}
-use lib.Ieee.{Float}
-use lib.ListN.{length, replicate, length-append, length-replicate}
+use lib.ListN.{length, length-append, length-replicate}
 use Rattle.text.proofs.Decimals.{decimal-short}
 use Rattle.answer.specs.declared.Answer.{Answer}
 use Rattle.answer.specs.declared.Answer.the-variants.{Done, InputTooLong}
@@ -15,20 +14,18 @@ use Rattle.answer.specs.Number.{numberOf, isDone}
 use Rattle.point.specs.declared.Setting.the-variants.{Screen}
 use Rattle.store.specs.declared.StoreState.{StoreState}
 use Rattle.store.specs.declared.Call.the-variants.{Build}
-use Rattle.store.specs.Columns.{Columns, evenOf, putPoint, putCommand}
+use Rattle.store.specs.Columns.{Columns, evenOf}
 use Rattle.store.specs.Drawing.{Outcome, outcome, drawOf, freshOf}
-use Rattle.evaluate.specs.Evaluate.{Finished, pointsOf}
-use Rattle.evaluate.specs.Output.{Output}
-use Rattle.walk.specs.Walk.{walkOf}
+use Rattle.evaluate.specs.Evaluate.{Finished}
 use Rattle.flatten.specs.Flatten.{Flattening, flattenOf}
 use Rattle.listing.specs.Reading.{Progress, going, finished, stopped, readOf}
 use Rattle.listing.specs.Writing.{allPointLines, reportOf, columnPoints, headOf}
-use Rattle.listing.specs.Program.{zeros, programColumns, programQuads, programSplines, programOutput, flatReport, flatOf, built, builtFrom, afterReading, listingIn, listingOf}
+use Rattle.listing.specs.Program.{zeros, programColumns, programQuads, programSplines, programOutput, Said, said, inBytes, flatReport, flatOf, built, builtFrom, afterReading, listingIn, saidOf, listingOf}
 use Rattle.listing.proofs.WritingLaws.{refusal-report, points-report, head-length-is, points-length, column-points-length}
 use Rattle.listing.proofs.FlatLaws.{Delivered, flatten-done, delivered-points, delivered-fit}
 
 -- ---- a fresh drawing is made
-fresh-done : freshOf programColumns .answer ≡ Done
+pub fresh-done : freshOf programColumns .answer ≡ Done
 unfolding freshOf programColumns zeros evenOf
 fresh-done = refl
 
@@ -44,7 +41,7 @@ module _ (st : StoreState) (c : Columns) (f : Flattening) (e : f ≡ flattenOf S
   unfolding flatOf
   reported = ap (λ (g : Flattening). flatReport (isDone (g .result .answer)) g) e
 
-  pub flat-refused : isDone (f .result .answer) ≡ false → reportOf (f .result .answer) 0 [] ≡ flatOf st c
+  pub flat-refused : isDone (f .result .answer) ≡ false → said (f .result .answer) 0 [] ≡ flatOf st c
   unfolding flatReport
   flat-refused h = sym (ap (λ (b : Bool). flatReport b f) h) ∙ reported
 
@@ -57,10 +54,10 @@ module _ (st : StoreState) (c : Columns) (f : Flattening) (e : f ≡ flattenOf S
   unfolding programOutput
   flat-few h = omega (arith, delivered-fit f programOutput (flat-delivered h), length-replicate {A = ℕ} 512 0)
 
-  pub flat-reported : isDone (f .result .answer) ≡ true → reportOf Done 0 (columnPoints 0 (f .result .points) (f .output .x) (f .output .y) (f .output .end)) ≡ flatOf st c
+  pub flat-reported : isDone (f .result .answer) ≡ true → said Done 0 (columnPoints 0 (f .result .points) (f .output .x) (f .output .y) (f .output .end)) ≡ flatOf st c
   unfolding flatReport
   flat-reported h =
-      ap (λ (ps : List Finished). reportOf Done 0 ps) (delivered-points f programOutput (flat-delivered h))
+      ap (λ (ps : List Finished). said Done 0 ps) (delivered-points f programOutput (flat-delivered h))
       ∙ sym (ap (λ (b : Bool). flatReport b f) h)
       ∙ reported
 
@@ -70,7 +67,7 @@ module _ (st : StoreState) (c : Columns) (a : Answer) (s : StoreState) (c' : Col
   unfolding builtFrom
   build-reported = ap (λ (o : Outcome). built (isDone (o .answer)) o) e
 
-  pub build-refused : isDone a ≡ false → reportOf a 0 [] ≡ builtFrom (outcome Done st c)
+  pub build-refused : isDone a ≡ false → said a 0 [] ≡ builtFrom (outcome Done st c)
   unfolding built
   build-refused h = sym (ap (λ (b : Bool). built b (outcome a s c')) h) ∙ build-reported
 
@@ -79,24 +76,24 @@ module _ (st : StoreState) (c : Columns) (a : Answer) (s : StoreState) (c' : Col
   build-done h = sym (ap (λ (b : Bool). built b (outcome a s c')) h) ∙ build-reported
 
 -- ---- the whole
-pub too-long : (text : List ℕ) → 16384 < length text → reportOf InputTooLong 0 [] ≡ listingOf text
-unfolding listingOf listingIn
+pub too-long : (text : List ℕ) → 16384 < length text → said InputTooLong 0 [] ≡ saidOf text
+unfolding saidOf listingIn
 too-long text h = rw (lt-leb (length text) 16384 h)
 
 module _ (text : List ℕ) (short : length text ≤ 16384) where
-  after-reading : (p : Progress) → p ≡ readOf text (freshOf programColumns) → afterReading p ≡ listingOf text
-  unfolding listingOf listingIn
+  after-reading : (p : Progress) → p ≡ readOf text (freshOf programColumns) → afterReading p ≡ saidOf text
+  unfolding saidOf listingIn
   after-reading p h = ap afterReading h ∙ rw (le-leb (length text) 16384 short)
 
-  pub after-stopped : (a : Answer) (line : ℕ) → stopped a line ≡ readOf text (freshOf programColumns) → reportOf a line [] ≡ listingOf text
+  pub after-stopped : (a : Answer) (line : ℕ) → stopped a line ≡ readOf text (freshOf programColumns) → said a line [] ≡ saidOf text
   unfolding afterReading
   after-stopped a line h = after-reading (stopped a line) h
 
-  pub after-finished : (o : Outcome) → finished o ≡ readOf text (freshOf programColumns) → builtFrom o ≡ listingOf text
+  pub after-finished : (o : Outcome) → finished o ≡ readOf text (freshOf programColumns) → builtFrom o ≡ saidOf text
   unfolding afterReading
   after-finished o h = after-reading (finished o) h
 
-  pub after-going : (at line : ℕ) (o : Outcome) → going at line o ≡ readOf text (freshOf programColumns) → builtFrom o ≡ listingOf text
+  pub after-going : (at line : ℕ) (o : Outcome) → going at line o ≡ readOf text (freshOf programColumns) → builtFrom o ≡ saidOf text
   unfolding afterReading
   after-going at line o h = after-reading (going at line o) h
 
@@ -118,41 +115,41 @@ points-fit ps h =
       decimal-short (length ps),
     )
 
-flat-fits : (st : StoreState) (c : Columns) (b : Bool) → isDone (flattenOf Screen st c programQuads programSplines programOutput .result .answer) ≡ b → length (flatOf st c) ≤ 14418
+flat-fits : (st : StoreState) (c : Columns) (b : Bool) → isDone (flattenOf Screen st c programQuads programSplines programOutput .result .answer) ≡ b → length (inBytes (flatOf st c)) ≤ 14418
 flat-fits st c true h =
     let f = flattenOf Screen st c programQuads programSplines programOutput in
     let ps = columnPoints 0 (f .result .points) (f .output .x) (f .output .y) (f .output .end) in
     omega (
       arith,
-      ap length (flat-reported st c f refl h),
+      ap (λ (s : Said). length (inBytes s)) (flat-reported st c f refl h),
       flat-few st c f refl h,
       column-points-length 0 (f .result .points) (f .output .x) (f .output .y) (f .output .end),
       points-fit ps (omega (arith, flat-few st c f refl h, column-points-length 0 (f .result .points) (f .output .x) (f .output .y) (f .output .end))),
     )
 flat-fits st c false h =
     let f = flattenOf Screen st c programQuads programSplines programOutput in
-    omega (arith, ap length (flat-refused st c f refl h), refusal-fits (f .result .answer) 0)
+    omega (arith, ap (λ (s : Said). length (inBytes s)) (flat-refused st c f refl h), refusal-fits (f .result .answer) 0)
 
-built-fits : (b : Bool) (o : Outcome) → length (built b o) ≤ 14418
+built-fits : (b : Bool) (o : Outcome) → length (inBytes (built b o)) ≤ 14418
 unfolding built
 built-fits false o = refusal-fits (o .answer) 0
 built-fits true o = flat-fits (o .state) (o .columns) (isDone (flattenOf Screen (o .state) (o .columns) programQuads programSplines programOutput .result .answer)) refl
 
-build-fits : (o : Outcome) → length (builtFrom o) ≤ 14418
+build-fits : (o : Outcome) → length (inBytes (builtFrom o)) ≤ 14418
 unfolding builtFrom
 build-fits o = built-fits (isDone (drawOf Build (o .state) (o .columns) .answer)) (drawOf Build (o .state) (o .columns))
 
-reading-fits : (p : Progress) → length (afterReading p) ≤ 14418
+reading-fits : (p : Progress) → length (inBytes (afterReading p)) ≤ 14418
 unfolding afterReading
 reading-fits (going at line o) = build-fits o
 reading-fits (finished o) = build-fits o
 reading-fits (stopped a line) = refusal-fits a line
 
-listing-in-fits : (b : Bool) (text : List ℕ) → length (listingIn b text) ≤ 14418
+listing-in-fits : (b : Bool) (text : List ℕ) → length (inBytes (listingIn b text)) ≤ 14418
 unfolding listingIn
 listing-in-fits false text = refusal-fits InputTooLong 0
 listing-in-fits true text = reading-fits (readOf text (freshOf programColumns))
 
 pub listing-fits : (text : List ℕ) → length (listingOf text) ≤ 14418
-unfolding listingOf
+unfolding listingOf saidOf
 listing-fits text = listing-in-fits (leb (length text) 16384) text

@@ -62,7 +62,7 @@ pub record Further (text : List ℕ) (at at' line' : ℕ) : Type 0 where
   pub placed : Placed text at' line'
   pub further : at < at'
 
-op-length : (op : Op) → (n : ℕ) × (length (opLineOf op) ≡ n) × (0 < n)
+pub op-length : (op : Op) → (n : ℕ) × (length (opLineOf op) ≡ n) × (0 < n)
 unfolding opLineOf
 op-length Ops.Move = (8, refl, omega arith)
 op-length Ops.Line = (8, refl, omega arith)
@@ -125,12 +125,12 @@ pub progress-seen : (r r' : Progresses.Progress) (c : Columns) (p : Progress) �
 progress-seen r r' c p h e = sym (ap (λ (q : Progresses.Progress). progressOf q c) e) ∙ h
 
 -- ---- many steps
-steps-finished : (n : ℕ) (text : List ℕ) (o : Outcome) → stepsOf n text (finished o) ≡ finished o
+pub steps-finished : (n : ℕ) (text : List ℕ) (o : Outcome) → stepsOf n text (finished o) ≡ finished o
 unfolding stepsOf stepOf
 steps-finished zero text o = refl
 steps-finished (suc n) text o = steps-finished n text o
 
-steps-stopped : (n : ℕ) (text : List ℕ) (a : Answer) (line : ℕ) → stepsOf n text (stopped a line) ≡ stopped a line
+pub steps-stopped : (n : ℕ) (text : List ℕ) (a : Answer) (line : ℕ) → stepsOf n text (stopped a line) ≡ stopped a line
 unfolding stepsOf stepOf
 steps-stopped zero text a line = refl
 steps-stopped (suc n) text a line = steps-stopped n text a line

@@ -2,3 +2,4 @@ pub mod Grammar
 pub mod Reading
 pub mod Writing
 pub mod Program
+pub mod Printing

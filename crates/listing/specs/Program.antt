@@ -1,7 +1,7 @@
 -- 01, "The program": "It reads standard input, builds, flattens in the screen setting." All of its output, from all of its input. Assumes nothing.
-use Prim.Native.Nat.{ℕ, _*_}
-use mathlib.Core.Bool.{Bool, true, false, cond}
-use mathlib.Core.List.{List, [], _∷_}
+use Prim.Native.Nat.{ℕ}
+use mathlib.Core.Bool.{Bool, true, false}
+use mathlib.Core.List.{List, []}
 use lib.Dec.{leb}
 use lib.Ieee.{Float}
 use lib.ListN.{length, replicate}
@@ -15,9 +15,8 @@ use Rattle.store.specs.declared.StoreState.{StoreState}
 use Rattle.store.specs.Columns.{Columns, columns}
 use Rattle.store.specs.Drawing.{Outcome, drawOf, freshOf}
 use Rattle.tables.specs.Tables.{QuadTable, quadTable, SplineTable, splineTable}
-use Rattle.tables.specs.Run.{World}
 use Rattle.walk.specs.Walk.{walkOf}
-use Rattle.evaluate.specs.Evaluate.{Finished, finished as finishedPoint, pointsOf}
+use Rattle.evaluate.specs.Evaluate.{Finished, pointsOf}
 use Rattle.flatten.specs.Flatten.{Flattening, Output, output, flattenOf}
 use Rattle.listing.specs.Reading.{Progress, going, finished, stopped, readOf}
 use Rattle.listing.specs.Writing.{reportOf}
@@ -38,31 +37,47 @@ programSplines = splineTable (zeros 256) (zeros 256) (zeros 256) (zeros 256) (ze
 unfoldable pub programOutput : Output
 programOutput = output (replicate 512 0) (zeros 512) (zeros 512) (replicate 512 0)
 
--- "On a refusal points is 0 and no point follows."; line is 0 for 5 to 9 and for 0
-unfoldable pub flatReport : Bool → Flattening → List ℕ
-flatReport false f = reportOf (f .result .answer) 0 []
-flatReport true f = reportOf Done 0 (pointsOf (f .quads) (f .splines) (walkOf (f .quads) (f .splines) (f .result .splines)))
+-- what the program says, before it is written: the answer, the line, and the points
+pub record Said : Type 0 where
+  pub answer : Answer
+  pub line : ℕ
+  pub points : List Finished
 
-unfoldable pub flatOf : StoreState → Columns → List ℕ
+abbrev pub said : Answer → ℕ → List Finished → Said
+said answer line points = record { answer = answer; line = line; points = points }
+
+-- and its bytes
+abbrev pub inBytes : Said → List ℕ
+inBytes s = reportOf (s .answer) (s .line) (s .points)
+
+-- "On a refusal points is 0 and no point follows."; line is 0 for 5 to 9 and for 0
+unfoldable pub flatReport : Bool → Flattening → Said
+flatReport false f = said (f .result .answer) 0 []
+flatReport true f = said Done 0 (pointsOf (f .quads) (f .splines) (walkOf (f .quads) (f .splines) (f .result .splines)))
+
+unfoldable pub flatOf : StoreState → Columns → Said
 flatOf st c = let f = flattenOf Screen st c programQuads programSplines programOutput in flatReport (isDone (f .result .answer)) f
 
 -- the final build, refused on line 0, and the flattening
-unfoldable pub built : Bool → Outcome → List ℕ
-built false o = reportOf (o .answer) 0 []
+unfoldable pub built : Bool → Outcome → Said
+built false o = said (o .answer) 0 []
 built true o = flatOf (o .state) (o .columns)
 
-unfoldable pub builtFrom : Outcome → List ℕ
+unfoldable pub builtFrom : Outcome → Said
 builtFrom o = let b = drawOf Build (o .state) (o .columns) in built (isDone (b .answer)) b
 
-unfoldable pub afterReading : Progress → List ℕ
+unfoldable pub afterReading : Progress → Said
 afterReading (going at line o) = builtFrom o
 afterReading (finished o) = builtFrom o
-afterReading (stopped answer line) = reportOf answer line []
+afterReading (stopped answer line) = said answer line []
 
 -- "11 is tested first": input over 16,384 bytes
-unfoldable pub listingIn : Bool → List ℕ → List ℕ
-listingIn false text = reportOf InputTooLong 0 []
+unfoldable pub listingIn : Bool → List ℕ → Said
+listingIn false text = said InputTooLong 0 []
 listingIn true text = afterReading (readOf text (freshOf programColumns))
 
+unfoldable pub saidOf : List ℕ → Said
+saidOf text = listingIn (leb (length text) 16384) text
+
 unfoldable pub listingOf : List ℕ → List ℕ
-listingOf text = listingIn (leb (length text) 16384) text
+listingOf text = inBytes (saidOf text)

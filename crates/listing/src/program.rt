@@ -6,7 +6,7 @@ ghost use Rattle.store.specs.Columns.{columns};
 ghost use Rattle.store.specs.Drawing.{outcome, freshOf};
 ghost use Rattle.listing.specs.Reading.{readOf, progressOf};
 ghost use Rattle.listing.specs.Writing.{listed, listedAs};
-ghost use Rattle.listing.specs.Program.{programColumns, flatOf, builtFrom, listingOf};
+ghost use Rattle.listing.specs.Program.{programColumns, inBytes, flatOf, builtFrom, listingOf};
 use crate::Listed;
 use crate::Progress;
 use crate::reading;
@@ -43,7 +43,7 @@ fn flat(
     commands: &[u8],
     st: StoreState,
 ) -> Listed
-    ensures { λ r. ⌜ listed r (now (output .exit)) ≡ listedAs (flatOf st (columns (now (x .entry)) (now (y .entry)) (now (weight .entry)) (now (commands .entry)))) (now (output .entry)) ⌝ }
+    ensures { λ r. ⌜ listed r (now (output .exit)) ≡ listedAs (inBytes (flatOf st (columns (now (x .entry)) (now (y .entry)) (now (weight .entry)) (now (commands .entry))))) (now (output .entry)) ⌝ }
 {
     let mut quad_x = [0.0f32; 768];
     let mut quad_y = [0.0f32; 768];
@@ -109,7 +109,7 @@ fn built_from(
     commands: &mut [u8],
     st: StoreState,
 ) -> Listed
-    ensures { λ r. ⌜ listed r (now (output .exit)) ≡ listedAs (builtFrom (outcome Done st (columns (now (x .entry)) (now (y .entry)) (now (weight .entry)) (now (commands .entry))))) (now (output .entry)) ⌝ }
+    ensures { λ r. ⌜ listed r (now (output .exit)) ≡ listedAs (inBytes (builtFrom (outcome Done st (columns (now (x .entry)) (now (y .entry)) (now (weight .entry)) (now (commands .entry)))))) (now (output .entry)) ⌝ }
 {
     let built = store::build(x, y, weight, commands, st);
     let answer = built.answer;

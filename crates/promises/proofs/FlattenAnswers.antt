@@ -53,7 +53,7 @@ tells-fits n o =
     from (end h) = inr h
 
 -- ---- the causes give 5 to 8 and no other answer
-which : {caps : Capacities} {w : World} {p : Primitive} {a : Answer} → Refuses caps w p a → (5 ≤ numberOf a) × (numberOf a ≤ 8)
+pub which : {caps : Capacities} {w : World} {p : Primitive} {a : Answer} → Refuses caps w p a → (5 ≤ numberOf a) × (numberOf a ≤ 8)
 which too-many = (lit≤ tt, lit≤ tt)
 which (quads-full p0 p1 p2 C h) = (lit≤ tt, lit≤ tt)
 which (line-full p0 p1 o f) = (lit≤ tt, lit≤ tt)
@@ -72,10 +72,10 @@ apart m n (inl h) e = omega arith
 apart m n (inr h) e = omega arith
 
 module _ (job : Job) where
-  answerIn : Bool → Bool → Bool → Answer
+  unfoldable pub answerIn : Bool → Bool → Bool → Answer
   answerIn d e f = cond d (cond e (cond f Done OutputShort) (worldOf job .state .answer)) Unusable
 
-  answer-is : flatteningOf job .result .answer ≡ answerIn (drawableOf (job .state) (job .columns)) (isDone (worldOf job .state .answer)) (fitsOutput (walkLength job) (job .output))
+  pub answer-is : flatteningOf job .result .answer ≡ answerIn (drawableOf (job .state) (job .columns)) (isDone (worldOf job .state .answer)) (fitsOutput (walkLength job) (job .output))
   unfolding flattenOf flattenDrawable tabled walked answerIn
   answer-is = first (drawableOf (job .state) (job .columns))
     where
@@ -92,7 +92,7 @@ module _ (job : Job) where
       first false = refl
 
   -- ---- the run's answer has a cause, and a cause is the run's answer
-  run-cause : (worldOf job .state .answer ≡ Done) ⊎ Refused job (worldOf job .state .answer)
+  pub run-cause : (worldOf job .state .answer ≡ Done) ⊎ Refused job (worldOf job .state .answer)
   unfolding tablesOf
   run-cause = run-told (job .setting) (capacitiesOf (job .quads) (job .splines)) (primitivesOf (job .state) (job .columns)) (world startState (job .quads) (job .splines)) (sound-start (job .quads) (job .splines)) refl
 

@@ -15,5 +15,6 @@ pub mod Refusing
 pub mod Refusals
 pub mod FlattenAnswers
 pub mod Settled
+pub mod ListingReading
 pub mod ListingAnswers
 pub mod QuarterRound

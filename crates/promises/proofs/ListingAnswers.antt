@@ -1,329 +1,357 @@
--- The listing's answers 1 to 4, 10 and 11 are exact, with their lines. Each step of the reading does what stands at its place says; from a stop its cause is found along the
--- steps, and a cause is reached in fewer steps than there are bytes, since each command has some. Assumes nothing.
-use Prim.Native.Nat.{ℕ, zero, suc, _+_, _-_, _≤_, _<_}
-use mathlib.Core.Path.{_≡_, refl, sym, ap, ap₂, _∙_, subst}
+-- The program's answers are exact, with their lines. How the reading ends tells what is said; a cause tells how the reading ends; and which answers a call, the build and the
+-- flattening can give tells which cause it is. Assumes nothing.
+use Prim.Native.Nat.{ℕ, _+_, _≤_, _<_}
+use mathlib.Core.Path.{_≡_, refl, sym, ap, ap₂, _∙_, subst, subst₂}
 use mathlib.Core.Logic.{_⊎_, inl, inr, _≢_, _↔_}
 use mathlib.Core.Bool.{Bool, true, false, not, cond, true≢false}
-use mathlib.Core.List.{List, [], _∷_, _++_, append-assoc, append-nil}
-use native.Mathlib.Nat.{le-trans, le-of-eq, le-refl, lt-of-lt-of-le, add-zero, zero-add, suc-add}
-use native.Mathlib.Decide.{decLt}
+use mathlib.Core.List.{List, [], _∷_, _++_, append-nil}
+use native.Mathlib.Nat.{le-antisymm}
+use native.Mathlib.Decide.{decLe}
 use native.Mathlib.Omega.{arith}
-use lib.Dec.{T, leb, lit≤, lit<, leb→le, le→leb, nleb→lt}
-use lib.Arith.{lt→nleb}
-use lib.Ieee.{Float}
-use lib.Ieee.Bits.{is-true, is-false}
+use lib.Dec.{lit≤, lit<}
 use lib.ListN.{length}
 use Rattle.answer.specs.declared.Answer.{Answer}
-use Rattle.answer.specs.declared.Answer.the-variants.{Done, BadCoordinate, BadWeight, Unusable, StoreFull, BadText, InputTooLong}
+use Rattle.answer.specs.declared.Answer.the-variants.{Done, BadCoordinate, BadWeight, Unusable, StoreFull, TooManyPieces, QuadsFull, SplinesFull, SumTooLarge, OutputShort, BadText, InputTooLong}
 use Rattle.answer.specs.Number.{numberOf, isDone}
 use Rattle.store.specs.declared.StoreState.{StoreState}
 use Rattle.store.specs.declared.Call.{Call}
+use Rattle.store.specs.declared.Call.the-variants.{Build}
 use Rattle.store.specs.Columns.{Columns, usableOf}
+use Rattle.store.specs.Drawable.{drawableOf}
 use Rattle.store.specs.Drawing.{Outcome, coordinateOkOf, weightOkOf, every, coordinatesOf, weightsOf, writesOf, roomOf, answerOf, drawOf, freshOf}
-use Rattle.text.specs.Bytes.{bytes, standsAt}
-use Rattle.listing.specs.declared.Op.{Op}
-use Rattle.listing.specs.declared.Op.the-variants.{Move, Line, Quad, RatQuad, Cubic, RatCubic}
-use Rattle.listing.specs.Grammar.{opLineOf, keysOf, callOf}
-use Rattle.listing.specs.Reading.{fieldStandsAt, fieldValueAt, fieldWidth, Fields, read, wrong, fieldsFrom, withFields, commandFrom, tryOps, ops, commandAt, Progress, going, finished, stopped, afterCall, afterCommand, stepOf, stepsOf, readOf}
-use Rattle.listing.specs.Writing.{reportOf}
-use Rattle.listing.specs.Program.{programColumns, afterReading, listingIn, listingOf}
-use Rattle.promises.specs.ListingAnswers.{OpHere, here, later, NoOp, FieldsStand, none, more, FieldMissing, now, after, Reads, begin, next, Fault, no-op, no-field, BadTextAt, RefusedAt, ReadingAnswers, ReadingExact, ListingSays, ListingExact}
-use Rattle.promises.proofs.DrawingAnswers.{done-only, draw-answer}
+use Rattle.store.specs.Replay.{replayOf}
+use Rattle.store.proofs.Laws.{draw-answer, drawn-drawable, replay-drawable, replay-usable}
+use Rattle.evaluate.specs.Evaluate.{Finished}
+use Rattle.flatten.specs.Flatten.{fitsOutput}
+use Rattle.text.specs.Places.{LongestBeginning, newlines}
+use Rattle.text.proofs.Shapes.{newlines-append, newlines-longer}
+use Rattle.listing.specs.Printing.{TextCommand, commandLines, printed, ProperCommand, Proper, Good, callIn, callsIn}
+use Rattle.listing.specs.Reading.{Progress, going, finished, stopped, readOf}
+use Rattle.listing.specs.Program.{programColumns, Said, said, flatReport, flatOf, built, builtFrom, saidOf, listingOf}
+use Rattle.listing.proofs.ProgramLaws.{fresh-done, too-long, after-stopped, after-finished}
+use Rattle.listing.proofs.PrintingLaws.{printed-same, good-after, longest-after}
+use Rattle.promises.specs.Accepted.{Job, flatteningOf}
+use Rattle.promises.specs.FlattenAnswers.{Refused, walkLength}
+use Rattle.promises.specs.ListingAnswers.{drawn, AllDone, drawingOf, RefusedCall, Faulty, ReadWhole, builtOf, jobOf, Builds, Flattens, pointsIn, Short, GivenWhen, ListingAnswers, ListingExact, GoodOnce}
+use Rattle.promises.proofs.Flattened.{worldOf}
+use Rattle.answer.proofs.Laws.{done-is}
+use Rattle.promises.proofs.FlattenAnswers.{which, answerIn, answer-is, run-cause}
+use Rattle.promises.proofs.ListingReading.{Verdict, read-whole, refused-at, faulty-at, verdict, whole-reads, refused-reads}
 
-module _ (text : List ℕ) where
-  -- ---- the fields
-  fields-read : {at end : ℕ} {keys : List (List ℕ)} {values : List Float} (line : ℕ) (acc : List Float) → FieldsStand text at keys end values → fieldsFrom text at line acc keys ≡ read (acc ++ values) end (line + length keys)
-  unfolding fieldsFrom
-  fields-read {at} line acc none = ap₂ (λ (v : List Float) (l : ℕ). read v at l) (sym (append-nil acc)) (sym (add-zero line))
-  fields-read line acc (more {at = at} {end = end} {key = key} {keys = keys} {values = values} t F) =
-      let v = fieldValueAt text at key in
-      ap (λ (b : Bool). cond b (fieldsFrom text (at + fieldWidth key) (line + 1) (acc ++ (v ∷ [])) keys) (wrong line)) (is-true (fieldStandsAt text at key) t)
-      ∙ fields-read (line + 1) (acc ++ (v ∷ [])) F
-      ∙ ap₂ (λ (vs : List Float) (l : ℕ). read vs end l) (append-assoc acc (v ∷ []) values) (shift line (length keys))
-    where
-      shift : (l n : ℕ) → l + 1 + n ≡ l + suc n
-      shift l n = omega arith
+pub good-once : GoodOnce
+good-once commands others p q h = printed-same commands others p q h
 
-  fields-wrong : {at good : ℕ} {keys : List (List ℕ)} (line : ℕ) (acc : List Float) → FieldMissing text at keys good → fieldsFrom text at line acc keys ≡ wrong (line + good)
-  unfolding fieldsFrom
-  fields-wrong line acc (now {at = at} {key = key} {keys = keys} t) =
-      ap (λ (b : Bool). cond b (fieldsFrom text (at + fieldWidth key) (line + 1) (acc ++ (fieldValueAt text at key ∷ [])) keys) (wrong line)) (is-false (fieldStandsAt text at key) t) ∙ ap wrong (sym (add-zero line))
-  fields-wrong line acc (after {at = at} {good = good} {key = key} {keys = keys} t F) =
-      ap (λ (b : Bool). cond b (fieldsFrom text (at + fieldWidth key) (line + 1) (acc ++ (fieldValueAt text at key ∷ [])) keys) (wrong line)) (is-true (fieldStandsAt text at key) t)
-      ∙ fields-wrong (line + 1) (acc ++ (fieldValueAt text at key ∷ [])) F
-      ∙ ap wrong (shift line good)
-    where
-      shift : (l n : ℕ) → l + 1 + n ≡ l + suc n
-      shift l n = omega arith
+-- ---- which answers there are
+not-done : (a : Answer) → a ≢ Done → isDone a ≡ false
+not-done a h = go (isDone a) refl
+  where
+    go : (b : Bool) → isDone a ≡ b → isDone a ≡ false
+    go true e = absurd (h (done-is a e))
+    go false e = e
 
-  fields-or : (at : ℕ) (keys : List (List ℕ)) → ((end : ℕ) × (values : List Float) × FieldsStand text at keys end values) ⊎ ((good : ℕ) × FieldMissing text at keys good)
-  fields-or at [] = inl (at, [], none)
-  fields-or at (key ∷ keys) = go (fieldStandsAt text at key) (λ t. t) (λ t. t) (fields-or (at + fieldWidth key) keys)
-    where
-      go : (b : Bool) → (T b → T (fieldStandsAt text at key)) → (T (not b) → T (not (fieldStandsAt text at key)))
-          → ((end : ℕ) × (values : List Float) × FieldsStand text (at + fieldWidth key) keys end values) ⊎ ((good : ℕ) × FieldMissing text (at + fieldWidth key) keys good)
-          → ((end : ℕ) × (values : List Float) × FieldsStand text at (key ∷ keys) end values) ⊎ ((good : ℕ) × FieldMissing text at (key ∷ keys) good)
-      go true f g (inl z) = inl (z .0, fieldValueAt text at key ∷ z .1, more (f tt) (z .2))
-      go true f g (inr z) = inr (suc (z .0), after (f tt) (z .1))
-      go false f g z = inr (0, now (g tt))
+undone : (a : Answer) → isDone a ≡ false → a ≢ Done
+undone a e h = true≢false (sym (ap isDone h) ∙ e)
 
-  fields-end : {at end : ℕ} {keys : List (List ℕ)} {values : List Float} → FieldsStand text at keys end values → at ≤ end
-  fields-end {at} none = le-refl at
-  fields-end (more {at = at} {key = key} t F) = le-trans (far at (fieldWidth key)) (fields-end F)
-    where
-      far : (a n : ℕ) → a ≤ a + n
-      far a n = omega arith
+-- a call answers 0 to 4, and not 3 where the store is usable
+call-number : (call : Call) (st : StoreState) (c : Columns) → numberOf (drawOf call st c .answer) ≤ 4
+unfolding answerOf
+call-number call st c =
+    subst (λ (a : Answer). numberOf a ≤ 4) (sym (draw-answer call st c)) (go (usableOf st c) (every coordinateOkOf (coordinatesOf call)) (every weightOkOf (weightsOf call)) (roomOf (writesOf call st c) st c))
+  where
+    go : (u v w r : Bool) → numberOf (cond (not u) Unusable (cond (not v) BadCoordinate (cond (not w) BadWeight (cond (not r) StoreFull Done)))) ≤ 4
+    go false v w r = lit≤ tt
+    go true false w r = lit≤ tt
+    go true true false r = lit≤ tt
+    go true true true false = lit≤ tt
+    go true true true true = lit≤ tt
 
-  -- ---- the op
-  op-found : {rest : List Op} {op : Op} (at line : ℕ) → OpHere text at rest op → tryOps text at line rest ≡ commandFrom text at line op
-  unfolding tryOps
-  op-found at line (here {op = op} {rest = rest} t) = ap (λ (b : Bool). cond b (commandFrom text at line op) (tryOps text at line rest)) (is-true (standsAt text at (opLineOf op)) t)
-  op-found at line (later {other = other} {rest = rest} t H) =
-      ap (λ (b : Bool). cond b (commandFrom text at line other) (tryOps text at line rest)) (is-false (standsAt text at (opLineOf other)) t) ∙ op-found at line H
+below : (n : ℕ) → 5 ≤ n → n < 5 → ⊥
+below n h k = omega arith
 
-  no-op-found : (at line : ℕ) (o : Outcome) (rest : List Op) → NoOp text at → afterCommand line o (tryOps text at line rest) ≡ stopped BadText line
-  unfolding tryOps afterCommand
-  no-op-found at line o [] N = refl
-  no-op-found at line o (op ∷ rest) N =
-      ap (λ (b : Bool). afterCommand line o (cond b (commandFrom text at line op) (tryOps text at line rest))) (is-false (standsAt text at (opLineOf op)) (N op)) ∙ no-op-found at line o rest N
+beyond : (k n : ℕ) → n ≤ k → k < n → ⊥
+beyond k n h l = omega arith
 
-  op-or : (at : ℕ) → NoOp text at ⊎ ((op : Op) × OpHere text at ops op)
-  op-or at =
-      try Move (λ a. inr (Move, here a)) (λ a. try Line (λ b. inr (Line, later a (here b))) (λ b. try Quad (λ c. inr (Quad, later a (later b (here c)))) (λ c. try RatQuad (λ d. inr (RatQuad, later a (later b (later c (here d)))))
-      (λ d. try Cubic (λ e. inr (Cubic, later a (later b (later c (later d (here e)))))) (λ e. try RatCubic (λ f. inr (RatCubic, later a (later b (later c (later d (later e (here f))))))) (λ f. inl (every-op a b c d e f)))))))
-    where
-      Result : Type 0
-      Result = NoOp text at ⊎ ((op : Op) × OpHere text at ops op)
+apart : (m n : ℕ) → (m < n) ⊎ (n < m) → m ≢ n
+apart m n (inl h) e = omega arith
+apart m n (inr h) e = omega arith
 
-      try : (op : Op) → (T (standsAt text at (opLineOf op)) → Result) → (T (not (standsAt text at (opLineOf op))) → Result) → Result
-      try op f g = go (standsAt text at (opLineOf op)) f g
-        where
-          go : (b : Bool) → (T b → Result) → (T (not b) → Result) → Result
-          go true f g = f tt
-          go false f g = g tt
+not-three : (call : Call) (st : StoreState) (c : Columns) → usableOf st c ≡ true → drawOf call st c .answer ≢ Unusable
+unfolding answerOf
+not-three call st c u e =
+    go (usableOf st c) (every coordinateOkOf (coordinatesOf call)) (every weightOkOf (weightsOf call)) (roomOf (writesOf call st c) st c) u (sym (draw-answer call st c) ∙ e)
+  where
+    go : (u v w r : Bool) → u ≡ true → cond (not u) Unusable (cond (not v) BadCoordinate (cond (not w) BadWeight (cond (not r) StoreFull Done))) ≡ Unusable → ⊥
+    go false v w r u e = true≢false (sym u)
+    go true false w r u e = apart 1 3 (inl (lit< tt)) (ap numberOf e)
+    go true true false r u e = apart 2 3 (inl (lit< tt)) (ap numberOf e)
+    go true true true false u e = apart 4 3 (inr (lit< tt)) (ap numberOf e)
+    go true true true true u e = apart 0 3 (inl (lit< tt)) (ap numberOf e)
 
-      every-op : T (not (standsAt text at (opLineOf Move))) → T (not (standsAt text at (opLineOf Line))) → T (not (standsAt text at (opLineOf Quad))) → T (not (standsAt text at (opLineOf RatQuad))) → T (not (standsAt text at (opLineOf Cubic))) → T (not (standsAt text at (opLineOf RatCubic))) → NoOp text at
-      every-op a b c d e f Move = a
-      every-op a b c d e f Line = b
-      every-op a b c d e f Quad = c
-      every-op a b c d e f RatQuad = d
-      every-op a b c d e f Cubic = e
-      every-op a b c d e f RatCubic = f
+-- the build answers 4 or 0 there
+build-four : (st : StoreState) (c : Columns) → usableOf st c ≡ true → isDone (drawOf Build st c .answer) ≡ false → drawOf Build st c .answer ≡ StoreFull
+unfolding answerOf every coordinatesOf weightsOf
+build-four st c u e = draw-answer Build st c ∙ go (usableOf st c) (roomOf (writesOf Build st c) st c) u (sym (ap isDone (draw-answer Build st c)) ∙ e)
+  where
+    go : (u r : Bool) → u ≡ true → isDone (cond (not u) Unusable (cond (not r) StoreFull Done)) ≡ false → cond (not u) Unusable (cond (not r) StoreFull Done) ≡ StoreFull
+    go false r u e = absurd (true≢false (sym u))
+    go true false u e = refl
+    go true true u e = absurd (true≢false e)
 
-  -- ---- one step
-  step-in : (at line : ℕ) (o : Outcome) → at < length text → stepOf text (going at line o) ≡ afterCommand line o (tryOps text at line ops)
-  unfolding stepOf commandAt
-  step-in at line o h = ap (λ (b : Bool). afterCommand line o (cond b (commandAt [] 0 0) (tryOps text at line ops))) (is-false (leb (length text) at) (lt→nleb (length text) at h))
+-- flattening answers 0 or 5 to 9 where the drawing passes the test for 3
+flat-number : (job : Job) → drawableOf (job .state) (job .columns) ≡ true → isDone (flatteningOf job .result .answer) ≡ false → (5 ≤ numberOf (flatteningOf job .result .answer)) × (numberOf (flatteningOf job .result .answer) ≤ 9)
+unfolding answerIn
+flat-number job d h =
+    subst (λ (a : Answer). (5 ≤ numberOf a) × (numberOf a ≤ 9)) (sym at) (go (isDone (worldOf job .state .answer)) (fitsOutput (walkLength job) (job .output)) refl (sym (ap isDone at) ∙ h))
+  where
+    w : Answer
+    w = worldOf job .state .answer
 
-  step-out : (at line : ℕ) (o : Outcome) → length text ≤ at → stepOf text (going at line o) ≡ finished o
-  unfolding stepOf commandAt afterCommand
-  step-out at line o h = ap (λ (b : Bool). afterCommand line o (cond b (commandAt [] 0 0) (tryOps text at line ops))) (is-true (leb (length text) at) (le→leb (length text) at h))
+    at : flatteningOf job .result .answer ≡ cond (isDone w) (cond (fitsOutput (walkLength job) (job .output)) Done OutputShort) w
+    at = answer-is job ∙ ap (λ (b : Bool). answerIn job b (isDone w) (fitsOutput (walkLength job) (job .output))) d
 
-  step-fault : (at line line' : ℕ) (o : Outcome) → at < length text → Fault text at line line' → stepOf text (going at line o) ≡ stopped BadText line'
-  unfolding commandFrom withFields afterCommand
-  step-fault at line line' o h (no-op N) = step-in at line o h ∙ no-op-found at line o ops N
-  step-fault at line line' o h (no-field {op = op} H F) =
-      step-in at line o h ∙ ap (afterCommand line o) (op-found at line H) ∙ ap (λ (f : Fields). afterCommand line o (withFields op f)) (fields-wrong (line + 1) [] F)
+    wide : (n : ℕ) → n ≤ 8 → n ≤ 9
+    wide n h = omega arith
 
-  step-call : (at line end : ℕ) (o : Outcome) (op : Op) (values : List Float) → at < length text → OpHere text at ops op → FieldsStand text (at + length (opLineOf op)) (keysOf op) end values
-      → stepOf text (going at line o) ≡ afterCall line end (line + 1 + length (keysOf op)) (drawOf (callOf op values) (o .state) (o .columns))
-  unfolding commandFrom withFields afterCommand
-  step-call at line end o op values h H F =
-      step-in at line o h ∙ ap (afterCommand line o) (op-found at line H) ∙ ap (λ (f : Fields). afterCommand line o (withFields op f)) (fields-read (line + 1) [] F)
+    by-cause : isDone w ≡ false → (w ≡ Done) ⊎ Refused job w → (5 ≤ numberOf w) × (numberOf w ≤ 9)
+    by-cause e (inl q) = absurd (undone w e q)
+    by-cause e (inr R) = let z = which (R .cause) in (z .0, wide (numberOf w) (z .1))
 
-  call-done : (line end line' : ℕ) (o : Outcome) → o .answer ≡ Done → afterCall line end line' o ≡ going end line' o
-  unfolding afterCall
-  call-done line end line' o e = ap (λ (b : Bool). cond b (going end line' o) (stopped (o .answer) line)) (ap isDone e)
+    go : (e f : Bool) → isDone w ≡ e → isDone (cond e (cond f Done OutputShort) w) ≡ false → (5 ≤ numberOf (cond e (cond f Done OutputShort) w)) × (numberOf (cond e (cond f Done OutputShort) w) ≤ 9)
+    go true true q h = absurd (true≢false h)
+    go true false q h = (lit≤ tt, lit≤ tt)
+    go false f q h = by-cause q (run-cause job)
 
-  call-refused : (line end line' : ℕ) (o : Outcome) → isDone (o .answer) ≡ false → afterCall line end line' o ≡ stopped (o .answer) line
-  unfolding afterCall
-  call-refused line end line' o e = ap (λ (b : Bool). cond b (going end line' o) (stopped (o .answer) line)) e
+-- ---- the store of these calls is usable, and what is built drawable
+usable-drawing : (cs : List TextCommand) → usableOf (drawingOf cs .state) (drawingOf cs .columns) ≡ true
+usable-drawing cs = replay-usable (callsIn cs) programColumns (ap isDone fresh-done)
 
-  -- ---- many steps
-  steps-stopped : (n : ℕ) (a : Answer) (line : ℕ) → stepsOf n text (stopped a line) ≡ stopped a line
-  unfolding stepsOf stepOf
-  steps-stopped zero a line = refl
-  steps-stopped (suc n) a line = steps-stopped n a line
+drawable-built : (cs : List TextCommand) → drawableOf (builtOf cs .state) (builtOf cs .columns) ≡ true
+drawable-built cs = drawn-drawable Build (drawingOf cs .state) (drawingOf cs .columns) (replay-drawable (callsIn cs) programColumns (ap isDone fresh-done))
 
-  steps-finished : (n : ℕ) (o : Outcome) → stepsOf n text (finished o) ≡ finished o
-  unfolding stepsOf stepOf
-  steps-finished zero o = refl
-  steps-finished (suc n) o = steps-finished n o
+-- ---- what is said of commands that are all drawn
+module _ (cs : List TextCommand) where
+  build-said : isDone (builtOf cs .answer) ≡ false → builtFrom (drawingOf cs) ≡ said (builtOf cs .answer) 0 []
+  unfolding builtFrom built
+  build-said e = ap (λ (b : Bool). built b (builtOf cs)) e
 
-  steps-add : (n m : ℕ) (p : Progress) → stepsOf (n + m) text p ≡ stepsOf m text (stepsOf n text p)
-  unfolding stepsOf
-  steps-add zero m p = ap (λ (k : ℕ). stepsOf k text p) (zero-add m)
-  steps-add (suc n) m p = ap (λ (k : ℕ). stepsOf k text p) (suc-add n m) ∙ steps-add n m (stepOf text p)
+  flat-said : isDone (builtOf cs .answer) ≡ true → isDone (flatteningOf (jobOf cs) .result .answer) ≡ false → builtFrom (drawingOf cs) ≡ said (flatteningOf (jobOf cs) .result .answer) 0 []
+  unfolding builtFrom built flatOf flatReport
+  flat-said e f = ap (λ (b : Bool). built b (builtOf cs)) e ∙ ap (λ (b : Bool). flatReport b (flatteningOf (jobOf cs))) f
 
--- ---- what a progress says
+  done-said : isDone (builtOf cs .answer) ≡ true → isDone (flatteningOf (jobOf cs) .result .answer) ≡ true → builtFrom (drawingOf cs) ≡ said Done 0 (pointsIn (flatteningOf (jobOf cs)))
+  unfolding builtFrom built flatOf flatReport
+  done-said e f = ap (λ (b : Bool). built b (builtOf cs)) e ∙ ap (λ (b : Bool). flatReport b (flatteningOf (jobOf cs))) f
+
+-- ---- two stops are the same
 stopAnswer : Progress → Answer
 stopAnswer (going at line o) = Done
 stopAnswer (finished o) = Done
 stopAnswer (stopped a line) = a
 
-stopLine : Progress → ℕ
-stopLine (going at line o) = 0
-stopLine (finished o) = 0
-stopLine (stopped a line) = line
+same-stop : (a b : Answer) (l m : ℕ) → stopped a l ≡ stopped b m → a ≡ b
+unfolding stopAnswer
+same-stop a b l m e = ap stopAnswer e
 
-isStopped : Progress → Bool
-isStopped (going at line o) = false
-isStopped (finished o) = false
-isStopped (stopped a line) = true
+-- two longest beginnings have as many lines
+longest-lines : (text a b : List ℕ) → LongestBeginning Good text a → LongestBeginning Good text b → newlines a ≡ newlines b
+longest-lines text a b A B =
+    le-antisymm
+    (newlines-longer a b (A .rest) (B .rest) (sym (A .split) ∙ B .split) (B .longest a (A .rest) (A .split) (A .completable)))
+    (newlines-longer b a (B .rest) (A .rest) (sym (B .split) ∙ A .split) (A .longest b (B .rest) (B .split) (B .completable)))
 
-going-no-stop : (at line : ℕ) (o : Outcome) (a : Answer) (l : ℕ) → going at line o ≡ stopped a l → ⊥
-unfolding isStopped
-going-no-stop at line o a l e = true≢false (sym (ap isStopped e))
+module _ (text : List ℕ) where
+  -- ---- from a cause to how the reading ends
+  refused-read : (a : Answer) (l : ℕ) → RefusedCall text a l → readOf text (freshOf programColumns) ≡ stopped a l
+  refused-read a l R =
+      refused-reads text (freshOf programColumns) (R .before) (commandLines (R .refused) ++ R .rest) (R .proper-before) (R .all-done) (R .split) (R .refused) (R .rest) (R .proper) refl
+      (ap isDone (R .answer) ∙ not-done a (R .not-done))
+      ∙ ap₂ stopped (R .answer) (sym (R .op-line))
 
-finished-no-stop : (o : Outcome) (a : Answer) (l : ℕ) → finished o ≡ stopped a l → ⊥
-unfolding isStopped
-finished-no-stop o a l e = true≢false (sym (ap isStopped e))
+  whole-read : (R : ReadWhole text) → readOf text (freshOf programColumns) ≡ finished (drawingOf (R .good .commands))
+  whole-read R =
+      let cs = R .good .commands in
+      whole-reads text (freshOf programColumns) cs [] (R .good .proper) (R .all-done) (R .good .print ∙ sym (append-nil (printed cs))) refl
 
-same-stop : (a b : Answer) (l m : ℕ) → stopped a l ≡ stopped b m → (a ≡ b) × (l ≡ m)
-unfolding stopAnswer stopLine
-same-stop a b l m e = (ap stopAnswer e, ap stopLine e)
+  -- a call never answers 10, so no call is refused before a fault
+  none-refused : (l : ℕ) → readOf text (freshOf programColumns) ≡ stopped BadText l → (a : Answer) (op-line : ℕ) → RefusedCall text a op-line → ⊥
+  none-refused l e a k R =
+      let o = drawingOf (R .before) in
+      let q : a ≡ BadText = same-stop a BadText k l (sym (refused-read a k R) ∙ e) in
+      beyond 4 10 (subst (λ (b : Answer). numberOf b ≤ 4) (R .answer ∙ q) (call-number (callIn (R .refused)) (o .state) (o .columns))) (lit< tt)
 
--- a drawing call never answers 10
-call-answers : (call : Call) (st : StoreState) (c : Columns) → drawOf call st c .answer ≢ BadText
-unfolding answerOf
-call-answers call st c e = go (usableOf st c) (every coordinateOkOf (coordinatesOf call)) (every weightOkOf (weightsOf call)) (roomOf (writesOf call st c) st c) (sym (draw-answer call st c) ∙ e)
-  where
-    other : (n : ℕ) → n < 10 → n ≢ 10
-    other n h e = omega arith
+  -- ---- from how the reading ends to its cause
+  data Cause : Progress → Type 0 where
+    by-whole : (R : ReadWhole text) → Cause (finished (drawingOf (R .good .commands)))
+    by-refusal : (a : Answer) (l : ℕ) → RefusedCall text a l → Cause (stopped a l)
+    by-fault : (l : ℕ) → Faulty text l → Cause (stopped BadText l)
 
-    go : (u v w r : Bool) → cond (not u) Unusable (cond (not v) BadCoordinate (cond (not w) BadWeight (cond (not r) StoreFull Done))) ≡ BadText → ⊥
-    go false v w r e = other 3 (lit< tt) (ap numberOf e)
-    go true false w r e = other 1 (lit< tt) (ap numberOf e)
-    go true true false r e = other 2 (lit< tt) (ap numberOf e)
-    go true true true false e = other 4 (lit< tt) (ap numberOf e)
-    go true true true true e = other 0 (lit< tt) (ap numberOf e)
-
-module _ (text : List ℕ) (first : Outcome) where
-  Cause : Answer → ℕ → Type 0
-  Cause a line = ((a ≡ BadText) × BadTextAt text first line) ⊎ RefusedAt text first a line
-
-  -- ---- from a stop to its cause
-  stop-cause : (n at line : ℕ) (o : Outcome) (a : Answer) (l : ℕ) → Reads text first at line o → stepsOf n text (going at line o) ≡ stopped a l → Cause a l
-  unfolding stepsOf Cause
-  stop-cause zero at line o a l R e = absurd (going-no-stop at line o a l e)
-  stop-cause (suc n) at line o a l R e = go (decLt at (length text)) (stop-cause n)
+  cause-of : (r : Progress) → readOf text (freshOf programColumns) ≡ r → Verdict text 1 (freshOf programColumns) r → Cause r
+  cause-of r h (read-whole cs P e A) = by-whole (record { good = record { commands = cs; proper = P; print = e }; all-done = A })
+  cause-of r h (refused-at cs c behind a l P p e A q f m) =
+      by-refusal a l
+      (record { before = cs; refused = c; rest = behind; split = e; proper-before = P; proper = p; all-done = A; answer = q; not-done = undone a f; op-line = m })
+  cause-of r h (faulty-at cs behind beginning l P e g L m) =
+      by-fault l
+      (record {
+        not-good = λ G. g (good-after cs behind P (subst Good e G));
+        none-refused = none-refused l h;
+        beginning = printed cs ++ beginning;
+        longest = subst (λ (t : List ℕ). LongestBeginning Good t (printed cs ++ beginning)) (sym e) (longest-after cs behind beginning P L);
+        due = m ∙ together 1 (newlines (printed cs)) (newlines beginning) ∙ ap (λ (n : ℕ). 1 + n) (sym (newlines-append (printed cs) beginning));
+      })
     where
-      faulty : at < length text → (line' : ℕ) → Fault text at line line' → Cause a l
-      faulty h line' F =
-          let z = same-stop BadText a line' l (sym (ap (stepsOf n text) (step-fault text at line line' o h F) ∙ steps-stopped text n BadText line') ∙ e) in
-          inl (sym (z .0), subst (BadTextAt text first) (z .1) (record { at = at; begins = line; o = o; reads = R; more = h; fault = F }))
+      together : (a b c : ℕ) → a + b + c ≡ a + (b + c)
+      together a b c = omega arith
 
-      called : at < length text → (op : Op) → OpHere text at ops op → (end : ℕ) (values : List Float) → FieldsStand text (at + length (opLineOf op)) (keysOf op) end values
-          → ((at line : ℕ) (o : Outcome) (a : Answer) (l : ℕ) → Reads text first at line o → stepsOf n text (going at line o) ≡ stopped a l → Cause a l) → Cause a l
-      called h op H end values F rec = by-answer (isDone (d .answer)) refl
-        where
-          d : Outcome
-          d = drawOf (callOf op values) (o .state) (o .columns)
+  cause : Cause (readOf text (freshOf programColumns))
+  cause = cause-of (readOf text (freshOf programColumns)) refl (verdict text (freshOf programColumns))
 
-          s : stepOf text (going at line o) ≡ afterCall line end (line + 1 + length (keysOf op)) d
-          s = step-call text at line end o op values h H F
-
-          by-answer : (b : Bool) → isDone (d .answer) ≡ b → Cause a l
-          by-answer true k =
-              let D = done-only (d .answer) k in
-              rec end (line + 1 + length (keysOf op)) d a l (next R h H F D) (sym (ap (stepsOf n text) (s ∙ call-done text line end (line + 1 + length (keysOf op)) d D)) ∙ e)
-          by-answer false k =
-              let z = same-stop (d .answer) a line l (sym (ap (stepsOf n text) (s ∙ call-refused text line end (line + 1 + length (keysOf op)) d k) ∙ steps-stopped text n (d .answer) line) ∙ e) in
-              inr (subst (RefusedAt text first a) (z .1)
-              (record { at = at; o = o; reads = R; more = h; op = op; end = end; values = values; op-line = H; fields = F; answer = z .0; refused = λ q. true≢false (sym (ap isDone (z .0 ∙ q)) ∙ k) }))
-
-      go : Dec (at < length text) → ((at line : ℕ) (o : Outcome) (a : Answer) (l : ℕ) → Reads text first at line o → stepsOf n text (going at line o) ≡ stopped a l → Cause a l) → Cause a l
-      go (no h) rec = absurd (finished-no-stop o a l (sym (ap (stepsOf n text) (step-out text at line o (over at (length text) h)) ∙ steps-finished text n o) ∙ e))
-        where
-          over : (a n : ℕ) → (a < n → ⊥) → n ≤ a
-          over a n h = omega arith
-      go (yes h) rec = elim (op-or text at) [
-        | inl N ↦ faulty h line (no-op N)
-        | inr z ↦ elim (fields-or text (at + length (opLineOf (z .0))) (keysOf (z .0))) [
-          | inl F ↦ called h (z .0) (z .1) (F .0) (F .1) (F .2) rec
-          | inr F ↦ faulty h (line + 1 + F .0) (no-field (z .1) (F .1))
-        ]
-      ]
-
-  -- ---- from a cause to the stop: what is read is reached in no more steps than bytes
-  some-bytes : (op : Op) → 1 ≤ length (opLineOf op)
-  unfolding opLineOf
-  some-bytes Move = lit≤ tt
-  some-bytes Line = lit≤ tt
-  some-bytes Quad = lit≤ tt
-  some-bytes RatQuad = lit≤ tt
-  some-bytes Cubic = lit≤ tt
-  some-bytes RatCubic = lit≤ tt
-
-  reached : {at line : ℕ} {o : Outcome} → Reads text first at line o → (n : ℕ) × (n ≤ at) × (stepsOf n text (going 0 1 first) ≡ going at line o)
-  unfolding stepsOf
-  reached begin = (0, le-refl 0, refl)
-  reached (next {at = at} {line = line} {end = end} {o = o} {op = op} {values = values} R h H F D) =
-      let z = reached R in
-      (z .0 + 1, le-trans (further (z .0) at (length (opLineOf op)) (z .1) (some-bytes op)) (fields-end text F), steps-add text (z .0) 1 (going 0 1 first) ∙ ap (stepsOf 1 text) (z .2) ∙ step-call text at line end o op values h H F ∙ call-done text line end (line + 1 + length (keysOf op)) (drawOf (callOf op values) (o .state) (o .columns)) D)
+  faulty-read : (l : ℕ) → Faulty text l → readOf text (freshOf programColumns) ≡ stopped BadText l
+  faulty-read l F = go (readOf text (freshOf programColumns)) cause
     where
-      further : (n a b : ℕ) → n ≤ a → 1 ≤ b → n + 1 ≤ a + b
-      further n a b h k = omega arith
+      go : (r : Progress) → Cause r → r ≡ stopped BadText l
+      go r (by-whole R) = absurd (F .not-good (R .good))
+      go r (by-refusal a k R) = absurd (F .none-refused a k R)
+      go r (by-fault k G) = ap (stopped BadText) (G .due ∙ ap (λ (n : ℕ). 1 + n) (longest-lines text (G .beginning) (F .beginning) (G .longest) (F .longest)) ∙ sym (F .due))
 
-  stops : (at line : ℕ) (o : Outcome) (a : Answer) (l : ℕ) → Reads text first at line o → at < length text → stepOf text (going at line o) ≡ stopped a l → readOf text first ≡ stopped a l
-  unfolding readOf stepsOf
-  stops at line o a l R h e =
-      let z = reached R in
-      let n = z .0 in
-      let m = length text - n in
-      ap (λ (k : ℕ). stepsOf k text (going 0 1 first)) (split n at (length text) (z .1) h)
-      ∙ steps-add text n (suc m) (going 0 1 first)
-      ∙ ap (stepsOf (suc m) text) (z .2)
-      ∙ ap (stepsOf m text) e
-      ∙ steps-stopped text m a l
+  -- ---- what is said, from each cause
+  module _ (s : Short text) where
+    stop-said : (a : Answer) (l : ℕ) → readOf text (freshOf programColumns) ≡ stopped a l → saidOf text ≡ said a l []
+    stop-said a l e = sym (after-stopped text s a l (sym e))
+
+    whole-said : (R : ReadWhole text) → saidOf text ≡ builtFrom (drawingOf (R .good .commands))
+    whole-said R = sym (after-finished text s (drawingOf (R .good .commands)) (sym (whole-read R)))
+
+    builds-said : (a : Answer) → a ≢ Done → Builds text a → saidOf text ≡ said a 0 []
+    builds-said a n B =
+        let cs = B .read .good .commands in
+        whole-said (B .read) ∙ build-said cs (ap isDone (B .answer) ∙ not-done a n) ∙ ap (λ (b : Answer). said b 0 []) (B .answer)
+
+    flattens-said : (a : Answer) → a ≢ Done → Flattens text a → saidOf text ≡ said a 0 []
+    flattens-said a n F =
+        let cs = F .read .good .commands in
+        whole-said (F .read) ∙ flat-said cs (ap isDone (F .built)) (ap isDone (F .answer) ∙ not-done a n) ∙ ap (λ (b : Answer). said b 0 []) (F .answer)
+
+    finishes-said : (F : Flattens text Done) → saidOf text ≡ said Done 0 (pointsIn (flatteningOf (jobOf (F .read .good .commands))))
+    finishes-said F = whole-said (F .read) ∙ done-said (F .read .good .commands) (ap isDone (F .built)) (ap isDone (F .answer))
+
+  Said-so : Answer → ℕ → Type 0
+  Said-so a line = (saidOf text .answer ≡ a) × (saidOf text .line ≡ line)
+
+  so : (a : Answer) (line : ℕ) (ps : List Finished) → saidOf text ≡ said a line ps → Said-so a line
+  unfolding Said-so
+  so a line ps e = (ap (λ (s : Said). s .answer) e, ap (λ (s : Said). s .line) e)
+
+  so-zero : (a : Answer) (line : ℕ) (ps : List Finished) → line ≡ 0 → saidOf text ≡ said a 0 ps → Said-so a line
+  so-zero a line ps z e = so a line ps (e ∙ ap (λ (l : ℕ). said a l ps) (sym z))
+
+  -- ---- to what is said
+  flattens-so : (a : Answer) → numberOf a ≢ 0 → (line : ℕ) → Short text × Flattens text a × (line ≡ 0) → Said-so a line
+  flattens-so a n line z = so-zero a line [] (z .2) (flattens-said (z .0) a (λ e. n (ap numberOf e)) (z .1))
+
+  given-so : (a : Answer) (line : ℕ) → GivenWhen text a line → Said-so a line
+  given-so Done line z = so-zero Done line _ (z .2) (finishes-said (z .0) (z .1))
+  given-so BadCoordinate line z = so BadCoordinate line [] (stop-said (z .0) BadCoordinate line (refused-read BadCoordinate line (z .1)))
+  given-so BadWeight line z = so BadWeight line [] (stop-said (z .0) BadWeight line (refused-read BadWeight line (z .1)))
+  given-so Unusable line z = absurd z
+  given-so StoreFull line z = full (z .0) (z .1)
     where
-      split : (n a t : ℕ) → n ≤ a → a < t → t + 1 ≡ n + suc (t - n)
-      split n a t h k = omega arith
+      full : Short text → RefusedCall text StoreFull line ⊎ (Builds text StoreFull × (line ≡ 0)) → Said-so StoreFull line
+      full s (inl R) = so StoreFull line [] (stop-said s StoreFull line (refused-read StoreFull line R))
+      full s (inr B) = so-zero StoreFull line [] (B .1) (builds-said s StoreFull (λ e. apart 4 0 (inr (lit< tt)) (ap numberOf e)) (B .0))
+  given-so TooManyPieces line z = flattens-so TooManyPieces (apart 5 0 (inr (lit< tt))) line z
+  given-so QuadsFull line z = flattens-so QuadsFull (apart 6 0 (inr (lit< tt))) line z
+  given-so SplinesFull line z = flattens-so SplinesFull (apart 7 0 (inr (lit< tt))) line z
+  given-so SumTooLarge line z = flattens-so SumTooLarge (apart 8 0 (inr (lit< tt))) line z
+  given-so OutputShort line z = flattens-so OutputShort (apart 9 0 (inr (lit< tt))) line z
+  given-so BadText line z = so BadText line [] (stop-said (z .0) BadText line (faulty-read line (z .1)))
+  given-so InputTooLong line z = so-zero InputTooLong line [] (z .1) (sym (too-long text (z .0)))
 
-  bad-text-stops : (line : ℕ) → BadTextAt text first line → readOf text first ≡ stopped BadText line
-  bad-text-stops line B = stops (B .at) (B .begins) (B .o) BadText line (B .reads) (B .more) (step-fault text (B .at) (B .begins) line (B .o) (B .more) (B .fault))
+  -- ---- from what is said
+  record Told (s : Said) : Type 0 where
+    given : GivenWhen text (s .answer) (s .line)
+    no-points : s .answer ≢ Done → s .points ≡ []
 
-  not-done : (a : Answer) → a ≢ Done → isDone a ≡ false
-  not-done a h = go (isDone a) refl
+  -- the answers that a refused call gives
+  refused-given : Short text → (a : Answer) (l : ℕ) → RefusedCall text a l → GivenWhen text a l
+  refused-given s a l R = go a l R (subst (λ (b : Answer). numberOf b ≤ 4) (R .answer) (call-number (callIn (R .refused)) (drawingOf (R .before) .state) (drawingOf (R .before) .columns)))
     where
-      go : (b : Bool) → isDone a ≡ b → isDone a ≡ false
-      go true e = absurd (h (done-only a e))
-      go false e = e
+      go : (a : Answer) (l : ℕ) → RefusedCall text a l → numberOf a ≤ 4 → GivenWhen text a l
+      go Done l R h = absurd (R .not-done refl)
+      go BadCoordinate l R h = (s, R)
+      go BadWeight l R h = (s, R)
+      go Unusable l R h = not-three (callIn (R .refused)) (drawingOf (R .before) .state) (drawingOf (R .before) .columns) (usable-drawing (R .before)) (R .answer)
+      go StoreFull l R h = (s, inl R)
+      go TooManyPieces l R h = absurd (beyond 4 5 h (lit< tt))
+      go QuadsFull l R h = absurd (beyond 4 6 h (lit< tt))
+      go SplinesFull l R h = absurd (beyond 4 7 h (lit< tt))
+      go SumTooLarge l R h = absurd (beyond 4 8 h (lit< tt))
+      go OutputShort l R h = absurd (beyond 4 9 h (lit< tt))
+      go BadText l R h = absurd (beyond 4 10 h (lit< tt))
+      go InputTooLong l R h = absurd (beyond 4 11 h (lit< tt))
 
-  refused-stops : (a : Answer) (line : ℕ) → RefusedAt text first a line → readOf text first ≡ stopped a line
-  refused-stops a line B =
-      let d = drawOf (callOf (B .op) (B .values)) (B .o .state) (B .o .columns) in
-      stops (B .at) line (B .o) a line (B .reads) (B .more)
-      (step-call text (B .at) line (B .end) (B .o) (B .op) (B .values) (B .more) (B .op-line) (B .fields)
-      ∙ call-refused text line (B .end) (line + 1 + length (keysOf (B .op))) d (ap isDone (B .answer) ∙ not-done a (B .refused))
-      ∙ ap (λ (x : Answer). stopped x line) (B .answer))
+  -- those of a flattening that is refused
+  flat-given : Short text → (a : Answer) → Flattens text a → (5 ≤ numberOf a) × (numberOf a ≤ 9) → GivenWhen text a 0
+  flat-given s Done F h = absurd (below 0 (h .0) (lit< tt))
+  flat-given s BadCoordinate F h = absurd (below 1 (h .0) (lit< tt))
+  flat-given s BadWeight F h = absurd (below 2 (h .0) (lit< tt))
+  flat-given s Unusable F h = absurd (below 3 (h .0) (lit< tt))
+  flat-given s StoreFull F h = absurd (below 4 (h .0) (lit< tt))
+  flat-given s TooManyPieces F h = (s, F, refl)
+  flat-given s QuadsFull F h = (s, F, refl)
+  flat-given s SplinesFull F h = (s, F, refl)
+  flat-given s SumTooLarge F h = (s, F, refl)
+  flat-given s OutputShort F h = (s, F, refl)
+  flat-given s BadText F h = absurd (beyond 9 10 (h .1) (lit< tt))
+  flat-given s InputTooLong F h = absurd (beyond 9 11 (h .1) (lit< tt))
 
-  read-cause : (a : Answer) (line : ℕ) → readOf text first ≡ stopped a line → Cause a line
-  unfolding readOf
-  read-cause a line e = stop-cause (length text + 1) 0 1 first a line begin e
+  whole-told : Short text → (R : ReadWhole text) → Told (builtFrom (drawingOf (R .good .commands)))
+  whole-told s R = by-build (isDone (b .answer)) refl
+    where
+      cs : List TextCommand
+      cs = R .good .commands
 
-  ten-cause : (line : ℕ) → Cause BadText line → BadTextAt text first line
-  unfolding Cause
-  ten-cause line (inl z) = z .1
-  ten-cause line (inr B) = absurd (call-answers (callOf (B .op) (B .values)) (B .o .state) (B .o .columns) (B .answer))
+      b : Outcome
+      b = builtOf cs
 
-  other-cause : (a : Answer) (line : ℕ) → a ≢ BadText → Cause a line → RefusedAt text first a line
-  unfolding Cause
-  other-cause a line n (inl z) = absurd (n (z .0))
-  other-cause a line n (inr B) = B
+      f : Answer
+      f = flatteningOf (jobOf cs) .result .answer
 
-pub reading-exact : ReadingExact
-reading-exact text first =
-    record {
-      ten = λ line. (λ e. ten-cause text first line (read-cause text first BadText line e), bad-text-stops text first line);
-      one-to-four = λ a line n. (λ e. other-cause text first a line n (read-cause text first a line e), refused-stops text first a line);
-    }
+      by-flat : (k : Bool) → isDone (b .answer) ≡ true → isDone f ≡ k → Told (builtFrom (drawingOf cs))
+      by-flat true e h =
+          subst Told (sym (done-said cs e h))
+          (record { given = (s, record { read = R; built = done-is (b .answer) e; answer = done-is f h }, refl); no-points = λ n. absurd (n refl) })
+      by-flat false e h =
+          subst Told (sym (flat-said cs e h))
+          (record { given = flat-given s f (record { read = R; built = done-is (b .answer) e; answer = refl }) (flat-number (jobOf cs) (drawable-built cs) h); no-points = λ n. refl })
 
--- ---- the program
+      by-build : (k : Bool) → isDone (b .answer) ≡ k → Told (builtFrom (drawingOf cs))
+      by-build true e = by-flat (isDone f) e refl
+      by-build false e =
+          let q = build-four (drawingOf cs .state) (drawingOf cs .columns) (usable-drawing cs) e in
+          subst Told (sym (build-said cs e ∙ ap (λ (a : Answer). said a 0 []) q)) (record { given = (s, inr (record { read = R; answer = q }, refl)); no-points = λ n. refl })
+
+  told : Told (saidOf text)
+  told = by-length (decLe (length text) 16384)
+    where
+      over : (n : ℕ) → (n ≤ 16384 → ⊥) → 16384 < n
+      over n h = omega arith
+
+      by-cause : Short text → (r : Progress) → readOf text (freshOf programColumns) ≡ r → Cause r → Told (saidOf text)
+      by-cause s r h (by-whole R) = subst Told (sym (whole-said s R)) (whole-told s R)
+      by-cause s r h (by-refusal a l R) = subst Told (sym (stop-said s a l h)) (record { given = refused-given s a l R; no-points = λ n. refl })
+      by-cause s r h (by-fault l F) = subst Told (sym (stop-said s BadText l h)) (record { given = (s, F); no-points = λ n. refl })
+
+      by-length : Dec (length text ≤ 16384) → Told (saidOf text)
+      by-length (yes s) = by-cause s (readOf text (freshOf programColumns)) refl cause
+      by-length (no h) = subst Told (too-long text (over (length text) h)) (record { given = (over (length text) h, refl); no-points = λ n. refl })
+
 pub listing-exact : ListingExact
-unfolding listingOf listingIn afterReading
+unfolding listingOf Said-so
 listing-exact text =
     record {
-      eleven = λ h. ap (λ (b : Bool). listingIn b text) (is-false (leb (length text) 16384) (lt→nleb (length text) 16384 h));
-      stops = λ h a line e. ap (λ (b : Bool). listingIn b text) (is-true (leb (length text) 16384) (le→leb (length text) 16384 h)) ∙ ap afterReading e;
+      answers = λ a line. (λ z. subst₂ (GivenWhen text) (z .0) (z .1) (told text .given), given-so text a line);
+      points = λ s F. ap (λ (x : Said). x .points) (finishes-said text s F);
+      no-points = told text .no-points;
+      output = refl;
     }

@@ -1,88 +1,140 @@
--- 01, "The program": when a listing is answered 10, and at which line; when a command is refused, and at which line; and 11. "11 is tested first, then the first fault in
--- text order wins; a command is drawn once its last line is read. Lines count from 1." Assumes nothing.
-use Prim.Native.Nat.{ℕ, suc, _+_, _≤_, _<_}
+-- 01, "The program": each answer and its line, if and only if what holds of the text. What a good text is, is said by printing it (listing/specs/Printing); all else goes by
+-- the calls of its commands on a fresh drawing. "11 is tested first, then the first fault in text order wins; a command is drawn once its last line is read. Lines count
+-- from 1." Assumes nothing.
+use Prim.Native.Nat.{ℕ, _+_, _≤_, _<_}
 use mathlib.Core.Path.{_≡_}
 use mathlib.Core.Logic.{_⊎_, _≢_, _↔_}
-use mathlib.Core.Bool.{not}
-use mathlib.Core.List.{List, [], _∷_}
-use lib.Dec.{T}
-use lib.Ieee.{Float}
+use mathlib.Core.Bool.{cond}
+use mathlib.Core.List.{List, [], _∷_, _++_}
 use lib.ListN.{length}
 use Rattle.answer.specs.declared.Answer.{Answer}
-use Rattle.answer.specs.declared.Answer.the-variants.{Done, BadText, InputTooLong}
+use Rattle.answer.specs.declared.Answer.the-variants.{Done, BadCoordinate, BadWeight, Unusable, StoreFull, TooManyPieces, QuadsFull, SplinesFull, SumTooLarge, OutputShort, BadText, InputTooLong}
+use Rattle.answer.specs.Number.{isDone}
+use Rattle.primitives.specs.declared.Setting.the-variants.{Screen}
+use Rattle.store.specs.declared.Call.{Call}
+use Rattle.store.specs.declared.Call.the-variants.{Build}
 use Rattle.store.specs.Drawing.{Outcome, drawOf, freshOf}
-use Rattle.text.specs.Bytes.{standsAt}
-use Rattle.listing.specs.declared.Op.{Op}
-use Rattle.listing.specs.Grammar.{opLineOf, keysOf, callOf}
-use Rattle.listing.specs.Reading.{fieldStandsAt, fieldValueAt, fieldWidth, ops, Progress, stopped, readOf}
+use Rattle.store.specs.Replay.{replayOf}
+use Rattle.evaluate.specs.Evaluate.{Finished, pointsOf}
+use Rattle.flatten.specs.Flatten.{Flattening}
+use Rattle.text.specs.Places.{LongestBeginning, newlines}
+use Rattle.listing.specs.Printing.{TextCommand, commandLines, printed, ProperCommand, Proper, Good, callIn, callsIn}
+use Rattle.listing.specs.Reading.{Progress, finished, stopped, readOf}
 use Rattle.listing.specs.Writing.{reportOf}
-use Rattle.listing.specs.Program.{programColumns, listingOf}
+use Rattle.listing.specs.Program.{programColumns, programQuads, programSplines, programOutput, saidOf, listingOf}
+use Rattle.promises.specs.Accepted.{Job, flatteningOf, walkIn}
 
--- ---- what stands at a place of the text
--- the first of these ops whose line stands there
-pub data OpHere (text : List ℕ) (at : ℕ) : List Op → Op → Type 0 where
-  here : {op : Op} {rest : List Op} → T (standsAt text at (opLineOf op)) → OpHere text at (op ∷ rest) op
-  later : {other op : Op} {rest : List Op} → T (not (standsAt text at (opLineOf other))) → OpHere text at rest op → OpHere text at (other ∷ rest) op
+-- ---- the calls of whole commands, in order
+abbrev pub drawn : Call → Outcome → Outcome
+drawn call o = drawOf call (o .state) (o .columns)
 
-abbrev pub NoOp : List ℕ → ℕ → Type 0
-NoOp text at = (op : Op) → T (not (standsAt text at (opLineOf op)))
+-- each is answered 0
+pub data AllDone : List Call → Outcome → Type 0 where
+  no-call : {o : Outcome} → AllDone [] o
+  then : {call : Call} {calls : List Call} {o : Outcome} → drawn call o .answer ≡ Done → AllDone calls (drawn call o) → AllDone (call ∷ calls) o
 
--- the fields of these keys, one line after the other, up to the place end, with their values
-pub data FieldsStand (text : List ℕ) : ℕ → List (List ℕ) → ℕ → List Float → Type 0 where
-  none : {at : ℕ} → FieldsStand text at [] at []
-  more : {at end : ℕ} {key : List ℕ} {keys : List (List ℕ)} {values : List Float} → T (fieldStandsAt text at key) → FieldsStand text (at + fieldWidth key) keys end values
-      → FieldsStand text at (key ∷ keys) end (fieldValueAt text at key ∷ values)
+-- the drawing that they make
+abbrev pub drawingOf : List TextCommand → Outcome
+drawingOf commands = replayOf (callsIn commands) (freshOf programColumns)
 
--- the first so many of them, and then not the next
-pub data FieldMissing (text : List ℕ) : ℕ → List (List ℕ) → ℕ → Type 0 where
-  now : {at : ℕ} {key : List ℕ} {keys : List (List ℕ)} → T (not (fieldStandsAt text at key)) → FieldMissing text at (key ∷ keys) 0
-  after : {at good : ℕ} {key : List ℕ} {keys : List (List ℕ)} → T (fieldStandsAt text at key) → FieldMissing text (at + fieldWidth key) keys good → FieldMissing text at (key ∷ keys) (suc good)
+-- ---- 1 to 4: whole commands, each answered 0, and then one that is refused. "`line` is for 1 to 4 the refused command's op line"
+pub record RefusedCall (text : List ℕ) (a : Answer) (line : ℕ) : Type 0 where
+  pub before : List TextCommand
+  pub refused : TextCommand
+  pub rest : List ℕ
+  pub split : text ≡ printed before ++ (commandLines refused ++ rest)
+  pub proper-before : Proper before
+  pub proper : ProperCommand refused
+  pub all-done : AllDone (callsIn before) (freshOf programColumns)
+  pub answer : drawn (callIn refused) (drawingOf before) .answer ≡ a
+  pub not-done : a ≢ Done
+  pub op-line : line ≡ 1 + newlines (printed before)
 
--- ---- what has been read and drawn: up to the place at, where the line begins, every command stood whole and was drawn with answer 0
-pub data Reads (text : List ℕ) (first : Outcome) : ℕ → ℕ → Outcome → Type 0 where
-  begin : Reads text first 0 1 first
-  next : {at line end : ℕ} {o : Outcome} {op : Op} {values : List Float} → Reads text first at line o → at < length text → OpHere text at ops op
-      → FieldsStand text (at + length (opLineOf op)) (keysOf op) end values → drawOf (callOf op values) (o .state) (o .columns) .answer ≡ Done
-      → Reads text first end (line + 1 + length (keysOf op)) (drawOf (callOf op values) (o .state) (o .columns))
+-- ---- 10: the text is not good, and no call before the fault is refused. `line` is "for 10 the line where the wrong or missing byte is due"
+pub record Faulty (text : List ℕ) (line : ℕ) : Type 0 where
+  pub not-good : ¬ Good text
+  pub none-refused : (a : Answer) (op-line : ℕ) → ¬ RefusedCall text a op-line
+  pub beginning : List ℕ
+  pub longest : LongestBeginning Good text beginning
+  pub due : line ≡ 1 + newlines beginning
 
--- ---- 10: the text goes on, with no op line, or with one after which a field is missing. `line` is "the line where the wrong or missing byte is due"
-pub data Fault (text : List ℕ) (at line : ℕ) : ℕ → Type 0 where
-  no-op : NoOp text at → Fault text at line line
-  no-field : {op : Op} {good : ℕ} → OpHere text at ops op → FieldMissing text (at + length (opLineOf op)) (keysOf op) good → Fault text at line (line + 1 + good)
+-- ---- the text is good, and every call is answered 0
+pub record ReadWhole (text : List ℕ) : Type 0 where
+  pub good : Good text
+  pub all-done : AllDone (callsIn (good .commands)) (freshOf programColumns)
 
-pub record BadTextAt (text : List ℕ) (first : Outcome) (line : ℕ) : Type 0 where
-  pub at : ℕ
-  pub begins : ℕ
-  pub o : Outcome
-  pub reads : Reads text first at begins o
-  pub more : at < length text
-  pub fault : Fault text at begins line
+-- "It reads standard input, builds, flattens in the screen setting."
+abbrev pub builtOf : List TextCommand → Outcome
+builtOf commands = drawn Build (drawingOf commands)
 
--- ---- 1 to 4: a whole command stands there and is refused. `line` is "the refused command's op line"
-pub record RefusedAt (text : List ℕ) (first : Outcome) (a : Answer) (line : ℕ) : Type 0 where
-  pub at : ℕ
-  pub o : Outcome
-  pub reads : Reads text first at line o
-  pub more : at < length text
-  pub op : Op
-  pub end : ℕ
-  pub values : List Float
-  pub op-line : OpHere text at ops op
-  pub fields : FieldsStand text (at + length (opLineOf op)) (keysOf op) end values
-  pub answer : drawOf (callOf op values) (o .state) (o .columns) .answer ≡ a
-  pub refused : a ≢ Done
+abbrev pub jobOf : List TextCommand → Job
+jobOf commands =
+    record {
+      setting = Screen;
+      state = builtOf commands .state;
+      columns = builtOf commands .columns;
+      quads = programQuads;
+      splines = programSplines;
+      output = programOutput;
+    }
 
-pub record ReadingAnswers (text : List ℕ) (first : Outcome) : Type 0 where
-  pub ten : (line : ℕ) → (readOf text first ≡ stopped BadText line) ↔ BadTextAt text first line
-  pub one-to-four : (a : Answer) (line : ℕ) → a ≢ BadText → (readOf text first ≡ stopped a line) ↔ RefusedAt text first a line
+-- the final build of what is read is answered so
+pub record Builds (text : List ℕ) (a : Answer) : Type 0 where
+  pub read : ReadWhole text
+  pub answer : builtOf (read .good .commands) .answer ≡ a
 
-abbrev pub ReadingExact : Type 0
-ReadingExact = (text : List ℕ) (first : Outcome) → ReadingAnswers text first
+-- it is answered 0, and the flattening so
+pub record Flattens (text : List ℕ) (a : Answer) : Type 0 where
+  pub read : ReadWhole text
+  pub built : builtOf (read .good .commands) .answer ≡ Done
+  pub answer : flatteningOf (jobOf (read .good .commands)) .result .answer ≡ a
 
--- ---- what the program writes then
-pub record ListingSays (text : List ℕ) : Type 0 where
-  pub eleven : 16384 < length text → listingOf text ≡ reportOf InputTooLong 0 []
-  pub stops : length text ≤ 16384 → (a : Answer) (line : ℕ) → readOf text (freshOf programColumns) ≡ stopped a line → listingOf text ≡ reportOf a line []
+-- the points of 01's walk over the tables that a flattening leaves
+abbrev pub pointsIn : Flattening → List Finished
+pointsIn f = pointsOf (f .quads) (f .splines) (walkIn f)
+
+-- ---- "Numbered answers: No, Given when", of the program, each with its line
+abbrev pub Short : List ℕ → Type 0
+Short text = length text ≤ 16384
+
+abbrev pub GivenWhen : List ℕ → Answer → ℕ → Type 0
+GivenWhen text Done line = Short text × Flattens text Done × (line ≡ 0)
+GivenWhen text BadCoordinate line = Short text × RefusedCall text BadCoordinate line
+GivenWhen text BadWeight line = Short text × RefusedCall text BadWeight line
+-- a store that is drawn by these calls alone is never unusable
+GivenWhen text Unusable line = ⊥
+-- "(0 for the final build)"
+GivenWhen text StoreFull line = Short text × (RefusedCall text StoreFull line ⊎ (Builds text StoreFull × (line ≡ 0)))
+GivenWhen text TooManyPieces line = Short text × Flattens text TooManyPieces × (line ≡ 0)
+GivenWhen text QuadsFull line = Short text × Flattens text QuadsFull × (line ≡ 0)
+GivenWhen text SplinesFull line = Short text × Flattens text SplinesFull × (line ≡ 0)
+GivenWhen text SumTooLarge line = Short text × Flattens text SumTooLarge × (line ≡ 0)
+GivenWhen text OutputShort line = Short text × Flattens text OutputShort × (line ≡ 0)
+GivenWhen text BadText line = Short text × Faulty text line
+-- "input over 16,384 bytes"
+GivenWhen text InputTooLong line = (16384 < length text) × (line ≡ 0)
+
+pub record ListingAnswers (text : List ℕ) : Type 0 where
+  pub answers : (a : Answer) (line : ℕ) → ((saidOf text .answer ≡ a) × (saidOf text .line ≡ line)) ↔ GivenWhen text a line
+  -- on 0 the points are those of the drawing that the calls make
+  pub points : Short text → (F : Flattens text Done) → saidOf text .points ≡ pointsIn (flatteningOf (jobOf (F .read .good .commands)))
+  -- "On a refusal points is 0 and no point follows."
+  pub no-points : saidOf text .answer ≢ Done → saidOf text .points ≡ []
+  -- the output is what is said
+  pub output : listingOf text ≡ reportOf (saidOf text .answer) (saidOf text .line) (saidOf text .points)
 
 abbrev pub ListingExact : Type 0
-ListingExact = (text : List ℕ) → ListingSays text
+ListingExact = (text : List ℕ) → ListingAnswers text
+
+-- ---- a good text is read back: its commands are drawn in order, each on its op line, up to the first that is refused
+unfoldable pub drawAll : ℕ → List TextCommand → Outcome → Progress
+drawAll line [] o = finished o
+drawAll line (c ∷ cs) o =
+    cond (isDone (drawn (callIn c) o .answer)) (drawAll (line + newlines (commandLines c)) cs (drawn (callIn c) o)) (stopped (drawn (callIn c) o .answer) line)
+
+abbrev pub GoodReads : Type 0
+GoodReads = (commands : List TextCommand) (first : Outcome) → Proper commands → readOf (printed commands) first ≡ drawAll 1 commands first
+
+-- and no other list is printed so
+abbrev pub GoodOnce : Type 0
+GoodOnce = (commands others : List TextCommand) → Proper commands → Proper others → printed commands ≡ printed others → commands ≡ others

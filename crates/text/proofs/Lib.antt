@@ -1,4 +1,5 @@
 pub mod Standing
 pub mod Hexes
+pub mod Shapes
 pub mod Decimals
 pub mod Stores

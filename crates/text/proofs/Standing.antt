@@ -1,19 +1,17 @@
 -- Laws of what stands at a place: a fixed string stands there if its first byte does and the rest stands behind it; what stands lies inside the text. Assumes nothing.
 use mathlib.Core.Path.{_≡_, refl, sym, ap, _∙_}
-use mathlib.Core.Bool.{Bool, true, false, _&&_, and-true, and-false, and-assoc}
+use mathlib.Core.Bool.{Bool, true, false, _&&_, and-true, and-assoc}
 use mathlib.Core.List.{List, [], _∷_, _++_}
-use mathlib.Core.Logic.{⊎-elim}
-use Prim.Native.Nat.{ℕ, zero, suc, _+_, _-_, _≤_, _<_, min}
-use native.Mathlib.Nat.{add-zero, suc-add, add-suc}
-use native.Mathlib.Numerals.{add-one}
+use Prim.Native.Nat.{ℕ, zero, suc, _+_, _≤_, _<_}
+use native.Mathlib.Nat.{add-zero}
 use native.Mathlib.Omega.{arith}
-use borrow.Author.Tests.{eqb-true}
+use borrow.Author.Tests.{eqb-true, eq-eqb}
 use lib.Dec.{eqb}
-use lib.ListN.{length, take, drop, getD, length-append, length-take, length-drop}
-use lib.Seq.{drop-cons, drop-drop}
+use lib.ListN.{length, take, drop, getD, length-take, length-drop, take-append-drop}
+use lib.Seq.{drop-cons, drop-drop, take-append-seam, drop-append-seam}
 use Rattle.text.specs.Bytes.{sameBytes, partAt, standsAt}
 
-both-true : (a b : Bool) → a && b ≡ true → (a ≡ true) × (b ≡ true)
+pub both-true : (a b : Bool) → a && b ≡ true → (a ≡ true) × (b ≡ true)
 both-true true true h = (refl, refl)
 both-true true false h = absurd (let z : _≡_ {A = ℕ} 0 1 = cc in omega arith)
 both-true false b h = absurd (let z : _≡_ {A = ℕ} 0 1 = cc in omega arith)
@@ -74,3 +72,36 @@ unfolding standsAt partAt
 stands-inside text at fixed some h =
     let e : length (take (length fixed) (drop at text)) ≡ length fixed = same-length (take (length fixed) (drop at text)) fixed h in
     omega (arith, simp (length-take, length-drop) at e)
+
+-- ---- a fixed string stands where what is left of the text begins with it
+same-bytes : (xs ys : List ℕ) → sameBytes xs ys ≡ true → xs ≡ ys
+unfolding sameBytes
+same-bytes [] [] h = refl
+same-bytes [] (b ∷ ys) h = absurd (let z : _≡_ {A = ℕ} 0 1 = cc in omega arith)
+same-bytes (a ∷ xs) [] h = absurd (let z : _≡_ {A = ℕ} 0 1 = cc in omega arith)
+same-bytes (a ∷ xs) (b ∷ ys) h =
+    let both : (eqb a b ≡ true) × (sameBytes xs ys ≡ true) = both-true (eqb a b) (sameBytes xs ys) h in
+    let first : a ≡ b = eqb-true a b (both .0) in
+    let later : xs ≡ ys = same-bytes xs ys (both .1) in
+    cc
+
+same-itself : (xs : List ℕ) → sameBytes xs xs ≡ true
+unfolding sameBytes
+same-itself [] = refl
+same-itself (a ∷ xs) = rw (eq-eqb a a refl, same-itself xs)
+
+pub stands-split : (text : List ℕ) (at : ℕ) (fixed : List ℕ) → standsAt text at fixed ≡ true → drop at text ≡ fixed ++ drop (length fixed) (drop at text)
+unfolding standsAt partAt
+stands-split text at fixed h =
+    let rest = drop at text in
+    sym (take-append-drop (length fixed) rest) ∙ ap (λ (l : List ℕ). l ++ drop (length fixed) rest) (same-bytes (take (length fixed) rest) fixed h)
+
+pub split-stands : (text : List ℕ) (at : ℕ) (fixed rest : List ℕ) → drop at text ≡ fixed ++ rest → standsAt text at fixed ≡ true
+unfolding standsAt partAt
+split-stands text at fixed rest h =
+    ap (λ (l : List ℕ). sameBytes (take (length fixed) l) fixed) h
+    ∙ ap (λ (l : List ℕ). sameBytes l fixed) (take-append-seam fixed rest)
+    ∙ same-itself fixed
+
+pub drop-behind : (text : List ℕ) (at : ℕ) (first rest : List ℕ) → drop at text ≡ first ++ rest → drop (at + length first) text ≡ rest
+drop-behind text at first rest h = sym (drop-drop (length first) at text) ∙ ap (drop (length first)) h ∙ drop-append-seam first rest

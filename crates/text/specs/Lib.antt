@@ -1,3 +1,4 @@
 pub mod Bytes
 pub mod Hex
 pub mod Decimal
+pub mod Places

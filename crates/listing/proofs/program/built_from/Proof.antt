@@ -1,6 +1,7 @@
 -- `listing::built_from` meets its contract: the build is refused on line 0, or what it closed is flattened. Assumes nothing.
-use mathlib.Core.Path.{sym, _∙_}
+use mathlib.Core.Path.{sym, ap, _∙_}
 use borrow.Author.Tests.{not-true, not-false}
+use Rattle.listing.specs.Program.{inBytes}
 use Rattle.listing.proofs.WritingLaws.{listed-seen}
 use Rattle.listing.proofs.ProgramLaws.{build-refused, build-done}
 use borrow.Author.Needs.{needs}
@@ -32,7 +33,7 @@ same-length-5 : tie.Need-same-length-5
 same-length-5 c = search needs
 
 returns : tie.Need-returns
-returns c = listed-seen _ _ _ _ (c .before .before .refuse .ensures) (build-refused _ _ _ _ _ (c .before .before .before .before .before .before .before .before .before .before .before .before .before .before .build .ensures) (sym (c .before .before .before .before .before .is-done .ensures) ∙ not-true _ (c .before .before .before .before .if1 .taken)))
+returns c = listed-seen _ _ _ _ (c .before .before .refuse .ensures) (ap inBytes (build-refused _ _ _ _ _ (c .before .before .before .before .before .before .before .before .before .before .before .before .before .before .build .ensures) (sym (c .before .before .before .before .before .is-done .ensures) ∙ not-true _ (c .before .before .before .before .if1 .taken))))
 
 flat-requires : tie.Need-flat-requires
 flat-requires c κs = search needs
@@ -53,7 +54,7 @@ same-length-10 : tie.Need-same-length-10
 same-length-10 c = search needs
 
 returns-2 : tie.Need-returns-2
-returns-2 c = listed-seen _ _ _ _ (c .before .before .flat .ensures) (build-done _ _ _ _ _ (c .before .before .before .before .before .before .before .before .before .before .before .before .before .before .before .before .before .before .before .build .ensures) (sym (c .before .before .before .before .before .before .before .before .before .before .is-done .ensures) ∙ not-false _ (c .before .before .before .before .before .before .before .before .before .if1 .left)))
+returns-2 c = listed-seen _ _ _ _ (c .before .before .flat .ensures) (ap inBytes (build-done _ _ _ _ _ (c .before .before .before .before .before .before .before .before .before .before .before .before .before .before .before .before .before .before .before .build .ensures) (sym (c .before .before .before .before .before .before .before .before .before .before .is-done .ensures) ∙ not-false _ (c .before .before .before .before .before .before .before .before .before .if1 .left))))
 
 pub built-from-spec : {M : Type 1} → statement M
 built-from-spec =

@@ -1,7 +1,7 @@
 -- `listing::flat` meets its contract: the tables and outputs are the program's, and the points are reported from their columns. Assumes nothing.
-use mathlib.Core.Path.{sym, _∙_}
+use mathlib.Core.Path.{sym, ap, _∙_}
 use borrow.Author.Tests.{not-true, not-false}
-use Rattle.listing.specs.Program.{zeros, programQuads, programSplines, programOutput}
+use Rattle.listing.specs.Program.{zeros, programQuads, programSplines, programOutput, inBytes}
 use Rattle.listing.proofs.WritingLaws.{listed-seen}
 use Rattle.listing.proofs.ProgramLaws.{flat-refused, flat-few, flat-reported}
 use borrow.Author.Needs.{needs}
@@ -82,7 +82,7 @@ same-length c = search needs
 
 returns : tie.Need-returns
 unfolding zeros programQuads programSplines programOutput
-returns c = listed-seen _ _ _ _ (c .before .before .refuse .ensures) (flat-refused _ _ _ (c .before .before .before .before .before .before .before .before .before .before .before .before .before .before .before .before .before .before .before .before .before .before .before .before .before .before .flatten .ensures) (sym (c .before .before .before .before .before .is-done .ensures) ∙ not-true _ (c .before .before .before .before .if1 .taken)))
+returns c = listed-seen _ _ _ _ (c .before .before .refuse .ensures) (ap inBytes (flat-refused _ _ _ (c .before .before .before .before .before .before .before .before .before .before .before .before .before .before .before .before .before .before .before .before .before .before .before .before .before .before .flatten .ensures) (sym (c .before .before .before .before .before .is-done .ensures) ∙ not-true _ (c .before .before .before .before .if1 .taken))))
 
 slice-aggregate-report : tie.Need-slice-aggregate-report
 slice-aggregate-report c = sym (c .before .before .before .before .before .before .before .before .before .before .before .before .before .before .before .before .before .before .before .before .before .before .before .before .flatten .kept .1 .1 .1 .1 .1 .1 .1 .1 .1 .1 .1 .1 .1 .1 .1 .1 .1 .1 .1 .1 .1 .1 .1 .0)
@@ -102,7 +102,7 @@ same-length-2 c = search needs
 
 returns-2 : tie.Need-returns-2
 unfolding zeros programQuads programSplines programOutput
-returns-2 c = listed-seen _ _ _ _ (c .before .before .report .ensures) (flat-reported _ _ _ (c .before .before .before .before .before .before .before .before .before .before .before .before .before .before .before .before .before .before .before .before .before .before .before .before .before .before .before .before .before .flatten .ensures) (sym (c .before .before .before .before .before .before .before .before .is-done .ensures) ∙ not-false _ (c .before .before .before .before .before .before .before .if1 .left)))
+returns-2 c = listed-seen _ _ _ _ (c .before .before .report .ensures) (ap inBytes (flat-reported _ _ _ (c .before .before .before .before .before .before .before .before .before .before .before .before .before .before .before .before .before .before .before .before .before .before .before .before .before .before .before .before .before .flatten .ensures) (sym (c .before .before .before .before .before .before .before .before .is-done .ensures) ∙ not-false _ (c .before .before .before .before .before .before .before .if1 .left))))
 
 pub flat-spec : {M : Type 1} → statement M
 flat-spec =

@@ -1,6 +1,6 @@
 -- `listing::listing` meets its contract: too long, stopped at a line, or read to the end and built. Assumes nothing.
-use mathlib.Core.Path.{refl}
-use Rattle.listing.specs.Program.{zeros, programColumns}
+use mathlib.Core.Path.{refl, ap}
+use Rattle.listing.specs.Program.{zeros, programColumns, inBytes, listingOf}
 use Rattle.listing.proofs.WritingLaws.{listed-seen}
 use Rattle.listing.proofs.StepLaws.{progress-seen}
 use Rattle.listing.proofs.ProgramLaws.{too-long, after-stopped, after-finished, after-going}
@@ -15,7 +15,8 @@ same-length : tie.Need-same-length
 same-length c = search needs
 
 returns : tie.Need-returns
-returns c = listed-seen _ _ _ _ (c .before .before .refuse .ensures) (too-long _ (c .before .before .before .before .if1 .taken))
+unfolding listingOf
+returns c = listed-seen _ _ _ _ (c .before .before .refuse .ensures) (ap inBytes (too-long _ (c .before .before .before .before .if1 .taken)))
 
 slice-aggregate-drawn : tie.Need-slice-aggregate-drawn
 slice-aggregate-drawn c = search needs
@@ -79,19 +80,22 @@ same-length-2 : tie.Need-same-length-2
 same-length-2 c = search needs
 
 returns-2 : tie.Need-returns-2
-returns-2 c = listed-seen _ _ _ _ (c .before .before .refuse2 .ensures) (after-stopped _ (c .before .before .before .before .before .before .before .before .before .before .before .before .before .before .before .before .if1 .left) _ _ (progress-seen _ _ _ _ (c .before .before .before .before .before .before .before .before .before .before .before .drawn .ensures) (c .before .before .before .before .before .answer .given .1)))
+unfolding listingOf
+returns-2 c = listed-seen _ _ _ _ (c .before .before .refuse2 .ensures) (ap inBytes (after-stopped _ (c .before .before .before .before .before .before .before .before .before .before .before .before .before .before .before .before .if1 .left) _ _ (progress-seen _ _ _ _ (c .before .before .before .before .before .before .before .before .before .before .before .drawn .ensures) (c .before .before .before .before .before .answer .given .1))))
 
 same-length-3 : tie.Need-same-length-3
 same-length-3 c = search needs
 
 returns-3 : tie.Need-returns-3
-returns-3 c = listed-seen _ _ _ _ (c .before .before .before .before .before .before .built-from .ensures) (after-finished _ (c .before .before .before .before .before .before .before .before .before .before .before .before .before .before .before .before .before .before .before .before .before .before .before .before .if1 .left) _ (progress-seen _ _ _ _ (c .before .before .before .before .before .before .before .before .before .before .before .before .before .before .before .before .before .before .before .drawn .ensures) (c .before .before .before .before .before .before .before .before .before .before .before .before .before .st .given .1)))
+unfolding listingOf
+returns-3 c = listed-seen _ _ _ _ (c .before .before .before .before .before .before .built-from .ensures) (ap inBytes (after-finished _ (c .before .before .before .before .before .before .before .before .before .before .before .before .before .before .before .before .before .before .before .before .before .before .before .before .if1 .left) _ (progress-seen _ _ _ _ (c .before .before .before .before .before .before .before .before .before .before .before .before .before .before .before .before .before .before .before .drawn .ensures) (c .before .before .before .before .before .before .before .before .before .before .before .before .before .st .given .1))))
 
 same-length-4 : tie.Need-same-length-4
 same-length-4 c = search needs
 
 returns-4 : tie.Need-returns-4
-returns-4 c = listed-seen _ _ _ _ (c .before .before .before .before .before .before .built-from2 .ensures) (after-going _ (c .before .before .before .before .before .before .before .before .before .before .before .before .before .before .before .before .before .before .before .before .before .before .before .before .if1 .left) _ _ _ (progress-seen _ _ _ _ (c .before .before .before .before .before .before .before .before .before .before .before .before .before .before .before .before .before .before .before .drawn .ensures) (c .before .before .before .before .before .before .before .before .before .before .before .before .before .st2 .given .1)))
+unfolding listingOf
+returns-4 c = listed-seen _ _ _ _ (c .before .before .before .before .before .before .built-from2 .ensures) (ap inBytes (after-going _ (c .before .before .before .before .before .before .before .before .before .before .before .before .before .before .before .before .before .before .before .before .before .before .before .before .if1 .left) _ _ _ (progress-seen _ _ _ _ (c .before .before .before .before .before .before .before .before .before .before .before .before .before .before .before .before .before .before .before .drawn .ensures) (c .before .before .before .before .before .before .before .before .before .before .before .before .before .st2 .given .1))))
 
 pub listing-spec : {M : Type 1} → statement M
 listing-spec =
