@@ -276,7 +276,7 @@ module _ (c : Columns) where
     three : (o .answer ≡ Unusable) ↔ Uneven c
     four : (o .answer ≡ StoreFull) ↔ ((¬ Uneven c) × NoLength c)
     zero : (o .answer ≡ Done) ↔ ((¬ Uneven c) × (¬ NoLength c))
-    keeps : o .answer ≢ Done → o .columns ≡ c
+    keeps : o .answer ≢ Done → (o .state ≡ stateAt 0 0 0) × (o .columns ≡ c)
 
   freshly : (e n : Bool) → Tells e (Uneven c) → (n ≡ true) ↔ NoLength c → Freshly (made e n)
   unfolding made
@@ -285,14 +285,14 @@ module _ (c : Columns) where
         three = both-hold refl (t .0 refl);
         four = neither (differ (apart 3 4 (inl (lit< tt)))) (λ z. z .0 (t .0 refl));
         zero = neither (differ (apart 3 0 (inr (lit< tt)))) (λ z. z .0 (t .0 refl));
-        keeps = λ h. refl;
+        keeps = λ h. (refl, refl);
       }
   freshly true true t l =
       record {
         three = neither (differ (apart 4 3 (inr (lit< tt)))) (passes true (Uneven c) t refl);
         four = both-hold refl (passes true (Uneven c) t refl, l .0 refl);
         zero = neither (differ (apart 4 0 (inr (lit< tt)))) (λ z. z .1 (l .0 refl));
-        keeps = λ h. refl;
+        keeps = λ h. (refl, refl);
       }
   freshly true false t l =
       record {

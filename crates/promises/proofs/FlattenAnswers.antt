@@ -4,12 +4,12 @@ use Prim.Native.Nat.{ℕ, zero, suc, _+_, _-_, _≤_, _<_}
 use mathlib.Core.Path.{_≡_, refl, sym, ap, ap₂, _∙_, subst}
 use mathlib.Core.Logic.{_⊎_, inl, inr, _≢_, _↔_}
 use mathlib.Core.Bool.{Bool, true, false, not, _&&_, cond, true≢false}
-use mathlib.Core.List.{List, [], _∷_, List·Memᴰ, List·Memᴰ·head, List·Memᴰ·tail, List·Memᴰ·cases-cons, List·Memᴰ·not-nil}
+use mathlib.Core.List.{List, [], _∷_, map, List·Memᴰ, List·Memᴰ·head, List·Memᴰ·tail, List·Memᴰ·cases-cons, List·Memᴰ·not-nil}
 use native.Mathlib.Nat.{le-trans, le-of-eq, le-refl, lt-of-lt-of-le, lt-of-le-of-lt, lt-irrefl}
 use native.Mathlib.Omega.{arith}
 use lib.Dec.{T, lit≤, lit<, leb, leb→le, nleb→lt}
 use lib.Ieee.{Float}
-use lib.ListN.{length}
+use lib.ListN.{length, length-map}
 use Rattle.answer.specs.declared.Answer.{Answer}
 use Rattle.answer.specs.declared.Answer.the-variants.{Done, Unusable, TooManyPieces, QuadsFull, SplinesFull, SumTooLarge, OutputShort}
 use Rattle.answer.specs.Number.{numberOf, isDone}
@@ -19,19 +19,24 @@ use Rattle.primitives.specs.declared.Cubic.{Cubic}
 use Rattle.primitives.specs.declared.Primitive.{Primitive}
 use Rattle.primitives.specs.declared.Primitive.the-variants.{Contour, Line, Quad, Excess}
 use Rattle.primitives.specs.Cubics.{cubicPiecesOf, quadsFrom, cutOf, cubicQuadsOf}
+use Rattle.primitives.specs.Plan.{refusedOf}
 use Rattle.store.specs.Columns.{Columns}
 use Rattle.store.specs.Drawable.{drawableOf}
 use Rattle.tables.specs.Tables.{capacitiesOf}
 use Rattle.tables.specs.Run.{World, world, startState}
 use Rattle.tables.specs.Commands.{cubicFrom, commandPrimitivesOf, primitivesOf, tablesOf}
 use Rattle.tables.proofs.Sound.{sound-start}
-use Rattle.flatten.specs.Flatten.{Output, Flattening, fitsOutput, walked, tabled, flattenDrawable, flattenOf}
+use Rattle.walk.specs.Walk.{wordOf, wordsOf}
+use Rattle.evaluate.specs.Evaluate.{itemPointOf, pointsOf}
+use Rattle.flatten.specs.Flatten.{Output, Flattening, flattened, flattening, fitsOutput, writeOutput, walked, tabled, flattenDrawable, flattenOf}
 use Rattle.promises.specs.Accepted.{Job, flatteningOf}
-use Rattle.promises.specs.FlattenAnswers.{Undrawable, Refuses, too-many, quads-full, line-full, straight-full, curve-full, sum-over, ExcessIs, RefusedIn, Refused, walkLength, Short, words, x, y, end, AnswerOf, FlattenAnswers, FlatteningAnswers, RefusedWritesNothing}
+use Rattle.promises.specs.FlattenAnswers.{Undrawable, Refuses, too-many, quads-full, line-full, straight-full, curve-full, sum-over, ExcessIs, RefusedIn, Refused, walkLength, Short, words, x, y, end, AnswerOf, FlattenAnswers, FlatteningAnswers, RefusedWritesNothing, OutputPast, PastCounts, runOver, heldBy, TablesHeld}
 use Rattle.promises.proofs.Flattened.{worldOf, itemsIn}
 use Rattle.promises.proofs.Telling.{Tells, tells-as, passes, tells-and, tells-leb, both-hold, neither}
 use Rattle.promises.proofs.DrawingAnswers.{differ, done-only}
-use Rattle.promises.proofs.Refusals.{refused-answer, run-told, tells-drawable}
+use Rattle.promises.proofs.Refusing.{refuses-not-done}
+use Rattle.promises.proofs.Refusals.{refused-answer, refused-world, run-told, tells-drawable}
+use Rattle.promises.proofs.Past.{past-over, TablesPast, run-past, quads-self, splines-self, output-self}
 
 -- ---- 9
 tells-fits : (n : ℕ) (o : Output) → Tells (fitsOutput n o) (Short n o)
@@ -195,6 +200,88 @@ refused-writes-nothing job h = first (drawableOf (job .state) (job .columns)) h
     first : (d : Bool) → flattenDrawable d (job .setting) (job .state) (job .columns) (job .quads) (job .splines) (job .output) .result .answer ≢ Done → Nothing (flattenDrawable d (job .setting) (job .state) (job .columns) (job .quads) (job .splines) (job .output))
     first true h = run (isDone (worldOf job .state .answer)) h
     first false h = (refl, refl)
+
+-- ---- what the tables hold
+module _ (job : Job) where
+  three-held : AnswerOf job Unusable → flatteningOf job ≡ flattening (flattened Unusable 0 0 0) (job .quads) (job .splines) (job .output)
+  unfolding flattenOf flattenDrawable
+  three-held h =
+      ap (λ (d : Bool). flattenDrawable d (job .setting) (job .state) (job .columns) (job .quads) (job .splines) (job .output))
+      (tells-drawable (job .state) (job .columns) .1 (all-answers job .three .0 h))
+
+  refused-held : (a : Answer) (r : Refused job a) → AnswerOf job a → flatteningOf job ≡ heldBy a (runOver job (r .before)) (job .output)
+  unfolding flattenOf flattenDrawable tabled tablesOf refusedOf
+  refused-held a r h = first (drawableOf (job .state) (job .columns)) h
+    where
+      run : tabled (isDone (worldOf job .state .answer)) (worldOf job) (job .output) ≡ heldBy a (runOver job (r .before)) (job .output)
+      run =
+          ap (λ (e : Bool). tabled e (worldOf job) (job .output)) (ap isDone (cause-run job a r) ∙ refuses-not-done (r .cause))
+          ∙ ap (λ (w : World). tabled false w (job .output)) (refused-world (job .setting) (capacitiesOf (job .quads) (job .splines)) (primitivesOf (job .state) (job .columns)) (world startState (job .quads) (job .splines)) a r)
+
+      first : (d : Bool) → flattenDrawable d (job .setting) (job .state) (job .columns) (job .quads) (job .splines) (job .output) .result .answer ≡ a
+          → flattenDrawable d (job .setting) (job .state) (job .columns) (job .quads) (job .splines) (job .output) ≡ heldBy a (runOver job (r .before)) (job .output)
+      first true h = run
+      first false h = absurd (low (numberOf a) 3 (which (r .cause) .0) (lit< tt) (ap numberOf (sym h)))
+
+  nine-held : AnswerOf job OutputShort → flatteningOf job ≡ heldBy OutputShort (runOver job (primitivesOf (job .state) (job .columns))) (job .output)
+  unfolding flattenOf flattenDrawable tabled walked tablesOf
+  nine-held h =
+      let z = all-answers job .nine .0 h in
+      ap (λ (d : Bool). flattenDrawable d (job .setting) (job .state) (job .columns) (job .quads) (job .splines) (job .output)) (passing (drawableOf (job .state) (job .columns)) (λ e. z .0 (tells-drawable (job .state) (job .columns) .0 e)))
+      ∙ ap (λ (e : Bool). tabled e (worldOf job) (job .output)) (done (z .1) (run-cause job))
+      ∙ ap (λ (f : Bool). walked f (worldOf job) (itemsIn (worldOf job)) (job .output)) (tells-fits (walkLength job) (job .output) .1 (z .2))
+    where
+      done : ((a : Answer) → Refused job a → ⊥) → (worldOf job .state .answer ≡ Done) ⊎ Refused job (worldOf job .state .answer) → isDone (worldOf job .state .answer) ≡ true
+      done n (inl d) = ap isDone d
+      done n (inr r) = absurd (n (worldOf job .state .answer) r)
+
+      passing : (b : Bool) → (b ≡ false → ⊥) → b ≡ true
+      passing true h = refl
+      passing false h = absurd (h refl)
+
+  run-held : TablesPast (job .quads) (job .splines) (worldOf job)
+  unfolding tablesOf
+  run-held =
+      let caps = capacitiesOf (job .quads) (job .splines) in
+      run-past caps (job .quads) (job .splines) (job .setting) (primitivesOf (job .state) (job .columns)) (world startState (job .quads) (job .splines)) (sound-start (job .quads) (job .splines))
+      (record { quads = quads-self 0 (job .quads); splines = splines-self 0 (job .splines) })
+
+  written-past : fitsOutput (walkLength job) (job .output) ≡ true → OutputPast (walkLength job) (job .output) (writeOutput (worldOf job .quads) (worldOf job .splines) (itemsIn (worldOf job)) (job .output))
+  unfolding writeOutput wordsOf pointsOf
+  written-past e =
+      let items = itemsIn (worldOf job) in
+      let n = walkLength job in
+      let q = worldOf job .quads in
+      let s = worldOf job .splines in
+      let short = passes (fitsOutput n (job .output)) (Short n (job .output)) (tells-fits n (job .output)) e in
+      record {
+        words = past-over n (job .output .words) _ (length-map items wordOf) (at-most n (length (job .output .words)) (λ h. short (words h)));
+        x = past-over n (job .output .x) _ (length-map (map (itemPointOf q s) items) _ ∙ length-map items (itemPointOf q s)) (at-most n (length (job .output .x)) (λ h. short (x h)));
+        y = past-over n (job .output .y) _ (length-map (map (itemPointOf q s) items) _ ∙ length-map items (itemPointOf q s)) (at-most n (length (job .output .y)) (λ h. short (y h)));
+        end = past-over n (job .output .end) _ (length-map (map (itemPointOf q s) items) _ ∙ length-map items (itemPointOf q s)) (at-most n (length (job .output .end)) (λ h. short (end h)));
+      }
+    where
+      at-most : (a b : ℕ) → (b < a → ⊥) → a ≤ b
+      at-most a b h = omega arith
+
+  past-held : PastCounts job (flatteningOf job)
+  unfolding flattenOf flattenDrawable tabled walked
+  past-held = first (drawableOf (job .state) (job .columns))
+    where
+      room : (f : Bool) → fitsOutput (walkLength job) (job .output) ≡ f → PastCounts job (walked f (worldOf job) (itemsIn (worldOf job)) (job .output))
+      room true e = record { quads = run-held .quads; splines = run-held .splines; output = written-past e }
+      room false e = record { quads = run-held .quads; splines = run-held .splines; output = output-self 0 (job .output) }
+
+      run : (e : Bool) → PastCounts job (tabled e (worldOf job) (job .output))
+      run true = room (fitsOutput (walkLength job) (job .output)) refl
+      run false = record { quads = run-held .quads; splines = run-held .splines; output = output-self 0 (job .output) }
+
+      first : (d : Bool) → PastCounts job (flattenDrawable d (job .setting) (job .state) (job .columns) (job .quads) (job .splines) (job .output))
+      first true = run (isDone (worldOf job .state .answer))
+      first false = record { quads = quads-self 0 (job .quads); splines = splines-self 0 (job .splines); output = output-self 0 (job .output) }
+
+pub tables-held : TablesHeld
+tables-held job = record { three = three-held job; five-to-eight = refused-held job; nine = nine-held job; past = past-held job }
 
 -- ---- 5 and its primitive
 abbrev isExcess : Primitive → Bool

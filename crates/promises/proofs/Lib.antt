@@ -13,6 +13,7 @@ pub mod Telling
 pub mod DrawingAnswers
 pub mod Refusing
 pub mod Refusals
+pub mod Past
 pub mod FlattenAnswers
 pub mod Settled
 pub mod ListingReading

@@ -22,8 +22,10 @@ use Rattle.store.specs.declared.StoreState.{StoreState}
 use Rattle.store.specs.Columns.{Columns, moveCommand, evenOf, lastCommandOf, usableOf}
 use Rattle.store.specs.Drawable.{storedOkOf, knownOf, totalUsesOf, drawableOf}
 use Rattle.store.specs.Drawing.{every, weightOkOf}
-use Rattle.tables.specs.Run.{World, world, pushOf, runOf}
-use Rattle.tables.proofs.Pushes.{pushed}
+use Rattle.primitives.specs.Splines.{splineEditOf}
+use Rattle.primitives.specs.Plan.{refusedOf, markedOf}
+use Rattle.tables.specs.Run.{World, world, applyOf, pushOf, runOf}
+use Rattle.tables.proofs.Pushes.{Pushed, kept, marked, lined, bent, pushed}
 use Rattle.tables.proofs.Sound.{Sound, sound-push}
 use Rattle.tables.proofs.Runs.{run-append, run-stop as run-stays}
 use Rattle.promises.specs.DrawingAnswers.{UnusableStore, uneven-y, uneven-weight, points-over, commands-over, Outside}
@@ -38,17 +40,37 @@ module _ (setting : Setting) (caps : Capacities) where
   unfolding runOf
   next-is p ps w h = ap (λ (b : Bool). runOf setting caps ps (cond b (pushOf setting caps p w) w)) h
 
-  -- a refused primitive gives the run's answer
-  pub refused-answer : (ps : List Primitive) (w : World) (a : Answer) → RefusedIn setting caps ps w a → runOf setting caps ps w .state .answer ≡ a
-  refused-answer ps w a R =
+  -- a run that is refused ends with the refused primitive
+  refused-run : (ps : List Primitive) (w : World) (a : Answer) (R : RefusedIn setting caps ps w a) → runOf setting caps ps w ≡ pushOf setting caps (R .primitive) (runOf setting caps (R .before) w)
+  refused-run ps w a R =
       let v = runOf setting caps (R .before) w in
-      let e = refuses-answer setting caps v (R .cause) in
-      ap (λ (x : World). x .state .answer)
-      (ap (λ (x : List Primitive). runOf setting caps x w) (R .split)
+      ap (λ (x : List Primitive). runOf setting caps x w) (R .split)
       ∙ run-append setting caps (R .before) (R .primitive ∷ R .after) w
       ∙ next-is (R .primitive) (R .after) v (R .pushed)
-      ∙ run-stays setting caps (R .after) (pushOf setting caps (R .primitive) v) (ap isDone e ∙ refuses-not-done (R .cause)))
-      ∙ e
+      ∙ run-stays setting caps (R .after) (pushOf setting caps (R .primitive) v) (ap isDone (refuses-answer setting caps v (R .cause)) ∙ refuses-not-done (R .cause))
+
+  -- it gives the run's answer
+  pub refused-answer : (ps : List Primitive) (w : World) (a : Answer) → RefusedIn setting caps ps w a → runOf setting caps ps w .state .answer ≡ a
+  refused-answer ps w a R = ap (λ (x : World). x .state .answer) (refused-run ps w a R) ∙ refuses-answer setting caps (runOf setting caps (R .before) w) (R .cause)
+
+  -- and keeps the counts and the tables
+  push-kept : (w : World) {b : Bool} {w' : World} → Pushed caps w b w' → isDone (w .state .answer) ≡ true → isDone (w' .state .answer) ≡ false → w' ≡ world (refusedOf (w .state) (w' .state .answer)) (w .quads) (w .splines)
+  unfolding refusedOf markedOf applyOf splineEditOf
+  push-kept w (kept answer) d h = refl
+  push-kept w marked d h = absurd (true≢false (sym d ∙ h))
+  push-kept w (lined true start end angle A) d h = absurd (true≢false h)
+  push-kept w (lined false start end angle A) d h = absurd (true≢false h)
+  push-kept w (bent true start end angle c row A B K fit e o) d h = absurd (true≢false h)
+  push-kept w (bent false start end angle c row A B K fit e o) d h = absurd (true≢false h)
+
+  pub refused-world : (ps : List Primitive) (w : World) (a : Answer) (R : RefusedIn setting caps ps w a)
+      → runOf setting caps ps w ≡ world (refusedOf (runOf setting caps (R .before) w .state) a) (runOf setting caps (R .before) w .quads) (runOf setting caps (R .before) w .splines)
+  refused-world ps w a R =
+      let v = runOf setting caps (R .before) w in
+      let e = refuses-answer setting caps v (R .cause) in
+      refused-run ps w a R
+      ∙ push-kept v (pushed setting caps v (R .primitive)) (R .pushed) (ap isDone e ∙ refuses-not-done (R .cause))
+      ∙ ap (λ (x : Answer). world (refusedOf (v .state) x) (v .quads) (v .splines)) e
 
   pub run-told : (ps : List Primitive) (w : World) → Sound caps w → isDone (w .state .answer) ≡ true → (runOf setting caps ps w .state .answer ≡ Done) ⊎ RefusedIn setting caps ps w (runOf setting caps ps w .state .answer)
   unfolding runOf

@@ -13,7 +13,7 @@ use Rattle.answer.specs.declared.Answer.the-variants.{Done, BadCoordinate, BadW
 use Rattle.store.specs.declared.StoreState.{StoreState}
 use Rattle.store.specs.declared.Call.{Call}
 use Rattle.store.specs.declared.Call.the-variants.{Move, Line, Quad, Cubic, RatQuad, RatCubic, Build}
-use Rattle.store.specs.Columns.{Columns, moveCommand, lastCommandOf}
+use Rattle.store.specs.Columns.{Columns, stateAt, moveCommand, lastCommandOf}
 use Rattle.store.specs.Closing.{unclosedOf}
 use Rattle.store.specs.Drawing.{coordinatesOf, weightsOf, drawOf, freshOf}
 
@@ -92,7 +92,7 @@ DrawingAnswers = (call : Call) (st : StoreState) (c : Columns) → DrawAnswers c
 abbrev pub RefusedKeeps : Type 0
 RefusedKeeps = (call : Call) (st : StoreState) (c : Columns) → drawOf call st c .answer ≢ Done → (drawOf call st c .state ≡ st) × (drawOf call st c .columns ≡ c)
 
--- ---- "The fresh call reads no old counts: it gives 3 for unequal columns and 4 for a length of 0"
+-- ---- "The fresh call reads no old counts: it gives 3 for unequal columns and 4 for a length of 0, then with counts and index 0."
 abbrev pub Uneven : Columns → Type 0
 Uneven c = (length (c .y) ≢ length (c .x)) ⊎ (length (c .weight) ≢ length (c .x))
 
@@ -103,7 +103,7 @@ pub record FreshAnswers (c : Columns) : Type 0 where
   pub three : (freshOf c .answer ≡ Unusable) ↔ Uneven c
   pub four : (freshOf c .answer ≡ StoreFull) ↔ ((¬ Uneven c) × NoLength c)
   pub zero : (freshOf c .answer ≡ Done) ↔ ((¬ Uneven c) × (¬ NoLength c))
-  pub keeps : freshOf c .answer ≢ Done → freshOf c .columns ≡ c
+  pub keeps : freshOf c .answer ≢ Done → (freshOf c .state ≡ stateAt 0 0 0) × (freshOf c .columns ≡ c)
 
 abbrev pub FreshAnswer : Type 0
 FreshAnswer = (c : Columns) → FreshAnswers c

@@ -1,5 +1,5 @@
 -- 01, "Numbered answers", of flattening: each answer, if and only if what 01 says of the drawing, of what was pushed before, and of the buffers. Assumes nothing.
-use Prim.Native.Nat.{ℕ, _-_, _≤_, _<_}
+use Prim.Native.Nat.{ℕ, _-_, _*_, _≤_, _<_}
 use mathlib.Core.Path.{_≡_}
 use mathlib.Core.Logic.{_⊎_, _≢_, _↔_}
 use mathlib.Core.Bool.{Bool, true}
@@ -28,11 +28,11 @@ use Rattle.primitives.specs.Splines.{opensOf, sumBefore}
 use Rattle.store.specs.declared.StoreState.{StoreState}
 use Rattle.store.specs.Columns.{Columns, moveCommand, cubicCommand}
 use Rattle.store.specs.Drawable.{totalUsesOf}
-use Rattle.tables.specs.Tables.{capacitiesOf, lastSplineOf}
+use Rattle.tables.specs.Tables.{QuadTable, SplineTable, capacitiesOf, lastSplineOf}
 use Rattle.tables.specs.Run.{World, world, runOf, startState}
 use Rattle.tables.specs.Commands.{cubicFrom, commandPrimitivesOf, primitivesOf, tablesOf}
 use Rattle.walk.specs.Walk.{Item, walkOf}
-use Rattle.flatten.specs.Flatten.{Output, Flattening}
+use Rattle.flatten.specs.Flatten.{Output, Flattening, flattened, flattening}
 use Rattle.promises.specs.DrawingAnswers.{UnusableStore, Outside}
 use Rattle.promises.specs.Accepted.{Job, flatteningOf}
 
@@ -130,6 +130,65 @@ pub record FlattenAnswers (job : Job) : Type 0 where
 abbrev pub FlatteningAnswers : Type 0
 FlatteningAnswers = (job : Job) → FlattenAnswers job
 
--- 1c. "A refused flattening writes no word and no point", and "On 3 no buffer is written and all counts are 0."
+-- ---- 1c. what a flattening leaves, on each answer
+-- "A refused flattening writes no word and no point"
 abbrev pub RefusedWritesNothing : Type 0
 RefusedWritesNothing = (job : Job) → flatteningOf job .result .answer ≢ Done → (flatteningOf job .output ≡ job .output) × (flatteningOf job .result .points ≡ 0)
+
+-- "every entry past the count is unchanged": from entry n on; and the column is as long as it was
+pub record Past {A : Type 0} (n : ℕ) (old new : List A) : Type 0 where
+  pub as-long : length new ≡ length old
+  pub entries : (i : ℕ) (d : A) → n ≤ i → getD new i d ≡ getD old i d
+
+-- n quads are counted; x, y and weight have three numbers for each
+pub record QuadsPast (n : ℕ) (old new : QuadTable) : Type 0 where
+  pub x : Past (3 * n) (old .x) (new .x)
+  pub y : Past (3 * n) (old .y) (new .y)
+  pub weight : Past (3 * n) (old .weight) (new .weight)
+  pub x0 : Past n (old .x0) (new .x0)
+  pub dx-recip : Past n (old .dx-recip) (new .dx-recip)
+  pub k0 : Past n (old .k0) (new .k0)
+  pub dk : Past n (old .dk) (new .dk)
+  pub curvatures-recip : Past n (old .curvatures-recip) (new .curvatures-recip)
+  pub partial-curvatures : Past n (old .partial-curvatures) (new .partial-curvatures)
+  pub partial-splines : Past n (old .partial-splines) (new .partial-splines)
+
+pub record SplinesPast (n : ℕ) (old new : SplineTable) : Type 0 where
+  pub curvature : Past n (old .curvature) (new .curvature)
+  pub p0x : Past n (old .p0x) (new .p0x)
+  pub p0y : Past n (old .p0y) (new .p0y)
+  pub p2x : Past n (old .p2x) (new .p2x)
+  pub p2y : Past n (old .p2y) (new .p2y)
+  pub contour : Past n (old .contour) (new .contour)
+
+pub record OutputPast (n : ℕ) (old new : Output) : Type 0 where
+  pub words : Past n (old .words) (new .words)
+  pub x : Past n (old .x) (new .x)
+  pub y : Past n (old .y) (new .y)
+  pub end : Past n (old .end) (new .end)
+
+pub record PastCounts (job : Job) (f : Flattening) : Type 0 where
+  pub quads : QuadsPast (f .result .quads) (job .quads) (f .quads)
+  pub splines : SplinesPast (f .result .splines) (job .splines) (f .splines)
+  pub output : OutputPast (f .result .points) (job .output) (f .output)
+
+-- a run of these primitives from the start
+abbrev pub runOver : Job → List Primitive → World
+runOver job ps = runOf (job .setting) (capacitiesOf (job .quads) (job .splines)) ps (world startState (job .quads) (job .splines))
+
+-- the counts and the tables of a run, with an answer; no point is counted, and words and outputs are as they were
+abbrev pub heldBy : Answer → World → Output → Flattening
+heldBy a w o = flattening (flattened a (w .state .splines) (w .state .quads) 0) (w .quads) (w .splines) o
+
+pub record Holds (job : Job) : Type 0 where
+  -- "On 3 no buffer is written and all counts are 0."
+  pub three : AnswerOf job Unusable → flatteningOf job ≡ flattening (flattened Unusable 0 0 0) (job .quads) (job .splines) (job .output)
+  -- "On 5 to 8 the tables hold all that was pushed before the refused primitive, pieces of its own cubic included."
+  pub five-to-eight : (a : Answer) (r : Refused job a) → AnswerOf job a → flatteningOf job ≡ heldBy a (runOver job (r .before)) (job .output)
+  -- "On 9 they are complete."
+  pub nine : AnswerOf job OutputShort → flatteningOf job ≡ heldBy OutputShort (runOver job (primitivesOf (job .state) (job .columns))) (job .output)
+  -- "entries past the count are unchanged, on every answer in the tables too"
+  pub past : PastCounts job (flatteningOf job)
+
+abbrev pub TablesHeld : Type 0
+TablesHeld = (job : Job) → Holds job
