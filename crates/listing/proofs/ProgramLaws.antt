@@ -45,19 +45,19 @@ module _ (st : StoreState) (c : Columns) (f : Flattening) (e : f ≡ flattenOf S
   unfolding flatReport
   flat-refused h = sym (ap (λ (b : Bool). flatReport b f) h) ∙ reported
 
-  flat-delivered : isDone (f .result .answer) ≡ true → Delivered f programOutput
+  flat-delivered : isDone (f .result .answer) ≡ true → Delivered Screen f programOutput
   flat-delivered h =
-      subst (λ (g : Flattening). Delivered g programOutput) (sym e)
+      subst (λ (g : Flattening). Delivered Screen g programOutput) (sym e)
       (flatten-done Screen st c programQuads programSplines programOutput (sym (ap (λ (g : Flattening). isDone (g .result .answer)) e) ∙ h))
 
   pub flat-few : isDone (f .result .answer) ≡ true → f .result .points ≤ 512
   unfolding programOutput
-  flat-few h = omega (arith, delivered-fit f programOutput (flat-delivered h), length-replicate {A = ℕ} 512 0)
+  flat-few h = omega (arith, delivered-fit Screen f programOutput (flat-delivered h), length-replicate {A = ℕ} 512 0)
 
   pub flat-reported : isDone (f .result .answer) ≡ true → said Done 0 (columnPoints 0 (f .result .points) (f .output .x) (f .output .y) (f .output .end)) ≡ flatOf st c
   unfolding flatReport
   flat-reported h =
-      ap (λ (ps : List Finished). said Done 0 ps) (delivered-points f programOutput (flat-delivered h))
+      ap (λ (ps : List Finished). said Done 0 ps) (delivered-points Screen f programOutput (flat-delivered h))
       ∙ sym (ap (λ (b : Bool). flatReport b f) h)
       ∙ reported
 

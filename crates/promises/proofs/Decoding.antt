@@ -40,9 +40,9 @@ few-splines : (job : Job) → capsOf job .splines ≤ indexLimit
 unfolding capacitiesOf
 few-splines job = splines-room (job .quads) (job .splines) .2
 
-pub job-packed : (job : Job) → All Packed (itemsIn (worldOf job))
+pub job-packed : (job : Job) → All Packed (itemsIn (job .setting) (worldOf job))
 unfolding walkOf
-job-packed job = walk-packed (capsOf job) (worldOf job) (job-sound job) (few-splines job) (worldOf job .state .splines) 0 0 (zero-add-le (worldOf job .state .splines))
+job-packed job = walk-packed (capsOf job) (worldOf job) (job-sound job) (few-splines job) (job .setting) (worldOf job .state .splines) 0 0 (zero-add-le (worldOf job .state .splines))
   where
     zero-add-le : (n : ℕ) → 0 + n ≤ n
     zero-add-le n = omega arith
@@ -53,12 +53,12 @@ unfolding wordsOf wordOf
 decode-items [] h = refl
 decode-items (i ∷ items) h = ap₂ (λ (c : PointCommand) (cs : List PointCommand). c ∷ cs) (command-back (i .command) (h .0)) (decode-items items (h .1))
 
-job-decoded : (job : Job) → decoded (wordsIn (finishedOf job)) ≡ map commandOf (walkIn (finishedOf job))
+job-decoded : (job : Job) → decoded (wordsIn (finishedOf job)) ≡ map commandOf (walkIn (job .setting) (finishedOf job))
 unfolding walked
-job-decoded job = ap decoded (words-are job) ∙ decode-items (itemsIn (worldOf job)) (job-packed job)
+job-decoded job = ap decoded (words-are job) ∙ decode-items (itemsIn (job .setting) (worldOf job)) (job-packed job)
 
 pub demand3a : Demand3a
-demand3a job h = subst (λ (f : Flattening). decoded (wordsIn f) ≡ map commandOf (walkIn f)) (sym (passed job h .result)) (job-decoded job)
+demand3a job h = subst (λ (f : Flattening). decoded (wordsIn f) ≡ map commandOf (walkIn (job .setting) f)) (sym (passed job h .result)) (job-decoded job)
 
 -- ---- 7FC00000
 packs-holds : (c : PointCommand) → Packs c → Holds c
@@ -78,7 +78,7 @@ words-not-nan (x ∷ items) h (suc i) l = words-not-nan items (h .1) i (le-of-su
 pub never-nan : NeverNan
 never-nan job h =
     subst (λ (f : Flattening). (i : ℕ) → i < length (wordsIn f) → getD (wordsIn f) i 0 ≢ 0x7fc0_0000) (sym (passed job h .result))
-    (subst (λ (ws : List ℕ). (i : ℕ) → i < length ws → getD ws i 0 ≢ 0x7fc0_0000) (sym (words-are job)) (words-not-nan (itemsIn (worldOf job)) (job-packed job)))
+    (subst (λ (ws : List ℕ). (i : ℕ) → i < length ws → getD ws i 0 ≢ 0x7fc0_0000) (sym (words-are job)) (words-not-nan (itemsIn (job .setting) (worldOf job)) (job-packed job)))
 
 -- ---- 3b
 cut-decoded : (words : List ℕ) (items : List Item) → decoded words ≡ map commandOf items → map decoded (piecesIn words) ≡ map (map commandOf) (cutAfter endsItem items)
@@ -92,14 +92,14 @@ unfolding walked walkOf
 job-pieces job =
     let w = worldOf job in
     let f = finishedOf job in
-    let e = cut-decoded (wordsIn f) (walkIn f) (job-decoded job) in
+    let e = cut-decoded (wordsIn f) (walkIn (job .setting) f) (job-decoded job) in
     record {
-      as-many = sym (length-map (piecesIn (wordsIn f)) decoded) ∙ ap length e ∙ length-map (cutAfter endsItem (walkIn f)) (map commandOf) ∙ pieces-count (w .quads) (w .splines) (w .state .splines) 0 0;
+      as-many = sym (length-map (piecesIn (wordsIn f)) decoded) ∙ ap length e ∙ length-map (cutAfter endsItem (walkIn (job .setting) f)) (map commandOf) ∙ pieces-count (w .quads) (w .splines) (job .setting) (w .state .splines) 0 0;
       each = λ k h.
-          let z = piece-at (w .quads) (w .splines) (λ (j c : ℕ). Unit {0}) (w .state .splines) 0 0 tt (λ j c l u. tt) k h in
+          let z = piece-at (w .quads) (w .splines) (job .setting) (λ (j c : ℕ). Unit {0}) (w .state .splines) 0 0 tt (λ j c l u. tt) k h in
           decoded-at (piecesIn (wordsIn f)) k
           ∙ ap (λ (x : List (List PointCommand)). getD x k []) e
-          ∙ List·getD-map (map commandOf) (cutAfter endsItem (walkIn f)) k []
+          ∙ List·getD-map (map commandOf) (cutAfter endsItem (walkIn (job .setting) f)) k []
           ∙ ap (map commandOf) (z .is)
           ∙ piece-commands (w .quads) (w .splines) (0 + k) (z .cursor)
           ∙ ap (pieceOf (w .splines)) (zero-add k);

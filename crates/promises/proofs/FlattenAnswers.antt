@@ -13,6 +13,7 @@ use lib.ListN.{length, length-map}
 use Rattle.answer.specs.declared.Answer.{Answer}
 use Rattle.answer.specs.declared.Answer.the-variants.{Done, Unusable, TooManyPieces, QuadsFull, SplinesFull, SumTooLarge, OutputShort}
 use Rattle.answer.specs.Number.{numberOf, isDone}
+use Rattle.point.specs.declared.Setting.{Setting}
 use Rattle.point.specs.declared.Point.{Point}
 use Rattle.primitives.specs.declared.Capacities.{Capacities}
 use Rattle.primitives.specs.declared.Cubic.{Cubic}
@@ -58,7 +59,7 @@ tells-fits n o =
     from (end h) = inr h
 
 -- ---- the causes give 5 to 8 and no other answer
-pub which : {caps : Capacities} {w : World} {p : Primitive} {a : Answer} → Refuses caps w p a → (5 ≤ numberOf a) × (numberOf a ≤ 8)
+pub which : {setting : Setting} {caps : Capacities} {w : World} {p : Primitive} {a : Answer} → Refuses setting caps w p a → (5 ≤ numberOf a) × (numberOf a ≤ 8)
 which too-many = (lit≤ tt, lit≤ tt)
 which (quads-full p0 p1 p2 C h) = (lit≤ tt, lit≤ tt)
 which (line-full p0 p1 o f) = (lit≤ tt, lit≤ tt)
@@ -84,11 +85,11 @@ module _ (job : Job) where
   unfolding flattenOf flattenDrawable tabled walked answerIn
   answer-is = first (drawableOf (job .state) (job .columns))
     where
-      room : (f : Bool) → walked f (worldOf job) (itemsIn (worldOf job)) (job .output) .result .answer ≡ cond f Done OutputShort
+      room : (f : Bool) → walked f (worldOf job) (itemsIn (job .setting) (worldOf job)) (job .output) .result .answer ≡ cond f Done OutputShort
       room true = refl
       room false = refl
 
-      run : (e : Bool) → tabled e (worldOf job) (job .output) .result .answer ≡ cond e (cond (fitsOutput (walkLength job) (job .output)) Done OutputShort) (worldOf job .state .answer)
+      run : (e : Bool) → tabled (job .setting) e (worldOf job) (job .output) .result .answer ≡ cond e (cond (fitsOutput (walkLength job) (job .output)) Done OutputShort) (worldOf job .state .answer)
       run true = room (fitsOutput (walkLength job) (job .output))
       run false = refl
 
@@ -189,11 +190,11 @@ refused-writes-nothing job h = first (drawableOf (job .state) (job .columns)) h
     Nothing : Flattening → Type 0
     Nothing f = (f .output ≡ job .output) × (f .result .points ≡ 0)
 
-    room : (f : Bool) → walked f (worldOf job) (itemsIn (worldOf job)) (job .output) .result .answer ≢ Done → Nothing (walked f (worldOf job) (itemsIn (worldOf job)) (job .output))
+    room : (f : Bool) → walked f (worldOf job) (itemsIn (job .setting) (worldOf job)) (job .output) .result .answer ≢ Done → Nothing (walked f (worldOf job) (itemsIn (job .setting) (worldOf job)) (job .output))
     room true h = absurd (h refl)
     room false h = (refl, refl)
 
-    run : (e : Bool) → tabled e (worldOf job) (job .output) .result .answer ≢ Done → Nothing (tabled e (worldOf job) (job .output))
+    run : (e : Bool) → tabled (job .setting) e (worldOf job) (job .output) .result .answer ≢ Done → Nothing (tabled (job .setting) e (worldOf job) (job .output))
     run true h = room (fitsOutput (walkLength job) (job .output)) h
     run false h = (refl, refl)
 
@@ -213,10 +214,10 @@ module _ (job : Job) where
   unfolding flattenOf flattenDrawable tabled tablesOf refusedOf
   refused-held a r h = first (drawableOf (job .state) (job .columns)) h
     where
-      run : tabled (isDone (worldOf job .state .answer)) (worldOf job) (job .output) ≡ heldBy a (runOver job (r .before)) (job .output)
+      run : tabled (job .setting) (isDone (worldOf job .state .answer)) (worldOf job) (job .output) ≡ heldBy a (runOver job (r .before)) (job .output)
       run =
-          ap (λ (e : Bool). tabled e (worldOf job) (job .output)) (ap isDone (cause-run job a r) ∙ refuses-not-done (r .cause))
-          ∙ ap (λ (w : World). tabled false w (job .output)) (refused-world (job .setting) (capacitiesOf (job .quads) (job .splines)) (primitivesOf (job .state) (job .columns)) (world startState (job .quads) (job .splines)) a r)
+          ap (λ (e : Bool). tabled (job .setting) e (worldOf job) (job .output)) (ap isDone (cause-run job a r) ∙ refuses-not-done (r .cause))
+          ∙ ap (λ (w : World). tabled (job .setting) false w (job .output)) (refused-world (job .setting) (capacitiesOf (job .quads) (job .splines)) (primitivesOf (job .state) (job .columns)) (world startState (job .quads) (job .splines)) a r)
 
       first : (d : Bool) → flattenDrawable d (job .setting) (job .state) (job .columns) (job .quads) (job .splines) (job .output) .result .answer ≡ a
           → flattenDrawable d (job .setting) (job .state) (job .columns) (job .quads) (job .splines) (job .output) ≡ heldBy a (runOver job (r .before)) (job .output)
@@ -228,8 +229,8 @@ module _ (job : Job) where
   nine-held h =
       let z = all-answers job .nine .0 h in
       ap (λ (d : Bool). flattenDrawable d (job .setting) (job .state) (job .columns) (job .quads) (job .splines) (job .output)) (passing (drawableOf (job .state) (job .columns)) (λ e. z .0 (tells-drawable (job .state) (job .columns) .0 e)))
-      ∙ ap (λ (e : Bool). tabled e (worldOf job) (job .output)) (done (z .1) (run-cause job))
-      ∙ ap (λ (f : Bool). walked f (worldOf job) (itemsIn (worldOf job)) (job .output)) (tells-fits (walkLength job) (job .output) .1 (z .2))
+      ∙ ap (λ (e : Bool). tabled (job .setting) e (worldOf job) (job .output)) (done (z .1) (run-cause job))
+      ∙ ap (λ (f : Bool). walked f (worldOf job) (itemsIn (job .setting) (worldOf job)) (job .output)) (tells-fits (walkLength job) (job .output) .1 (z .2))
     where
       done : ((a : Answer) → Refused job a → ⊥) → (worldOf job .state .answer ≡ Done) ⊎ Refused job (worldOf job .state .answer) → isDone (worldOf job .state .answer) ≡ true
       done n (inl d) = ap isDone d
@@ -246,10 +247,10 @@ module _ (job : Job) where
       run-past caps (job .quads) (job .splines) (job .setting) (primitivesOf (job .state) (job .columns)) (world startState (job .quads) (job .splines)) (sound-start (job .quads) (job .splines))
       (record { quads = quads-self 0 (job .quads); splines = splines-self 0 (job .splines) })
 
-  written-past : fitsOutput (walkLength job) (job .output) ≡ true → OutputPast (walkLength job) (job .output) (writeOutput (worldOf job .quads) (worldOf job .splines) (itemsIn (worldOf job)) (job .output))
+  written-past : fitsOutput (walkLength job) (job .output) ≡ true → OutputPast (walkLength job) (job .output) (writeOutput (worldOf job .quads) (worldOf job .splines) (itemsIn (job .setting) (worldOf job)) (job .output))
   unfolding writeOutput wordsOf pointsOf
   written-past e =
-      let items = itemsIn (worldOf job) in
+      let items = itemsIn (job .setting) (worldOf job) in
       let n = walkLength job in
       let q = worldOf job .quads in
       let s = worldOf job .splines in
@@ -268,11 +269,11 @@ module _ (job : Job) where
   unfolding flattenOf flattenDrawable tabled walked
   past-held = first (drawableOf (job .state) (job .columns))
     where
-      room : (f : Bool) → fitsOutput (walkLength job) (job .output) ≡ f → PastCounts job (walked f (worldOf job) (itemsIn (worldOf job)) (job .output))
+      room : (f : Bool) → fitsOutput (walkLength job) (job .output) ≡ f → PastCounts job (walked f (worldOf job) (itemsIn (job .setting) (worldOf job)) (job .output))
       room true e = record { quads = run-held .quads; splines = run-held .splines; output = written-past e }
       room false e = record { quads = run-held .quads; splines = run-held .splines; output = output-self 0 (job .output) }
 
-      run : (e : Bool) → PastCounts job (tabled e (worldOf job) (job .output))
+      run : (e : Bool) → PastCounts job (tabled (job .setting) e (worldOf job) (job .output))
       run true = room (fitsOutput (walkLength job) (job .output)) refl
       run false = record { quads = run-held .quads; splines = run-held .splines; output = output-self 0 (job .output) }
 

@@ -12,6 +12,7 @@ use lib.Ieee.Bits.{is-true}
 use Rattle.answer.specs.declared.Answer.{Answer}
 use Rattle.answer.specs.declared.Answer.the-variants.{Done, BadCoordinate, BadWeight, Unusable, StoreFull, TooManyPieces, QuadsFull, SplinesFull, SumTooLarge, OutputShort, BadText, InputTooLong}
 use Rattle.answer.specs.Number.{numberOf, isDone}
+use Rattle.point.specs.declared.Setting.{Setting}
 use Rattle.store.specs.Drawable.{drawableOf}
 use Rattle.tables.specs.Run.{World}
 use Rattle.tables.specs.Commands.{tablesOf}
@@ -23,12 +24,12 @@ use Rattle.promises.specs.Accepted.{Job, flatteningOf, Accepted, wordsIn
 abbrev pub worldOf : Job → World
 worldOf job = tablesOf (job .setting) (job .state) (job .columns) (job .quads) (job .splines)
 
-abbrev pub itemsIn : World → List Item
-itemsIn w = walkOf (w .quads) (w .splines) (w .state .splines)
+abbrev pub itemsIn : Setting → World → List Item
+itemsIn setting w = walkOf setting (w .quads) (w .splines) (w .state .splines)
 
 -- what an accepted drawing leaves
 abbrev pub finishedOf : Job → Flattening
-finishedOf job = walked true (worldOf job) (itemsIn (worldOf job)) (job .output)
+finishedOf job = walked true (worldOf job) (itemsIn (job .setting) (worldOf job)) (job .output)
 
 pub record Passed (job : Job) : Type 0 where
   pub drawable : drawableOf (job .state) (job .columns) ≡ true
@@ -48,12 +49,12 @@ passed job h = by-drawable (drawableOf (job .state) (job .columns)) refl h
     w : World
     w = worldOf job
 
-    by-room : (b : Bool) → walked b w (itemsIn w) (job .output) .result .answer ≡ Done → walked b w (itemsIn w) (job .output) ≡ finishedOf job
+    by-room : (b : Bool) → walked b w (itemsIn (job .setting) w) (job .output) .result .answer ≡ Done → walked b w (itemsIn (job .setting) w) (job .output) ≡ finishedOf job
     by-room true h = refl
     by-room false h = absurd (not-nine h)
 
-    by-done : (b : Bool) → isDone (w .state .answer) ≡ b → tabled b w (job .output) .result .answer ≡ Done → (isDone (w .state .answer) ≡ true) × (tabled b w (job .output) ≡ finishedOf job)
-    by-done true e h = (e, by-room (fitsOutput (length (itemsIn w)) (job .output)) h)
+    by-done : (b : Bool) → isDone (w .state .answer) ≡ b → tabled (job .setting) b w (job .output) .result .answer ≡ Done → (isDone (w .state .answer) ≡ true) × (tabled (job .setting) b w (job .output) ≡ finishedOf job)
+    by-done true e h = (e, by-room (fitsOutput (length (itemsIn (job .setting) w)) (job .output)) h)
     by-done false e h = absurd (true≢false (sym (ap isDone h) ∙ e))
 
     by-drawable : (b : Bool) → drawableOf (job .state) (job .columns) ≡ b → flattenDrawable b (job .setting) (job .state) (job .columns) (job .quads) (job .splines) (job .output) .result .answer ≡ Done → Passed job
@@ -63,6 +64,6 @@ passed job h = by-drawable (drawableOf (job .state) (job .columns)) refl h
     by-drawable false e h = absurd (not-three h)
 
 -- its words are the walk's
-pub words-are : (job : Job) → wordsIn (finishedOf job) ≡ wordsOf (itemsIn (worldOf job))
+pub words-are : (job : Job) → wordsIn (finishedOf job) ≡ wordsOf (itemsIn (job .setting) (worldOf job))
 unfolding walked writeOutput over wordsOf
-words-are job = take-at (wordsOf (itemsIn (worldOf job))) _ (length (itemsIn (worldOf job))) (length-map (itemsIn (worldOf job)) wordOf)
+words-are job = take-at (wordsOf (itemsIn (job .setting) (worldOf job))) _ (length (itemsIn (job .setting) (worldOf job))) (length-map (itemsIn (job .setting) (worldOf job)) wordOf)

@@ -16,7 +16,7 @@ use Rattle.point.specs.declared.Angle.{Angle}
 use Rattle.primitives.specs.declared.Three.{Three}
 use Rattle.primitives.specs.declared.QuadRow.{QuadRow}
 use Rattle.primitives.specs.declared.SplineEdit.{SplineEdit}
-use Rattle.primitives.specs.declared.Setting.{Setting}
+use Rattle.point.specs.declared.Setting.{Setting}
 use Rattle.primitives.specs.declared.Capacities.{Capacities}
 use Rattle.primitives.specs.declared.Primitive.{Primitive}
 use Rattle.primitives.specs.declared.State.{State}

@@ -88,10 +88,10 @@ module _ (setting : Setting) (caps : Capacities) where
             after = R .after;
             split = ap (λ (x : List Primitive). p ∷ x) (R .split);
             pushed = ap (λ (x : World). isDone (x .state .answer)) (next-is p (R .before) w D) ∙ R .pushed;
-            cause = subst (λ (x : World). Refuses caps x (R .primitive) a) (sym (next-is p (R .before) w D)) (R .cause);
+            cause = subst (λ (x : World). Refuses setting caps x (R .primitive) a) (sym (next-is p (R .before) w D)) (R .cause);
           }
 
-      go : (pushOf setting caps p w .state .answer ≡ Done) ⊎ Refuses caps w p (pushOf setting caps p w .state .answer)
+      go : (pushOf setting caps p w .state .answer ≡ Done) ⊎ Refuses setting caps w p (pushOf setting caps p w .state .answer)
           → (isDone (pushOf setting caps p w .state .answer) ≡ true → (runOf setting caps ps (pushOf setting caps p w) .state .answer ≡ Done) ⊎ RefusedIn setting caps ps (pushOf setting caps p w) (runOf setting caps ps (pushOf setting caps p w) .state .answer))
           → (runOf setting caps ps (pushOf setting caps p w) .state .answer ≡ Done) ⊎ RefusedIn setting caps (p ∷ ps) w (runOf setting caps ps (pushOf setting caps p w) .state .answer)
       go (inl e) f = elim (f (ap isDone e)) [ inl d ↦ inl d | inr R ↦ inr (later (runOf setting caps ps (pushOf setting caps p w) .state .answer) R) ]

@@ -44,11 +44,11 @@ module _ (setting : Setting) (caps : Capacities) (w : World) where
 
   -- ---- the tests, in order
   lineAnswer : WeightedPoint → WeightedPoint → Answer
-  lineAnswer p0 p1 = cond (opensAt w (legOf p0 p1) p0 && full) SplinesFull Done
+  lineAnswer p0 p1 = cond (opensAt setting w (legOf p0 p1) p0 && full) SplinesFull Done
 
   curveAnswer : WeightedPoint → WeightedPoint → WeightedPoint → Angle → Answer
   curveAnswer p0 p1 p2 a =
-      cond (leb (caps .quads) (w .state .quads)) QuadsFull (cond (opensAt w a p0 && full) SplinesFull (cond (not (le (sumWith w p0 p1 p2 a) limit32)) SumTooLarge Done))
+      cond (leb (caps .quads) (w .state .quads)) QuadsFull (cond (opensAt setting w a p0 && full) SplinesFull (cond (not (le (sumWith setting w p0 p1 p2 a) limit32)) SumTooLarge Done))
 
   quadAnswer : WeightedPoint → WeightedPoint → WeightedPoint → Angle → Angle → Answer
   quadAnswer p0 p1 p2 Missing Missing = w .state .answer
@@ -64,7 +64,7 @@ module _ (setting : Setting) (caps : Capacities) (w : World) where
 
   line-is : (p0 p1 : WeightedPoint) → applyOf (planLineOf setting caps (w .state) (lastOf w) (appliedOf p0) (appliedOf p1)) (w .quads) (w .splines) .state .answer ≡ lineAnswer p0 p1
   unfolding planLineOf applyOf splineEditOf refusedOf lineAnswer full
-  line-is p0 p1 = go (opensAt w (legOf p0 p1) p0) (leb (caps .splines) (w .state .splines))
+  line-is p0 p1 = go (opensAt setting w (legOf p0 p1) p0) (leb (caps .splines) (w .state .splines))
     where
       go : (o f : Bool)
           → applyOf (cond (o && f) (Keep (refusedOf (w .state) SplinesFull)) (Extend (splineEditOf o (w .state) (lastOf w) (appliedOf p0) (appliedOf p1) (sumBefore o (lastOf w)) (w .state .quads) (lineAngleOf setting (w .state .last) (legOf p0 p1))))) (w .quads) (w .splines) .state .answer
@@ -73,9 +73,9 @@ module _ (setting : Setting) (caps : Capacities) (w : World) where
       go true false = refl
       go false f = refl
 
-  curve-is : (p0 p1 p2 : WeightedPoint) (a b : Angle) → applyOf (planCurveOf caps (w .state) (lastOf w) p0 p1 p2 a b) (w .quads) (w .splines) .state .answer ≡ curveAnswer p0 p1 p2 a
+  curve-is : (p0 p1 p2 : WeightedPoint) (a b : Angle) → applyOf (planCurveOf setting caps (w .state) (lastOf w) p0 p1 p2 a b) (w .quads) (w .splines) .state .answer ≡ curveAnswer p0 p1 p2 a
   unfolding planCurveOf applyOf splineEditOf refusedOf curveAnswer full
-  curve-is p0 p1 p2 a b = go (leb (caps .quads) (w .state .quads)) (opensAt w a p0) (leb (caps .splines) (w .state .splines)) (le (sumWith w p0 p1 p2 a) limit32) (sumWith w p0 p1 p2 a) (w .state .quads)
+  curve-is p0 p1 p2 a b = go (leb (caps .quads) (w .state .quads)) (opensAt setting w a p0) (leb (caps .splines) (w .state .splines)) (le (sumWith setting w p0 p1 p2 a) limit32) (sumWith setting w p0 p1 p2 a) (w .state .quads)
     where
       edit : Bool → Float → SplineEdit
       edit o sum = splineEditOf o (w .state) (lastOf w) (appliedOf p0) (appliedOf p2) sum (w .state .quads + 1) b
@@ -111,25 +111,25 @@ module _ (setting : Setting) (caps : Capacities) (w : World) where
   leb-no : (a b : ℕ) → b < a → leb a b ≡ false
   leb-no a b h = is-false (leb a b) (lt→nleb a b h)
 
-  line-refused : (p0 p1 : WeightedPoint) → T (opensAt w (legOf p0 p1) p0) → caps .splines ≤ w .state .splines → lineAnswer p0 p1 ≡ SplinesFull
+  line-refused : (p0 p1 : WeightedPoint) → T (opensAt setting w (legOf p0 p1) p0) → caps .splines ≤ w .state .splines → lineAnswer p0 p1 ≡ SplinesFull
   unfolding lineAnswer full
-  line-refused p0 p1 o f = ap₂ (λ (x y : Bool). cond (x && y) SplinesFull Done) (is-true (opensAt w (legOf p0 p1) p0) o) (leb-yes (caps .splines) (w .state .splines) f)
+  line-refused p0 p1 o f = ap₂ (λ (x y : Bool). cond (x && y) SplinesFull Done) (is-true (opensAt setting w (legOf p0 p1) p0) o) (leb-yes (caps .splines) (w .state .splines) f)
 
   quads-refused : (p0 p1 p2 : WeightedPoint) (a : Angle) → caps .quads ≤ w .state .quads → curveAnswer p0 p1 p2 a ≡ QuadsFull
   unfolding curveAnswer
   quads-refused p0 p1 p2 a h =
-      ap (λ (x : Bool). cond x QuadsFull (cond (opensAt w a p0 && full) SplinesFull (cond (not (le (sumWith w p0 p1 p2 a) limit32)) SumTooLarge Done))) (leb-yes (caps .quads) (w .state .quads) h)
+      ap (λ (x : Bool). cond x QuadsFull (cond (opensAt setting w a p0 && full) SplinesFull (cond (not (le (sumWith setting w p0 p1 p2 a) limit32)) SumTooLarge Done))) (leb-yes (caps .quads) (w .state .quads) h)
 
   -- the two later tests, past the first
-  past-quads : (p0 p1 p2 : WeightedPoint) (a : Angle) → w .state .quads < caps .quads → curveAnswer p0 p1 p2 a ≡ cond (opensAt w a p0 && full) SplinesFull (cond (not (le (sumWith w p0 p1 p2 a) limit32)) SumTooLarge Done)
+  past-quads : (p0 p1 p2 : WeightedPoint) (a : Angle) → w .state .quads < caps .quads → curveAnswer p0 p1 p2 a ≡ cond (opensAt setting w a p0 && full) SplinesFull (cond (not (le (sumWith setting w p0 p1 p2 a) limit32)) SumTooLarge Done)
   unfolding curveAnswer
-  past-quads p0 p1 p2 a h = ap (λ (x : Bool). cond x QuadsFull (cond (opensAt w a p0 && full) SplinesFull (cond (not (le (sumWith w p0 p1 p2 a) limit32)) SumTooLarge Done))) (leb-no (caps .quads) (w .state .quads) h)
+  past-quads p0 p1 p2 a h = ap (λ (x : Bool). cond x QuadsFull (cond (opensAt setting w a p0 && full) SplinesFull (cond (not (le (sumWith setting w p0 p1 p2 a) limit32)) SumTooLarge Done))) (leb-no (caps .quads) (w .state .quads) h)
 
-  splines-refused : (p0 p1 p2 : WeightedPoint) (a : Angle) → w .state .quads < caps .quads → T (opensAt w a p0) → caps .splines ≤ w .state .splines → curveAnswer p0 p1 p2 a ≡ SplinesFull
+  splines-refused : (p0 p1 p2 : WeightedPoint) (a : Angle) → w .state .quads < caps .quads → T (opensAt setting w a p0) → caps .splines ≤ w .state .splines → curveAnswer p0 p1 p2 a ≡ SplinesFull
   unfolding full
   splines-refused p0 p1 p2 a h o f =
       past-quads p0 p1 p2 a h
-      ∙ ap₂ (λ (x y : Bool). cond (x && y) SplinesFull (cond (not (le (sumWith w p0 p1 p2 a) limit32)) SumTooLarge Done)) (is-true (opensAt w a p0) o) (leb-yes (caps .splines) (w .state .splines) f)
+      ∙ ap₂ (λ (x y : Bool). cond (x && y) SplinesFull (cond (not (le (sumWith setting w p0 p1 p2 a) limit32)) SumTooLarge Done)) (is-true (opensAt setting w a p0) o) (leb-yes (caps .splines) (w .state .splines) f)
 
   both-not : (o f : Bool) → (T o → f ≡ false) → o && f ≡ false
   both-not true f h = h tt
@@ -139,12 +139,12 @@ module _ (setting : Setting) (caps : Capacities) (w : World) where
   unfolding ofBits
   limit-number = tt
 
-  sum-refused : (p0 p1 p2 : WeightedPoint) (a : Angle) → w .state .quads < caps .quads → (T (opensAt w a p0) → w .state .splines < caps .splines) → T (lt limit32 (sumWith w p0 p1 p2 a)) → curveAnswer p0 p1 p2 a ≡ SumTooLarge
+  sum-refused : (p0 p1 p2 : WeightedPoint) (a : Angle) → w .state .quads < caps .quads → (T (opensAt setting w a p0) → w .state .splines < caps .splines) → T (lt limit32 (sumWith setting w p0 p1 p2 a)) → curveAnswer p0 p1 p2 a ≡ SumTooLarge
   unfolding full
   sum-refused p0 p1 p2 a h o f =
       past-quads p0 p1 p2 a h
-      ∙ ap₂ (λ (x y : Bool). cond x SplinesFull (cond (not y) SumTooLarge Done)) (both-not (opensAt w a p0) (leb (caps .splines) (w .state .splines)) (λ t. leb-no (caps .splines) (w .state .splines) (o t)))
-      (tells-under (sumWith w p0 p1 p2 a) limit32 limit-number .1 (inr f))
+      ∙ ap₂ (λ (x y : Bool). cond x SplinesFull (cond (not y) SumTooLarge Done)) (both-not (opensAt setting w a p0) (leb (caps .splines) (w .state .splines)) (λ t. leb-no (caps .splines) (w .state .splines) (o t)))
+      (tells-under (sumWith setting w p0 p1 p2 a) limit32 limit-number .1 (inr f))
 
   curved-answer : (p0 p1 p2 : WeightedPoint) (C : Curved p0 p1 p2) → pushAnswer (Quad p0 p1 p2) ≡ curveAnswer p0 p1 p2 (legOf p0 p1)
   unfolding pushAnswer quadAnswer
@@ -155,7 +155,7 @@ module _ (setting : Setting) (caps : Capacities) (w : World) where
   straight-answer p0 p1 p2 (first-missing b e f) = ap₂ (quadAnswer p0 p1 p2) e f
   straight-answer p0 p1 p2 (second-missing a e f) = ap₂ (quadAnswer p0 p1 p2) e f
 
-  cause-answer : {p : Primitive} {a : Answer} → Refuses caps w p a → pushAnswer p ≡ a
+  cause-answer : {p : Primitive} {a : Answer} → Refuses setting caps w p a → pushAnswer p ≡ a
   unfolding pushAnswer
   cause-answer too-many = refl
   cause-answer (quads-full p0 p1 p2 C h) = curved-answer p0 p1 p2 C ∙ quads-refused p0 p1 p2 (legOf p0 p1) h
@@ -164,13 +164,13 @@ module _ (setting : Setting) (caps : Capacities) (w : World) where
   cause-answer (curve-full p0 p1 p2 C h o f) = curved-answer p0 p1 p2 C ∙ splines-refused p0 p1 p2 (legOf p0 p1) h o f
   cause-answer (sum-over p0 p1 p2 C h o f) = curved-answer p0 p1 p2 C ∙ sum-refused p0 p1 p2 (legOf p0 p1) h o f
 
-  pub refuses-answer : {p : Primitive} {a : Answer} → Refuses caps w p a → pushOf setting caps p w .state .answer ≡ a
+  pub refuses-answer : {p : Primitive} {a : Answer} → Refuses setting caps w p a → pushOf setting caps p w .state .answer ≡ a
   refuses-answer {p} r = push-answer p ∙ cause-answer r
 
   -- ---- and an answer has its cause
-  line-told : (p0 p1 : WeightedPoint) → (lineAnswer p0 p1 ≡ Done) ⊎ (T (opensAt w (legOf p0 p1) p0) × (caps .splines ≤ w .state .splines) × (lineAnswer p0 p1 ≡ SplinesFull))
+  line-told : (p0 p1 : WeightedPoint) → (lineAnswer p0 p1 ≡ Done) ⊎ (T (opensAt setting w (legOf p0 p1) p0) × (caps .splines ≤ w .state .splines) × (lineAnswer p0 p1 ≡ SplinesFull))
   unfolding lineAnswer full
-  line-told p0 p1 = go (opensAt w (legOf p0 p1) p0) (leb (caps .splines) (w .state .splines)) (leb→le (caps .splines) (w .state .splines))
+  line-told p0 p1 = go (opensAt setting w (legOf p0 p1) p0) (leb (caps .splines) (w .state .splines)) (leb→le (caps .splines) (w .state .splines))
     where
       go : (o f : Bool) → (T f → caps .splines ≤ w .state .splines) → (cond (o && f) SplinesFull Done ≡ Done) ⊎ (T o × (caps .splines ≤ w .state .splines) × (cond (o && f) SplinesFull Done ≡ SplinesFull))
       go true true h = inr (tt, h tt, refl)
@@ -178,25 +178,25 @@ module _ (setting : Setting) (caps : Capacities) (w : World) where
       go false f h = inl refl
 
   Cause : WeightedPoint → WeightedPoint → WeightedPoint → Answer → Type 0
-  Cause p0 p1 p2 a = (a ≡ Done) ⊎ Refuses caps w (Quad p0 p1 p2) a
+  Cause p0 p1 p2 a = (a ≡ Done) ⊎ Refuses setting caps w (Quad p0 p1 p2) a
 
   straight-told : (p0 p1 p2 : WeightedPoint) → Straight p0 p1 p2 → Cause p0 p1 p2 (lineAnswer p0 p2)
   unfolding Cause
-  straight-told p0 p1 p2 C = elim (line-told p0 p2) [ inl e ↦ inl e | inr z ↦ inr (subst (Refuses caps w (Quad p0 p1 p2)) (sym (z .2)) (straight-full p0 p1 p2 C (z .0) (z .1))) ]
+  straight-told p0 p1 p2 C = elim (line-told p0 p2) [ inl e ↦ inl e | inr z ↦ inr (subst (Refuses setting caps w (Quad p0 p1 p2)) (sym (z .2)) (straight-full p0 p1 p2 C (z .0) (z .1))) ]
 
-  curve-told : (p0 p1 p2 : WeightedPoint) → Curved p0 p1 p2 → (sumWith w p0 p1 p2 (legOf p0 p1) ≡ nan → ⊥) → Cause p0 p1 p2 (curveAnswer p0 p1 p2 (legOf p0 p1))
+  curve-told : (p0 p1 p2 : WeightedPoint) → Curved p0 p1 p2 → (sumWith setting w p0 p1 p2 (legOf p0 p1) ≡ nan → ⊥) → Cause p0 p1 p2 (curveAnswer p0 p1 p2 (legOf p0 p1))
   unfolding curveAnswer full Cause
   curve-told p0 p1 p2 C n =
-      go (leb (caps .quads) (w .state .quads)) (opensAt w (legOf p0 p1) p0) (leb (caps .splines) (w .state .splines)) (le (sumWith w p0 p1 p2 (legOf p0 p1)) limit32)
-      (leb→le (caps .quads) (w .state .quads)) (nleb→lt (caps .quads) (w .state .quads)) (λ t. t) (λ t. t) (leb→le (caps .splines) (w .state .splines)) (nleb→lt (caps .splines) (w .state .splines)) (tells-under (sumWith w p0 p1 p2 (legOf p0 p1)) limit32 limit-number .0)
+      go (leb (caps .quads) (w .state .quads)) (opensAt setting w (legOf p0 p1) p0) (leb (caps .splines) (w .state .splines)) (le (sumWith setting w p0 p1 p2 (legOf p0 p1)) limit32)
+      (leb→le (caps .quads) (w .state .quads)) (nleb→lt (caps .quads) (w .state .quads)) (λ t. t) (λ t. t) (leb→le (caps .splines) (w .state .splines)) (nleb→lt (caps .splines) (w .state .splines)) (tells-under (sumWith setting w p0 p1 p2 (legOf p0 p1)) limit32 limit-number .0)
     where
-      over : (sumWith w p0 p1 p2 (legOf p0 p1) ≡ nan) ⊎ T (lt limit32 (sumWith w p0 p1 p2 (legOf p0 p1))) → T (lt limit32 (sumWith w p0 p1 p2 (legOf p0 p1)))
+      over : (sumWith setting w p0 p1 p2 (legOf p0 p1) ≡ nan) ⊎ T (lt limit32 (sumWith setting w p0 p1 p2 (legOf p0 p1))) → T (lt limit32 (sumWith setting w p0 p1 p2 (legOf p0 p1)))
       over (inl e) = absurd (n e)
       over (inr t) = t
 
-      go : (q o f l : Bool) → (T q → caps .quads ≤ w .state .quads) → (T (not q) → w .state .quads < caps .quads) → (T o → T (opensAt w (legOf p0 p1) p0)) → (T (opensAt w (legOf p0 p1) p0) → T o) → (T f → caps .splines ≤ w .state .splines)
-          → (T (not f) → w .state .splines < caps .splines) → (l ≡ false → (sumWith w p0 p1 p2 (legOf p0 p1) ≡ nan) ⊎ T (lt limit32 (sumWith w p0 p1 p2 (legOf p0 p1))))
-          → (cond q QuadsFull (cond (o && f) SplinesFull (cond (not l) SumTooLarge Done)) ≡ Done) ⊎ Refuses caps w (Quad p0 p1 p2) (cond q QuadsFull (cond (o && f) SplinesFull (cond (not l) SumTooLarge Done)))
+      go : (q o f l : Bool) → (T q → caps .quads ≤ w .state .quads) → (T (not q) → w .state .quads < caps .quads) → (T o → T (opensAt setting w (legOf p0 p1) p0)) → (T (opensAt setting w (legOf p0 p1) p0) → T o) → (T f → caps .splines ≤ w .state .splines)
+          → (T (not f) → w .state .splines < caps .splines) → (l ≡ false → (sumWith setting w p0 p1 p2 (legOf p0 p1) ≡ nan) ⊎ T (lt limit32 (sumWith setting w p0 p1 p2 (legOf p0 p1))))
+          → (cond q QuadsFull (cond (o && f) SplinesFull (cond (not l) SumTooLarge Done)) ≡ Done) ⊎ Refuses setting caps w (Quad p0 p1 p2) (cond q QuadsFull (cond (o && f) SplinesFull (cond (not l) SumTooLarge Done)))
       go true o f l a b c k d e h = inr (quads-full p0 p1 p2 C (a tt))
       go false true true l a b c k d e h = inr (curve-full p0 p1 p2 C (b tt) (c tt) (d tt))
       go false true false true a b c k d e h = inl refl
@@ -209,11 +209,11 @@ module _ (setting : Setting) (caps : Capacities) (w : World) where
   first-false false b c h = refl
 
   module _ (S : Sound caps w) (D : w .state .answer ≡ Done) where
-    sum-is-number : (p0 p1 p2 : WeightedPoint) (a : Angle) → sumWith w p0 p1 p2 a ≡ nan → ⊥
+    sum-is-number : (p0 p1 p2 : WeightedPoint) (a : Angle) → sumWith setting w p0 p1 p2 a ≡ nan → ⊥
     unfolding opensOf
     sum-is-number p0 p1 p2 a =
-        let z = sum-before caps w S (opensAt w a p0) (λ e. first-false (w .state .mark) _ _ e) in
-        sum-number (sumBefore (opensAt w a p0) (lastOf w)) (curveOf (appliedOf p0) (appliedOf p1) (appliedOf p2) .curvature) (z .0) (z .1) (curve-bent (appliedOf p0) (appliedOf p1) (appliedOf p2))
+        let z = sum-before caps w S (opensAt setting w a p0) (λ e. first-false (w .state .mark) _ _ e) in
+        sum-number (sumBefore (opensAt setting w a p0) (lastOf w)) (curveOf (appliedOf p0) (appliedOf p1) (appliedOf p2) .curvature) (z .0) (z .1) (curve-bent (appliedOf p0) (appliedOf p1) (appliedOf p2))
 
     quad-told : (p0 p1 p2 : WeightedPoint) (a b : Angle) → legOf p0 p1 ≡ a → legOf p1 p2 ≡ b → Cause p0 p1 p2 (quadAnswer p0 p1 p2 a b)
     unfolding quadAnswer Cause
@@ -224,18 +224,18 @@ module _ (setting : Setting) (caps : Capacities) (w : World) where
         subst (λ (x : Angle). Cause p0 p1 p2 (curveAnswer p0 p1 p2 x)) e
         (curve-told p0 p1 p2 (record { first = a; second = b; first-leg = e; second-leg = f }) (sum-is-number p0 p1 p2 (legOf p0 p1)))
 
-    told : (p : Primitive) → (pushAnswer p ≡ Done) ⊎ Refuses caps w p (pushAnswer p)
+    told : (p : Primitive) → (pushAnswer p ≡ Done) ⊎ Refuses setting caps w p (pushAnswer p)
     unfolding pushAnswer Cause
     told Contour = inl D
-    told (Line p0 p1) = elim (line-told p0 p1) [ inl e ↦ inl e | inr z ↦ inr (subst (Refuses caps w (Line p0 p1)) (sym (z .2)) (line-full p0 p1 (z .0) (z .1))) ]
+    told (Line p0 p1) = elim (line-told p0 p1) [ inl e ↦ inl e | inr z ↦ inr (subst (Refuses setting caps w (Line p0 p1)) (sym (z .2)) (line-full p0 p1 (z .0) (z .1))) ]
     told (Quad p0 p1 p2) = quad-told p0 p1 p2 (legOf p0 p1) (legOf p1 p2) refl refl
     told Excess = inr too-many
 
-    pub push-told : (p : Primitive) → (pushOf setting caps p w .state .answer ≡ Done) ⊎ Refuses caps w p (pushOf setting caps p w .state .answer)
-    push-told p = subst (λ (a : Answer). (a ≡ Done) ⊎ Refuses caps w p a) (sym (push-answer p)) (told p)
+    pub push-told : (p : Primitive) → (pushOf setting caps p w .state .answer ≡ Done) ⊎ Refuses setting caps w p (pushOf setting caps p w .state .answer)
+    push-told p = subst (λ (a : Answer). (a ≡ Done) ⊎ Refuses setting caps w p a) (sym (push-answer p)) (told p)
 
 -- no cause gives Done
-pub refuses-not-done : {caps : Capacities} {w : World} {p : Primitive} {a : Answer} → Refuses caps w p a → isDone a ≡ false
+pub refuses-not-done : {setting : Setting} {caps : Capacities} {w : World} {p : Primitive} {a : Answer} → Refuses setting caps w p a → isDone a ≡ false
 refuses-not-done too-many = refl
 refuses-not-done (quads-full p0 p1 p2 C h) = refl
 refuses-not-done (line-full p0 p1 o f) = refl

@@ -19,6 +19,7 @@ use Rattle.answer.specs.declared.Answer.the-variants.{Done}
 use Rattle.leaves.specs.Single.{zero32}
 use Rattle.leaves.specs.Whole.{wholeUpOf}
 use Rattle.command.specs.declared.PointCommand.the-variants.{Start, Incr, End}
+use Rattle.point.specs.declared.Setting.{Setting}
 use Rattle.primitives.specs.declared.Capacities.{Capacities}
 use Rattle.tables.specs.Tables.{QuadTable, SplineTable, splineAt}
 use Rattle.tables.specs.Run.{World}
@@ -57,7 +58,7 @@ spline-steps P q s k c h =
     start true = ((λ t. absurd t), tt)
     start false = tt
 
-module _ (caps : Capacities) (w : World) (S : Sound caps w) (points : ℕ) (o : Output) where
+module _ (setting : Setting) (caps : Capacities) (w : World) (S : Sound caps w) (points : ℕ) (o : Output) where
   -- what is left of the run's tables and the walk
   abbrev left : Flattening
   left = flattening (flattened Done (w .state .splines) (w .state .quads) points) (w .quads) (w .splines) o
@@ -159,17 +160,17 @@ module _ (caps : Capacities) (w : World) (S : Sound caps w) (points : ℕ) (o : 
       up h = omega arith
 
   piece : (inv : ℕ → ℕ → Type 0) → inv 0 0 → ((k c : ℕ) → k < w .state .splines → inv k c → inv (suc k) (cursorAfter (w .quads) (w .splines) k c)) → (k : ℕ) → k < w .state .splines
-      → Piece (w .quads) (w .splines) inv (cutAfter (λ (i : Item). isEnd (i .command)) (walkIn left)) k k
+      → Piece (w .quads) (w .splines) inv (cutAfter (λ (i : Item). isEnd (i .command)) (walkIn setting left)) k k
   unfolding walkOf
   piece inv first next k h =
-      subst (Piece (w .quads) (w .splines) inv (cutAfter (λ (i : Item). isEnd (i .command)) (walkIn left)) k) (zero-add k)
-      (piece-at (w .quads) (w .splines) inv (w .state .splines) 0 0 first (λ j c l u. next j c (lt-of-lt-of-le l (le-of-eq (zero-add (w .state .splines)))) u) k h)
+      subst (Piece (w .quads) (w .splines) inv (cutAfter (λ (i : Item). isEnd (i .command)) (walkIn setting left)) k) (zero-add k)
+      (piece-at (w .quads) (w .splines) setting inv (w .state .splines) 0 0 first (λ j c l u. next j c (lt-of-lt-of-le l (le-of-eq (zero-add (w .state .splines)))) u) k h)
 
-  early-piece : (k : ℕ) → k < w .state .splines → Piece (w .quads) (w .splines) Early (cutAfter (λ (i : Item). isEnd (i .command)) (walkIn left)) k k
+  early-piece : (k : ℕ) → k < w .state .splines → Piece (w .quads) (w .splines) Early (cutAfter (λ (i : Item). isEnd (i .command)) (walkIn setting left)) k k
   unfolding Early
   early-piece k h = piece Early zero-le stays-early k h
 
-  pub not-after : (k : ℕ) (i : Item) → StepOf left k i → NotAfterLast left k i
+  pub not-after : (k : ℕ) (i : Item) → StepOf setting left k i → NotAfterLast left k i
   unfolding Early total
   not-after k i T = elim (span-total (w .quads) (total k) (S .cut k) (S .cut (suc k)) k (S .span k h)) [
     | inl e ↦
@@ -192,7 +193,7 @@ module _ (caps : Capacities) (w : World) (S : Sound caps w) (points : ℕ) (o : 
       h : k < w .state .splines
       h = T .spline
 
-      z : Piece (w .quads) (w .splines) Early (cutAfter (λ (i : Item). isEnd (i .command)) (walkIn left)) k k
+      z : Piece (w .quads) (w .splines) Early (cutAfter (λ (i : Item). isEnd (i .command)) (walkIn setting left)) k k
       z = early-piece k h
 
       member : List·Memᴰ i (splineItemsOf (w .quads) (w .splines) k (z .cursor))
@@ -228,11 +229,11 @@ module _ (caps : Capacities) (w : World) (S : Sound caps w) (points : ℕ) (o : 
           ∙ L .next
     ]
 
-    exact-piece : (k : ℕ) → k < w .state .splines → Piece (w .quads) (w .splines) exactly (cutAfter (λ (i : Item). isEnd (i .command)) (walkIn left)) k k
+    exact-piece : (k : ℕ) → k < w .state .splines → Piece (w .quads) (w .splines) exactly (cutAfter (λ (i : Item). isEnd (i .command)) (walkIn setting left)) k k
     unfolding exactly
     exact-piece k h = piece exactly (sym (S .first)) stays-exact k h
 
-    step-stays : (k : ℕ) (i : Item) → StepOf left k i → (i .quad < w .state .quads) × (splineOfQuad left (i .quad) ≡ k)
+    step-stays : (k : ℕ) (i : Item) → StepOf setting left k i → (i .quad < w .state .quads) × (splineOfQuad left (i .quad) ≡ k)
     unfolding exactly total
     step-stays k i T = elim (span-total (w .quads) (total k) (S .cut k) (S .cut (suc k)) k (S .span k h)) [
       | inl e ↦
@@ -257,7 +258,7 @@ module _ (caps : Capacities) (w : World) (S : Sound caps w) (points : ℕ) (o : 
         h : k < w .state .splines
         h = T .spline
 
-        z : Piece (w .quads) (w .splines) exactly (cutAfter (λ (i : Item). isEnd (i .command)) (walkIn left)) k k
+        z : Piece (w .quads) (w .splines) exactly (cutAfter (λ (i : Item). isEnd (i .command)) (walkIn setting left)) k k
         z = exact-piece k h
 
         member : List·Memᴰ i (splineItemsOf (w .quads) (w .splines) k (z .cursor))
@@ -267,7 +268,7 @@ module _ (caps : Capacities) (w : World) (S : Sound caps w) (points : ℕ) (o : 
     unfolding splineItemsOf
     in-items k c i m = Memᴰ·append-right (cond (startsOf (w .splines) k) (item (Start k) 0 0 ∷ []) []) (Memᴰ·append-left (item (End k (splineAt (w .splines) k .contour)) 0 0 ∷ []) m)
 
-    quad-stepped : (quad : ℕ) → quad < w .state .quads → QuadHasStep left quad
+    quad-stepped : (quad : ℕ) → quad < w .state .quads → QuadHasStep setting left quad
     unfolding exactly total
     quad-stepped quad l = go (span-total (w .quads) (total k) (S .cut k) (S .cut (suc k)) k (S .span k h))
       where
@@ -280,7 +281,7 @@ module _ (caps : Capacities) (w : World) (S : Sound caps w) (points : ℕ) (o : 
         h : k < w .state .splines
         h = H .inside
 
-        z : Piece (w .quads) (w .splines) exactly (cutAfter (λ (i : Item). isEnd (i .command)) (walkIn left)) k k
+        z : Piece (w .quads) (w .splines) exactly (cutAfter (λ (i : Item). isEnd (i .command)) (walkIn setting left)) k k
         z = exact-piece k h
 
         m : ℕ
@@ -295,7 +296,7 @@ module _ (caps : Capacities) (w : World) (S : Sound caps w) (points : ℕ) (o : 
         upto : (i a hi : ℕ) → suc a ≡ hi → i < hi → i ≤ a
         upto i a hi e b = omega arith
 
-        go : ((S .cut k ≡ S .cut (suc k)) × (total k ≡ zero32)) ⊎ LastOf (w .quads) (total k) (S .cut k) (S .cut (suc k)) → QuadHasStep left quad
+        go : ((S .cut k ≡ S .cut (suc k)) × (total k ≡ zero32)) ⊎ LastOf (w .quads) (total k) (S .cut k) (S .cut (suc k)) → QuadHasStep setting left quad
         go (inl e) = absurd (empty (S .cut k) (S .cut (suc k)) quad (e .0) (H .low) (H .high))
         go (inr L) =
             let r = span-to k h L in
@@ -317,18 +318,18 @@ module _ (caps : Capacities) (w : World) (S : Sound caps w) (points : ℕ) (o : 
               uses = falls-once (w .quads) (total k) (S .cut k) (L .at) k m r (L .inside) s u (R .step) (A .quad) quad (A .falls) (R .falls);
             }
 
-    pub no-stray : NoStray left
+    pub no-stray : NoStray setting left
     no-stray = record { has-step = quad-stepped; stays = step-stays }
 
 -- ---- of an accepted drawing
 pub demand3e : Demand3e
 unfolding walked
 demand3e job h k i =
-    subst (λ (f : Flattening). StepOf f k i → NotAfterLast f k i) (sym (passed job h .result))
-    (not-after (capsOf job) (worldOf job) (job-sound job) (finishedOf job .result .points) (finishedOf job .output) k i)
+    subst (λ (f : Flattening). StepOf (job .setting) f k i → NotAfterLast f k i) (sym (passed job h .result))
+    (not-after (job .setting) (capsOf job) (worldOf job) (job-sound job) (finishedOf job .result .points) (finishedOf job .output) k i)
 
 pub demand3f : Demand3f
 unfolding walked
 demand3f job h =
-    subst (λ (f : Flattening). Spread f → NoStray f) (sym (passed job h .result))
-    (no-stray (capsOf job) (worldOf job) (job-sound job) (finishedOf job .result .points) (finishedOf job .output))
+    subst (λ (f : Flattening). Spread f → NoStray (job .setting) f) (sym (passed job h .result))
+    (no-stray (job .setting) (capsOf job) (worldOf job) (job-sound job) (finishedOf job .result .points) (finishedOf job .output))

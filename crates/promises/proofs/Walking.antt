@@ -19,6 +19,7 @@ use Rattle.command.specs.declared.PointCommand.{PointCommand}
 use Rattle.command.specs.declared.PointCommand.the-variants.{Start, Incr, End}
 use Rattle.command.specs.Packing.{indexLimit}
 use Rattle.command.proofs.Laws.{Packs}
+use Rattle.point.specs.declared.Setting.{Setting}
 use Rattle.primitives.specs.declared.Capacities.{Capacities}
 use Rattle.tables.specs.Tables.{QuadTable, SplineTable, splineAt}
 use Rattle.tables.specs.Run.{World}
@@ -74,11 +75,11 @@ module _ (q : QuadTable) (s : SplineTable) where
       ∙ ap (λ (x : List Item). x ∷ cutAfter endsItem rest) (sym (items-are k cursor))
 
   -- ---- n splines from k on
-  pub pieces-count : (n k cursor : ℕ) → length (cutAfter endsItem (walkFrom q s n k cursor)) ≡ n
+  pub pieces-count : (setting : Setting) (n k cursor : ℕ) → length (cutAfter endsItem (walkFrom setting q s n k cursor)) ≡ n
   unfolding walkFrom cutAfter
-  pieces-count zero k cursor = refl
-  pieces-count (suc n) k cursor =
-      ap length (cut-spline k cursor (walkFrom q s n (k + 1) (cursorAfter q s k cursor))) ∙ ap suc (pieces-count n (k + 1) (cursorAfter q s k cursor))
+  pieces-count setting zero k cursor = refl
+  pieces-count setting (suc n) k cursor =
+      ap length (cut-spline k cursor (walkFrom setting q s n (k + 1) (cursorAfter q s k cursor))) ∙ ap suc (pieces-count setting n (k + 1) (cursorAfter q s k cursor))
 
   -- piece i is spline k + i's, with a cursor for which holds what is true at first and kept by each spline
   pub record Piece (inv : ℕ → ℕ → Type 0) (pieces : List (List Item)) (i k : ℕ) : Type 0 where
@@ -86,25 +87,25 @@ module _ (q : QuadTable) (s : SplineTable) where
     pub is : getD pieces i [] ≡ splineItemsOf q s k cursor
     pub holds : inv k cursor
 
-  pub piece-at : (inv : ℕ → ℕ → Type 0) (n k cursor : ℕ) → inv k cursor → ((j c : ℕ) → j < k + n → inv j c → inv (suc j) (cursorAfter q s j c)) → (i : ℕ) → i < n
-      → Piece inv (cutAfter endsItem (walkFrom q s n k cursor)) i (k + i)
+  pub piece-at : (setting : Setting) (inv : ℕ → ℕ → Type 0) (n k cursor : ℕ) → inv k cursor → ((j c : ℕ) → j < k + n → inv j c → inv (suc j) (cursorAfter q s j c)) → (i : ℕ) → i < n
+      → Piece inv (cutAfter endsItem (walkFrom setting q s n k cursor)) i (k + i)
   unfolding walkFrom
-  piece-at inv zero k cursor h step i l = absurd (not-suc-le-zero l)
-  piece-at inv (suc n) k cursor h step zero l =
+  piece-at setting inv zero k cursor h step i l = absurd (not-suc-le-zero l)
+  piece-at setting inv (suc n) k cursor h step zero l =
       record {
         cursor = cursor;
-        is = ap (λ (x : List (List Item)). getD x 0 []) (cut-spline k cursor (walkFrom q s n (k + 1) (cursorAfter q s k cursor))) ∙ ap (λ (x : ℕ). splineItemsOf q s x cursor) (plain k);
+        is = ap (λ (x : List (List Item)). getD x 0 []) (cut-spline k cursor (walkFrom setting q s n (k + 1) (cursorAfter q s k cursor))) ∙ ap (λ (x : ℕ). splineItemsOf q s x cursor) (plain k);
         holds = subst (λ (x : ℕ). inv x cursor) (plain k) h;
       }
     where
       plain : (k : ℕ) → k ≡ k + 0
       plain k = omega arith
-  piece-at inv (suc n) k cursor h step (suc i) l =
+  piece-at setting inv (suc n) k cursor h step (suc i) l =
       let c = cursorAfter q s k cursor in
-      let z = piece-at inv n (k + 1) c (subst (λ (x : ℕ). inv x c) (one k) (step k cursor (far k n) h)) (λ j d m. step j d (lt-of-lt-of-le m (le-of-eq (shift k n)))) i (le-of-suc-le-suc l) in
+      let z = piece-at setting inv n (k + 1) c (subst (λ (x : ℕ). inv x c) (one k) (step k cursor (far k n) h)) (λ j d m. step j d (lt-of-lt-of-le m (le-of-eq (shift k n)))) i (le-of-suc-le-suc l) in
       record {
         cursor = z .cursor;
-        is = ap (λ (x : List (List Item)). getD x (suc i) []) (cut-spline k cursor (walkFrom q s n (k + 1) c)) ∙ z .is ∙ ap (λ (x : ℕ). splineItemsOf q s x (z .cursor)) (shift k i);
+        is = ap (λ (x : List (List Item)). getD x (suc i) []) (cut-spline k cursor (walkFrom setting q s n (k + 1) c)) ∙ z .is ∙ ap (λ (x : ℕ). splineItemsOf q s x (z .cursor)) (shift k i);
         holds = subst (λ (x : ℕ). inv x (z .cursor)) (shift k i) (z .holds);
       }
     where
@@ -173,12 +174,12 @@ module _ (caps : Capacities) (w : World) (S : Sound caps w) (limit : caps .splin
       start true = (index k h, tt)
       start false = tt
 
-  pub walk-packed : (n k cursor : ℕ) → k + n ≤ w .state .splines → All Packed (walkFrom (w .quads) (w .splines) n k cursor)
+  pub walk-packed : (setting : Setting) (n k cursor : ℕ) → k + n ≤ w .state .splines → All Packed (walkFrom setting (w .quads) (w .splines) n k cursor)
   unfolding walkFrom
-  walk-packed zero k cursor h = tt
-  walk-packed (suc n) k cursor h =
+  walk-packed setting zero k cursor h = tt
+  walk-packed setting (suc n) k cursor h =
       all-append Packed (splineItemsOf (w .quads) (w .splines) k cursor) _ (spline-packed k cursor (le-trans (far k n) h))
-      (walk-packed n (k + 1) (cursorAfter (w .quads) (w .splines) k cursor) (le-trans (le-of-eq (shift k n)) h))
+      (walk-packed setting n (k + 1) (cursorAfter (w .quads) (w .splines) k cursor) (le-trans (le-of-eq (shift k n)) h))
     where
       far : (k n : ℕ) → k < k + suc n
       far k n = omega arith

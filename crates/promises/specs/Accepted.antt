@@ -38,8 +38,8 @@ abbrev pub wordsIn : Flattening → List ℕ
 wordsIn f = take (f .result .points) (f .output .words)
 
 -- 01's walk over the tables that it leaves
-abbrev pub walkIn : Flattening → List Item
-walkIn f = walkOf (f .quads) (f .splines) (f .result .splines)
+abbrev pub walkIn : Setting → Flattening → List Item
+walkIn setting f = walkOf setting (f .quads) (f .splines) (f .result .splines)
 
 -- ---- contours: "the splines opened between two Moves of the command list"
 abbrev pub commandAt : Job → ℕ → ℕ

@@ -9,6 +9,7 @@ use lib.Ieee.{Float, nan}
 use lib.Ieee.Positive.{num, den}
 use lib.ListN.{length, getD}
 use Rattle.command.specs.declared.PointCommand.{PointCommand}
+use Rattle.point.specs.declared.Setting.{Setting}
 use Rattle.tables.specs.Tables.{QuadTable, SplineTable, splineAt}
 use Rattle.walk.specs.Walk.{Item, startsOf, stepSizeOf}
 use Rattle.flatten.specs.Flatten.{Flattening}
@@ -17,7 +18,7 @@ use Rattle.promises.specs.Accepted.{Job, flatteningOf, Accepted, wordsIn
 
 -- 3a. "the packed words alone tell every Start, step size and End": decoded, they are the walk's commands
 abbrev pub Demand3a : Type 0
-Demand3a = (job : Job) → Accepted job → decoded (wordsIn (flatteningOf job)) ≡ map (λ (i : Item). i .command) (walkIn (flatteningOf job))
+Demand3a = (job : Job) → Accepted job → decoded (wordsIn (flatteningOf job)) ≡ map (λ (i : Item). i .command) (walkIn (job .setting) (flatteningOf job))
 
 -- "The word 0x7FC00000 decodes to Start 0 but is never written."
 abbrev pub NeverNan : Type 0
@@ -58,13 +59,13 @@ abbrev pub Demand3d : Type 0
 Demand3d = (job job' : Job) → Accepted job → Accepted job' → wordsIn (flatteningOf job) ≡ wordsIn (flatteningOf job') → SameWalk job job'
 
 -- ---- the quads that steps use. The walk is cut after each End too, so that piece k has the steps of spline k
-abbrev pub itemsOf : Flattening → ℕ → List Item
-itemsOf f k = getD (cutAfter (λ (i : Item). isEnd (i .command)) (walkIn f)) k []
+abbrev pub itemsOf : Setting → Flattening → ℕ → List Item
+itemsOf setting f k = getD (cutAfter (λ (i : Item). isEnd (i .command)) (walkIn setting f)) k []
 
 -- i is a step of spline k
-pub record StepOf (f : Flattening) (k : ℕ) (i : Item) : Type 0 where
+pub record StepOf (setting : Setting) (f : Flattening) (k : ℕ) (i : Item) : Type 0 where
   pub spline : k < f .result .splines
-  pub member : List·Memᴰ i (itemsOf f k)
+  pub member : List·Memᴰ i (itemsOf setting f k)
   pub step : T (isStep (i .command))
 
 -- "a quad's spline is its number in the quad table"
@@ -87,7 +88,7 @@ pub record NotAfterLast (f : Flattening) (k : ℕ) (i : Item) : Type 0 where
   pub not-after : i .quad ≤ last
 
 abbrev pub Demand3e : Type 0
-Demand3e = (job : Job) → Accepted job → (k : ℕ) (i : Item) → StepOf (flatteningOf job) k i → NotAfterLast (flatteningOf job) k i
+Demand3e = (job : Job) → Accepted job → (k : ℕ) (i : Item) → StepOf (job .setting) (flatteningOf job) k i → NotAfterLast (flatteningOf job) k i
 
 -- p lies strictly between x and y: a finite x that is not negative is num x / den x
 pub record Between (x y : Float) : Type 0 where
@@ -100,15 +101,15 @@ abbrev pub Spread : Flattening → Type 0
 Spread f = (k i : ℕ) → LastQuad f k (suc i) → splineOfQuad f i ≡ k → Between (sumOfQuad f i) (sumOfQuad f (suc i))
 
 -- 3f. "If" so, "each quad in the quad table gets a step and no step strays to another spline."
-pub record QuadHasStep (f : Flattening) (quad : ℕ) : Type 0 where
+pub record QuadHasStep (setting : Setting) (f : Flattening) (quad : ℕ) : Type 0 where
   pub spline : ℕ
   pub item : Item
-  pub is-step : StepOf f spline item
+  pub is-step : StepOf setting f spline item
   pub uses : item .quad ≡ quad
 
-pub record NoStray (f : Flattening) : Type 0 where
-  pub has-step : (quad : ℕ) → quad < f .result .quads → QuadHasStep f quad
-  pub stays : (k : ℕ) (i : Item) → StepOf f k i → (i .quad < f .result .quads) × (splineOfQuad f (i .quad) ≡ k)
+pub record NoStray (setting : Setting) (f : Flattening) : Type 0 where
+  pub has-step : (quad : ℕ) → quad < f .result .quads → QuadHasStep setting f quad
+  pub stays : (k : ℕ) (i : Item) → StepOf setting f k i → (i .quad < f .result .quads) × (splineOfQuad f (i .quad) ≡ k)
 
 abbrev pub Demand3f : Type 0
-Demand3f = (job : Job) → Accepted job → Spread (flatteningOf job) → NoStray (flatteningOf job)
+Demand3f = (job : Job) → Accepted job → Spread (flatteningOf job) → NoStray (job .setting) (flatteningOf job)

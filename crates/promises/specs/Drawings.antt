@@ -22,7 +22,7 @@ along from to = Straight (plain (pointAt from zero32)) (plain (pointAt to zero32
 unfoldable pub wordsAlong : List Primitive → List ℕ
 wordsAlong ps =
     let w = runOf Screen (capacitiesOf (emptyQuads 8) (emptySplines 8)) ps (world startState (emptyQuads 8) (emptySplines 8)) in
-    wordsOf (walkOf (w .quads) (w .splines) (w .state .splines))
+    wordsOf (walkOf Screen (w .quads) (w .splines) (w .state .splines))
 
 -- from 0 to 10, and on from start to 20
 abbrev pub gapTo : Float → List Primitive

@@ -66,7 +66,7 @@ joinedSplines =
 
 -- the quad of each item: Start, two steps, End, a step, End
 unfoldable pub joinedCursors : List ℕ
-joinedCursors = map (λ i. i .quad) (walkOf joinedQuads joinedSplines 2)
+joinedCursors = map (λ i. i .quad) (walkOf Screen joinedQuads joinedSplines 2)
 
 pub record Example : Type 0 where
   pub given : List ℕ

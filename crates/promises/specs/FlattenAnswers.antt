@@ -64,28 +64,28 @@ pub data Straight (p0 p1 p2 : WeightedPoint) : Type 0 where
   second-missing : (a : Float) → legOf p0 p1 ≡ Known a → legOf p1 p2 ≡ Missing → Straight p0 p1 p2
 
 -- 01's rule when a primitive opens a spline, of one that begins at p0 with this angle
-abbrev pub opensAt : World → Angle → WeightedPoint → Bool
-opensAt w angle p0 = opensOf (w .state) (lastSplineOf (w .splines) (w .state .splines)) angle (appliedOf p0)
+abbrev pub opensAt : Setting → World → Angle → WeightedPoint → Bool
+opensAt setting w angle p0 = opensOf setting (w .state) (lastSplineOf (w .splines) (w .state .splines)) angle (appliedOf p0)
 
 -- the spline's running sum, as rounded, with this quad
-abbrev pub sumWith : World → WeightedPoint → WeightedPoint → WeightedPoint → Angle → Float
-sumWith w p0 p1 p2 angle =
-    sumBefore (opensAt w angle p0) (lastSplineOf (w .splines) (w .state .splines)) ⊕ curveOf (appliedOf p0) (appliedOf p1) (appliedOf p2) .curvature
+abbrev pub sumWith : Setting → World → WeightedPoint → WeightedPoint → WeightedPoint → Angle → Float
+sumWith setting w p0 p1 p2 angle =
+    sumBefore (opensAt setting w angle p0) (lastSplineOf (w .splines) (w .state .splines)) ⊕ curveOf (appliedOf p0) (appliedOf p1) (appliedOf p2) .curvature
 
 -- "each primitive tests 5, 6, 7, 8, as far as it would store there": 7 only where a spline is opened, 6 and 8 only for a quad that is curved
-pub data Refuses (caps : Capacities) (w : World) : Primitive → Answer → Type 0 where
+pub data Refuses (setting : Setting) (caps : Capacities) (w : World) : Primitive → Answer → Type 0 where
   -- "a cubic needs over 1,024 pieces": such a cubic is this primitive
-  too-many : Refuses caps w Excess TooManyPieces
+  too-many : Refuses setting caps w Excess TooManyPieces
   -- "the quad table is full"
-  quads-full : (p0 p1 p2 : WeightedPoint) → Curved p0 p1 p2 → caps .quads ≤ w .state .quads → Refuses caps w (Quad p0 p1 p2) QuadsFull
+  quads-full : (p0 p1 p2 : WeightedPoint) → Curved p0 p1 p2 → caps .quads ≤ w .state .quads → Refuses setting caps w (Quad p0 p1 p2) QuadsFull
   -- "the spline table is full, or holds 4,194,304", which its capacity counts in
-  line-full : (p0 p1 : WeightedPoint) → T (opensAt w (legOf p0 p1) p0) → caps .splines ≤ w .state .splines → Refuses caps w (Line p0 p1) SplinesFull
-  straight-full : (p0 p1 p2 : WeightedPoint) → Straight p0 p1 p2 → T (opensAt w (legOf p0 p2) p0) → caps .splines ≤ w .state .splines → Refuses caps w (Quad p0 p1 p2) SplinesFull
-  curve-full : (p0 p1 p2 : WeightedPoint) → Curved p0 p1 p2 → w .state .quads < caps .quads → T (opensAt w (legOf p0 p1) p0) → caps .splines ≤ w .state .splines
-      → Refuses caps w (Quad p0 p1 p2) SplinesFull
+  line-full : (p0 p1 : WeightedPoint) → T (opensAt setting w (legOf p0 p1) p0) → caps .splines ≤ w .state .splines → Refuses setting caps w (Line p0 p1) SplinesFull
+  straight-full : (p0 p1 p2 : WeightedPoint) → Straight p0 p1 p2 → T (opensAt setting w (legOf p0 p2) p0) → caps .splines ≤ w .state .splines → Refuses setting caps w (Quad p0 p1 p2) SplinesFull
+  curve-full : (p0 p1 p2 : WeightedPoint) → Curved p0 p1 p2 → w .state .quads < caps .quads → T (opensAt setting w (legOf p0 p1) p0) → caps .splines ≤ w .state .splines
+      → Refuses setting caps w (Quad p0 p1 p2) SplinesFull
   -- "a spline's running sum, as rounded, would pass 65,536"
-  sum-over : (p0 p1 p2 : WeightedPoint) → Curved p0 p1 p2 → w .state .quads < caps .quads → (T (opensAt w (legOf p0 p1) p0) → w .state .splines < caps .splines)
-      → T (lt limit32 (sumWith w p0 p1 p2 (legOf p0 p1))) → Refuses caps w (Quad p0 p1 p2) SumTooLarge
+  sum-over : (p0 p1 p2 : WeightedPoint) → Curved p0 p1 p2 → w .state .quads < caps .quads → (T (opensAt setting w (legOf p0 p1) p0) → w .state .splines < caps .splines)
+      → T (lt limit32 (sumWith setting w p0 p1 p2 (legOf p0 p1))) → Refuses setting caps w (Quad p0 p1 p2) SumTooLarge
 
 -- the primitive that stands for a cubic of over 1,024 pieces stands for nothing else: command k, of which j points are used up before
 abbrev pub ExcessIs : Type 0
@@ -98,7 +98,7 @@ pub record RefusedIn (setting : Setting) (caps : Capacities) (ps : List Primitiv
   pub after : List Primitive
   pub split : ps ≡ before ++ (primitive ∷ after)
   pub pushed : isDone (runOf setting caps before w .state .answer) ≡ true
-  pub cause : Refuses caps (runOf setting caps before w) primitive a
+  pub cause : Refuses setting caps (runOf setting caps before w) primitive a
 
 abbrev pub Refused : Job → Answer → Type 0
 Refused job a =
@@ -106,7 +106,7 @@ Refused job a =
 
 -- ---- 9: "words or outputs are shorter than the walk", the one over the complete tables
 abbrev pub walkLength : Job → ℕ
-walkLength job = let w = tablesOf (job .setting) (job .state) (job .columns) (job .quads) (job .splines) in length (walkOf (w .quads) (w .splines) (w .state .splines))
+walkLength job = let w = tablesOf (job .setting) (job .state) (job .columns) (job .quads) (job .splines) in length (walkOf (job .setting) (w .quads) (w .splines) (w .state .splines))
 
 pub data Short (n : ℕ) (o : Output) : Type 0 where
   words : length (o .words) < n → Short n o

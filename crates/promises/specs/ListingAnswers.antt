@@ -10,7 +10,7 @@ use lib.ListN.{length}
 use Rattle.answer.specs.declared.Answer.{Answer}
 use Rattle.answer.specs.declared.Answer.the-variants.{Done, BadCoordinate, BadWeight, Unusable, StoreFull, TooManyPieces, QuadsFull, SplinesFull, SumTooLarge, OutputShort, BadText, InputTooLong}
 use Rattle.answer.specs.Number.{isDone}
-use Rattle.primitives.specs.declared.Setting.the-variants.{Screen}
+use Rattle.point.specs.declared.Setting.the-variants.{Screen}
 use Rattle.store.specs.declared.Call.{Call}
 use Rattle.store.specs.declared.Call.the-variants.{Build}
 use Rattle.store.specs.Drawing.{Outcome, drawOf, freshOf}
@@ -91,7 +91,7 @@ pub record Flattens (text : List ℕ) (a : Answer) : Type 0 where
 
 -- the points of 01's walk over the tables that a flattening leaves
 abbrev pub pointsIn : Flattening → List Finished
-pointsIn f = pointsOf (f .quads) (f .splines) (walkIn f)
+pointsIn f = pointsOf (f .quads) (f .splines) (walkIn Screen f)
 
 -- ---- "Numbered answers: No, Given when", of the program, each with its line
 abbrev pub Short : List ℕ → Type 0
