@@ -1,19 +1,18 @@
 -- What the contracts settle: two outcomes that satisfy one equation are equal, and so are their parts. Assumes nothing.
-use Prim.Native.Nat.{ℕ}
+use Prim.Native.Nat.{ℕ, _+_, _≤_, _<_}
 use mathlib.Core.Path.{_≡_, refl, sym, ap, _∙_, subst}
 use mathlib.Core.Logic.{_⊎_, inl, inr}
+use mathlib.Core.Bool.{Bool, true, false, cond}
+use mathlib.Core.List.{List, _++_}
+use native.Mathlib.Nat.{zero-add, le-of-eq, le-trans}
+use lib.Dec.{leb, le→leb}
+use lib.Arith.{lt→nleb}
 use lib.Ieee.{nan}
-use lib.ListN.{getD}
+use lib.Ieee.Bits.{is-true, is-false}
+use lib.ListN.{length, getD, drop}
+use lib.Seq.{sets, sets-eq}
 use Rattle.answer.specs.declared.Answer.{Answer}
-use Rattle.primitives.specs.declared.State.{State}
-use Rattle.store.specs.declared.StoreState.{StoreState}
 use Rattle.store.specs.Columns.{Columns}
-use Rattle.store.specs.Drawing.{Outcome, outcome, drawOf, freshOf}
-use Rattle.tables.specs.Tables.{QuadTable, SplineTable}
-use Rattle.tables.specs.Run.{World, world}
-use Rattle.tables.specs.Commands.{tablesOf}
-use Rattle.flatten.specs.declared.Flattened.{Flattened}
-use Rattle.flatten.specs.Flatten.{Output, Flattening, flattening, flattenOf}
 use Rattle.point.specs.Point.{pointAt}
 use Rattle.listing.specs.declared.Pair as Pairs
 use Rattle.listing.specs.declared.Pair.the-variants as Pair
@@ -23,70 +22,79 @@ use Rattle.listing.specs.declared.ThreePoints.{ThreePoints}
 use Rattle.listing.specs.declared.ThreePoints.the-variants as Three
 use Rattle.listing.specs.declared.Progress as Progresses
 use Rattle.listing.specs.declared.Progress.the-variants as Progressing
+use Rattle.listing.specs.declared.Listed.{Listed}
+use Rattle.listing.specs.declared.Listed.the-variants.{Bytes, Short}
 use Rattle.listing.specs.Reading.{Fields, read, wrong, pairFields, twoPointsFields, threePointsFields, Progress, going, finished, stopped, progressOf}
+use Rattle.listing.specs.Writing.{Listing, listed, listedAs}
 use Rattle.listing.specs.Program.{listingOf}
-use Rattle.promises.specs.Settled.{ValueSettled, ResultAndListSettled, StoreColumns, held, TableColumns, heldQuads, heldSplines, OutputColumns, heldOutput, StoreSettled, DrawSettled, FreshSettled, TablesSettled, FillSettled, FlattenSettled, PairSettled, TwoPointsSettled, ThreePointsSettled, HasStopped, has-stopped, ReadSettled, ListingSettled}
+use Rattle.promises.specs.Settled.{Settles, ValueSettled, ResultAndKeptSettled, ColumnsSettled, QuadsSettled, SplinesSettled, OutputSettled, DrawnSettled, TablesSettled, DeliveredSettled, FlattenSettled, ReplySettled, FlatReplySettled, ListingSettled, Lists, ListingLists, PairSettled, TwoPointsSettled, ThreePointsSettled, HasStopped, has-stopped, ReadSettled}
+
+-- a form settles where its parts can be told from what it puts together
+told : {A D : Type 0} (form : A → D) (back : D → A) → ((a : A) → back (form a) ≡ a) → Settles form
+told form back same d parts parts' h k = sym (same parts) ∙ ap back (h ∙ sym k) ∙ same parts'
 
 pub value-settled : ValueSettled
 value-settled A d r r' h k = h ∙ sym k
 
-pub result-and-list-settled : ResultAndListSettled
-result-and-list-settled A B d r r' e kept kept' h k = (h .0 ∙ sym (k .0), h .1 ∙ sym (k .1))
+pub result-and-kept-settled : ResultAndKeptSettled
+result-and-kept-settled A B d r r' e kept kept' h k = (h .0 ∙ sym (k .0), h .1 ∙ sym (k .1))
 
--- ---- the columns, back from the records that the definitions have
-store-back : Columns → StoreColumns
-store-back c = record { x = c .x; y = c .y; weight = c .weight; commands = c .commands }
+pub columns-settled : ColumnsSettled
+columns-settled = told _ (λ c. (c .x, c .y, c .weight, c .commands)) (λ a. refl)
 
-tables-back : QuadTable → SplineTable → TableColumns
-tables-back q s =
-    record {
-      x = q .x;
-      y = q .y;
-      weight = q .weight;
-      x0 = q .x0;
-      dx-recip = q .dx-recip;
-      k0 = q .k0;
-      dk = q .dk;
-      curvatures-recip = q .curvatures-recip;
-      partial-curvatures = q .partial-curvatures;
-      partial-splines = q .partial-splines;
-      curvature = s .curvature;
-      p0x = s .p0x;
-      p0y = s .p0y;
-      p2x = s .p2x;
-      p2y = s .p2y;
-      contour = s .contour;
-    }
+pub quads-settled : QuadsSettled
+quads-settled =
+    told _ (λ q. (q .x, q .y, q .weight, q .x0, q .dx-recip, q .k0, q .dk, q .curvatures-recip, q .partial-curvatures, q .partial-splines)) (λ a. refl)
 
-output-back : Output → OutputColumns
-output-back o = record { words = o .words; x = o .x; y = o .y; end = o .end }
+pub splines-settled : SplinesSettled
+splines-settled = told _ (λ s. (s .curvature, s .p0x, s .p0y, s .p2x, s .p2y, s .contour)) (λ a. refl)
 
-pub store-settled : StoreSettled
-unfolding store-back
-store-settled d a a' s s' c c' h k =
-    let e : outcome a s (held c) ≡ outcome a' s' (held c') = h ∙ sym k in
-    (ap (λ (o : Outcome). o .answer) e, ap (λ (o : Outcome). o .state) e, ap (λ (o : Outcome). store-back (o .columns)) e)
+pub output-settled : OutputSettled
+output-settled = told _ (λ o. (o .words, o .x, o .y, o .end)) (λ a. refl)
 
-pub draw-settled : DrawSettled
-draw-settled call st given = store-settled (drawOf call st given)
-
-pub fresh-settled : FreshSettled
-fresh-settled given = store-settled (freshOf given)
+pub drawn-settled : DrawnSettled
+drawn-settled = told _ (λ o. (o .answer, o .state, o .columns)) (λ a. refl)
 
 pub tables-settled : TablesSettled
-unfolding tables-back
-tables-settled d st st' t t' h k =
-    let e : world st (heldQuads t) (heldSplines t) ≡ world st' (heldQuads t') (heldSplines t') = h ∙ sym k in
-    (ap (λ (w : World). w .state) e, ap (λ (w : World). tables-back (w .quads) (w .splines)) e)
+tables-settled = told _ (λ w. (w .state, w .quads, w .splines)) (λ a. refl)
 
-pub fill-settled : FillSettled
-fill-settled setting store c q s = tables-settled (tablesOf setting store c q s)
+pub delivered-settled : DeliveredSettled
+delivered-settled = told _ (λ o. (o .result .fits, o .result .points, o .output)) (λ a. refl)
 
 pub flatten-settled : FlattenSettled
-unfolding tables-back output-back
-flatten-settled setting store c q s given r r' t t' o o' h k =
-    let e : flattening r (heldQuads t) (heldSplines t) (heldOutput o) ≡ flattening r' (heldQuads t') (heldSplines t') (heldOutput o') = h ∙ sym k in
-    (ap (λ (f : Flattening). f .result) e, ap (λ (f : Flattening). tables-back (f .quads) (f .splines)) e, ap (λ (f : Flattening). output-back (f .output)) e)
+flatten-settled = told _ (λ f. (f .result, f .quads, f .splines, f .output)) (λ a. refl)
+
+pub reply-settled : ReplySettled
+reply-settled = told _ (λ o. (o .answer, o .state .points, o .state .commands, o .state .opening, o .columns)) (λ a. refl)
+
+pub flat-reply-settled : FlatReplySettled
+flat-reply-settled = told _ (λ f. (f .answer, f .splines, f .quads, f .points, f .quadTable, f .splineTable, f .output)) (λ a. refl)
+
+-- ---- the program's listing
+pub listing-settled : ListingSettled
+listing-settled = told _ (λ l. (l .result, l .output)) (λ a. refl)
+
+lists : (text given left : List ℕ) (r : Listed) → listed r left ≡ listedAs text given → Lists text given r left
+unfolding listedAs
+lists text given left r h =
+    record {
+      short = λ l. parts Short given (h ∙ ap chosen (is-false (leb (length text) (length given)) (lt→nleb (length text) (length given) l)));
+      fits = λ l. parts (Bytes (length text)) (text ++ drop (length text) given)
+          (h ∙ ap chosen (is-true (leb (length text) (length given)) (le→leb (length text) (length given) l)) ∙ ap (listed (Bytes (length text))) (written l));
+    }
+  where
+    chosen : Bool → Listing
+    chosen b = cond b (listed (Bytes (length text)) (sets given 0 text)) (listed Short given)
+
+    parts : (r' : Listed) (left' : List ℕ) → listed r left ≡ listed r' left' → (r ≡ r') × (left ≡ left')
+    parts r' left' e = (ap (λ (l : Listing). l .result) e, ap (λ (l : Listing). l .output) e)
+
+    written : length text ≤ length given → sets given 0 text ≡ text ++ drop (length text) given
+    written l =
+        sets-eq text given 0 (le-trans (le-of-eq (zero-add (length text))) l) ∙ ap (λ (n : ℕ). text ++ drop n given) (zero-add (length text))
+
+pub listing-lists : ListingLists
+listing-lists input given left r = lists (listingOf input) given left r
 
 -- ---- the fields, back from the values that were read
 pair-back : Fields → Pairs.Pair
@@ -117,13 +125,13 @@ three-same (Three.Read p1 p2 p3) end line = refl
 three-same (Three.Wrong l) end line = refl
 
 pub pair-settled : PairSettled
-pair-settled d end line r r' h k = sym (pair-same r end line) ∙ ap pair-back (h ∙ sym k) ∙ pair-same r' end line
+pair-settled end line = told _ pair-back (λ r. pair-same r end line)
 
 pub two-points-settled : TwoPointsSettled
-two-points-settled d end line r r' h k = sym (two-same r end line) ∙ ap two-back (h ∙ sym k) ∙ two-same r' end line
+two-points-settled end line = told _ two-back (λ r. two-same r end line)
 
 pub three-points-settled : ThreePointsSettled
-three-points-settled d end line r r' h k = sym (three-same r end line) ∙ ap three-back (h ∙ sym k) ∙ three-same r' end line
+three-points-settled end line = told _ three-back (λ r. three-same r end line)
 
 -- ---- the reading
 read-back : Progress → Progresses.Progress
@@ -138,26 +146,23 @@ read-same (Progressing.Finished state) c = refl
 read-same (Progressing.Stopped a line) c = refl
 
 -- what the columns hold, or where none are told, others
-columns-back : StoreColumns → Progress → StoreColumns
-columns-back c (going at line o) = store-back (o .columns)
-columns-back c (finished o) = store-back (o .columns)
+columns-back : Columns → Progress → Columns
+columns-back c (going at line o) = o .columns
+columns-back c (finished o) = o .columns
 columns-back c (stopped a line) = c
 
-columns-told : (r : Progresses.Progress) (c other : StoreColumns) → HasStopped (progressOf r (held c)) ⊎ (columns-back other (progressOf r (held c)) ≡ c)
-unfolding columns-back store-back
+columns-told : (r : Progresses.Progress) (c other : Columns) → HasStopped (progressOf r c) ⊎ (columns-back other (progressOf r c) ≡ c)
+unfolding columns-back
 columns-told (Progressing.Going state at line) c other = inr refl
 columns-told (Progressing.Finished state) c other = inr refl
 columns-told (Progressing.Stopped a line) c other = inl (has-stopped a line)
 
 pub read-settled : ReadSettled
 read-settled d r r' c c' h k =
-    let e : progressOf r (held c) ≡ progressOf r' (held c') = h ∙ sym k in (
-      sym (read-same r (held c)) ∙ ap read-back e ∙ read-same r' (held c'),
+    let e : progressOf r c ≡ progressOf r' c' = h ∙ sym k in (
+      sym (read-same r c) ∙ ap read-back e ∙ read-same r' c',
       elim (columns-told r c c) [
         | inl s ↦ inl (subst HasStopped h s)
         | inr p ↦ elim (columns-told r' c' c) [ inl s ↦ inl (subst HasStopped k s) | inr q ↦ inr (sym p ∙ ap (columns-back c) e ∙ q) ]
       ],
     )
-
-pub listing-settled : ListingSettled
-listing-settled input written written' h k = h ∙ sym k

@@ -135,7 +135,7 @@ FlatteningAnswers = (job : Job) → FlattenAnswers job
 abbrev pub RefusedWritesNothing : Type 0
 RefusedWritesNothing = (job : Job) → flatteningOf job .result .answer ≢ Done → (flatteningOf job .output ≡ job .output) × (flatteningOf job .result .points ≡ 0)
 
--- "every entry past the count is unchanged": from entry n on; and the column is as long as it was
+-- "entries past the count are unchanged": those from entry n on; and the column is as long as it was
 pub record Past {A : Type 0} (n : ℕ) (old new : List A) : Type 0 where
   pub as-long : length new ≡ length old
   pub entries : (i : ℕ) (d : A) → n ≤ i → getD new i d ≡ getD old i d
@@ -183,7 +183,7 @@ heldBy a w o = flattening (flattened a (w .state .splines) (w .state .quads) 0) 
 pub record Holds (job : Job) : Type 0 where
   -- "On 3 no buffer is written and all counts are 0."
   pub three : AnswerOf job Unusable → flatteningOf job ≡ flattening (flattened Unusable 0 0 0) (job .quads) (job .splines) (job .output)
-  -- "On 5 to 8 the tables hold all that was pushed before the refused primitive, pieces of its own cubic included."
+  -- "On 5 to 8 the tables hold all that was pushed before the refused primitive, pieces of its own cubic included." `FlattenAnswers` says that there is such an r
   pub five-to-eight : (a : Answer) (r : Refused job a) → AnswerOf job a → flatteningOf job ≡ heldBy a (runOver job (r .before)) (job .output)
   -- "On 9 they are complete."
   pub nine : AnswerOf job OutputShort → flatteningOf job ≡ heldBy OutputShort (runOver job (primitivesOf (job .state) (job .columns))) (job .output)

@@ -1,137 +1,111 @@
 -- 01, "What the contracts settle": "That two outcomes allowed by a contract coincide is proved". A contract is one equation between all that a call gives back or leaves in
--- what it was lent, and a definition `d` over what it was given. So for each form that a contract has: two outcomes that satisfy it are the same, each part of them.
+-- what it was lent, and a definition over what it was given. So for each form that a contract has: two outcomes that satisfy it are the same, part by part. Which public
+-- function has which form is a table of docs/PROMISES.md, held to the sources by tests/settled/run.
 -- All NaNs are one value here; which bytes a NaN then has in an f32 column is not settled, and that is the one exception. Assumes nothing.
-use Prim.Native.Nat.{ℕ}
+use Prim.Native.Nat.{ℕ, _≤_, _<_}
 use mathlib.Core.Path.{_≡_}
 use mathlib.Core.Logic.{_⊎_}
-use mathlib.Core.List.{List}
+use mathlib.Core.Bool.{Bool}
+use mathlib.Core.List.{List, _++_}
 use lib.Ieee.{Float}
+use lib.ListN.{length, drop}
 use Rattle.answer.specs.declared.Answer.{Answer}
 use Rattle.primitives.specs.declared.State.{State}
-use Rattle.point.specs.declared.Setting.{Setting}
 use Rattle.store.specs.declared.StoreState.{StoreState}
-use Rattle.store.specs.declared.Call.{Call}
-use Rattle.store.specs.Columns.{Columns, columns}
-use Rattle.store.specs.Drawing.{Outcome, outcome, drawOf, freshOf}
+use Rattle.store.specs.Columns.{Columns, columns, stateAt}
+use Rattle.store.specs.Drawing.{outcome}
 use Rattle.tables.specs.Tables.{QuadTable, SplineTable, quadTable, splineTable}
-use Rattle.tables.specs.Run.{World, world}
-use Rattle.tables.specs.Commands.{tablesOf}
+use Rattle.tables.specs.Run.{world}
+use Rattle.evaluate.specs.Writing.{delivery}
 use Rattle.flatten.specs.declared.Flattened.{Flattened}
-use Rattle.flatten.specs.Flatten.{Output, output, Flattening, flattening, flattenOf}
+use Rattle.flatten.specs.Flatten.{Output, output, flattening}
 use Rattle.listing.specs.declared.Pair as Pairs
 use Rattle.listing.specs.declared.TwoPoints.{TwoPoints}
 use Rattle.listing.specs.declared.ThreePoints.{ThreePoints}
 use Rattle.listing.specs.declared.Progress as Progresses
-use Rattle.listing.specs.Reading.{Fields, pairFields, twoPointsFields, threePointsFields, Progress, stopped, progressOf}
+use Rattle.listing.specs.declared.Listed.{Listed}
+use Rattle.listing.specs.declared.Listed.the-variants.{Bytes, Short}
+use Rattle.listing.specs.Reading.{pairFields, twoPointsFields, threePointsFields, Progress, stopped, progressOf}
+use Rattle.listing.specs.Writing.{listed, listedAs}
 use Rattle.listing.specs.Program.{listingOf}
+use Rattle.abi.specs.Reply.{reply, flatReply}
 
--- ---- a result by value, `r ≡ d`: the leaves, points, commands, answers, the plan of a primitive, the capacities; and a record of a result with what one buffer or one
--- table then holds, whose parts are then equal too: a row put into a table, the walk delivered, a text written
+-- a form puts the parts of an outcome together, and a contract of that form says `form parts ≡ d`
+abbrev pub Settles : {A D : Type 0} → (A → D) → Type 0
+Settles {A} {D} form = (d : D) (parts parts' : A) → form parts ≡ d → form parts' ≡ d → parts ≡ parts'
+
+-- ---- the result alone, or one lent column alone
 abbrev pub ValueSettled : Type 1
-ValueSettled = (A : Type 0) (d r r' : A) → r ≡ d → r' ≡ d → r ≡ r'
+ValueSettled = (A : Type 0) → Settles (λ (r : A). r)
 
--- ---- a result and what a lent list or table then holds, `(r ≡ d) × (kept ≡ e)`: the functions over the list of splines
-abbrev pub ResultAndListSettled : Type 1
-ResultAndListSettled =
-    (A B : Type 0) (d r r' : A) (e kept kept' : B) → (r ≡ d) × (kept ≡ e) → (r' ≡ d) × (kept' ≡ e) → (r ≡ r') × (kept ≡ kept')
+-- ---- the result, and beside it what a lent list or table then holds: `(r ≡ d) × (kept ≡ e)`
+abbrev pub ResultAndKeptSettled : Type 1
+ResultAndKeptSettled = (A B : Type 0) (d r r' : A) (e kept kept' : B) → (r ≡ d) × (kept ≡ e) → (r' ≡ d) × (kept' ≡ e) → (r ≡ r') × (kept ≡ kept')
 
--- ---- the lent columns, column by column, as the signatures have them
-pub record StoreColumns : Type 0 where
-  pub x : List Float
-  pub y : List Float
-  pub weight : List Float
-  pub commands : List ℕ
+-- ---- lent columns, as the records that the forms below have for them
+abbrev pub Floats : Type 0
+Floats = List Float
 
-abbrev pub held : StoreColumns → Columns
-held c = columns (c .x) (c .y) (c .weight) (c .commands)
+abbrev pub ColumnsSettled : Type 0
+ColumnsSettled = Settles (λ (c : Floats × Floats × Floats × List ℕ). columns (c .0) (c .1) (c .2) (c .3))
 
-pub record TableColumns : Type 0 where
-  pub x : List Float
-  pub y : List Float
-  pub weight : List Float
-  pub x0 : List Float
-  pub dx-recip : List Float
-  pub k0 : List Float
-  pub dk : List Float
-  pub curvatures-recip : List Float
-  pub partial-curvatures : List Float
-  pub partial-splines : List ℕ
-  pub curvature : List Float
-  pub p0x : List Float
-  pub p0y : List Float
-  pub p2x : List Float
-  pub p2y : List Float
-  pub contour : List ℕ
+abbrev pub QuadsSettled : Type 0
+QuadsSettled =
+    Settles (λ (q : Floats × Floats × Floats × Floats × Floats × Floats × Floats × Floats × Floats × List ℕ).
+    quadTable (q .0) (q .1) (q .2) (q .3) (q .4) (q .5) (q .6) (q .7) (q .8) (q .9))
 
-abbrev pub heldQuads : TableColumns → QuadTable
-heldQuads t = quadTable (t .x) (t .y) (t .weight) (t .x0) (t .dx-recip) (t .k0) (t .dk) (t .curvatures-recip) (t .partial-curvatures) (t .partial-splines)
+abbrev pub SplinesSettled : Type 0
+SplinesSettled = Settles (λ (s : Floats × Floats × Floats × Floats × Floats × List ℕ). splineTable (s .0) (s .1) (s .2) (s .3) (s .4) (s .5))
 
-abbrev pub heldSplines : TableColumns → SplineTable
-heldSplines t = splineTable (t .curvature) (t .p0x) (t .p0y) (t .p2x) (t .p2y) (t .contour)
+abbrev pub OutputSettled : Type 0
+OutputSettled = Settles (λ (o : List ℕ × Floats × Floats × List ℕ). output (o .0) (o .1) (o .2) (o .3))
 
-pub record OutputColumns : Type 0 where
-  pub words : List ℕ
-  pub x : List Float
-  pub y : List Float
-  pub end : List ℕ
+-- ---- a drawing call, the tables, the walk delivered, flattening
+abbrev pub DrawnSettled : Type 0
+DrawnSettled = Settles (λ (o : Answer × StoreState × Columns). outcome (o .0) (o .1) (o .2))
 
-abbrev pub heldOutput : OutputColumns → Output
-heldOutput o = output (o .words) (o .x) (o .y) (o .end)
-
--- ---- the store's calls: `outcome answer state columns ≡ d`
-abbrev pub StoreSettled : Type 0
-StoreSettled =
-    (d : Outcome) (a a' : Answer) (s s' : StoreState) (c c' : StoreColumns)
-    → outcome a s (held c) ≡ d → outcome a' s' (held c') ≡ d → (a ≡ a') × (s ≡ s') × (c ≡ c')
-
--- each drawing call, and the fresh one
-abbrev pub DrawSettled : Type 0
-DrawSettled =
-    (call : Call) (st : StoreState) (given : Columns) (a a' : Answer) (s s' : StoreState) (c c' : StoreColumns)
-    → outcome a s (held c) ≡ drawOf call st given → outcome a' s' (held c') ≡ drawOf call st given → (a ≡ a') × (s ≡ s') × (c ≡ c')
-
-abbrev pub FreshSettled : Type 0
-FreshSettled =
-    (given : Columns) (a a' : Answer) (s s' : StoreState) (c c' : StoreColumns)
-    → outcome a s (held c) ≡ freshOf given → outcome a' s' (held c') ≡ freshOf given → (a ≡ a') × (s ≡ s') × (c ≡ c')
-
--- ---- the tables: `world state quads splines ≡ d`
 abbrev pub TablesSettled : Type 0
-TablesSettled =
-    (d : World) (st st' : State) (t t' : TableColumns)
-    → world st (heldQuads t) (heldSplines t) ≡ d → world st' (heldQuads t') (heldSplines t') ≡ d → (st ≡ st') × (t ≡ t')
+TablesSettled = Settles (λ (w : State × QuadTable × SplineTable). world (w .0) (w .1) (w .2))
 
-abbrev pub FillSettled : Type 0
-FillSettled =
-    (setting : Setting) (store : StoreState) (c : Columns) (q : QuadTable) (s : SplineTable) (st st' : State) (t t' : TableColumns)
-    → world st (heldQuads t) (heldSplines t) ≡ tablesOf setting store c q s → world st' (heldQuads t') (heldSplines t') ≡ tablesOf setting store c q s → (st ≡ st') × (t ≡ t')
+abbrev pub DeliveredSettled : Type 0
+DeliveredSettled = Settles (λ (o : Bool × ℕ × Output). delivery (o .0) (o .1) (o .2))
 
--- ---- flattening: `flattening result quads splines output ≡ d`
 abbrev pub FlattenSettled : Type 0
-FlattenSettled =
-    (setting : Setting) (store : StoreState) (c : Columns) (q : QuadTable) (s : SplineTable) (given : Output) (r r' : Flattened) (t t' : TableColumns) (o o' : OutputColumns)
-    → flattening r (heldQuads t) (heldSplines t) (heldOutput o) ≡ flattenOf setting store c q s given
-    → flattening r' (heldQuads t') (heldSplines t') (heldOutput o') ≡ flattenOf setting store c q s given
-    → (r ≡ r') × (t ≡ t') × (o ≡ o')
+FlattenSettled = Settles (λ (f : Flattened × QuadTable × SplineTable × Output). flattening (f .0) (f .1) (f .2) (f .3))
 
--- ---- the fields of a listing: `pairFields r end line ≡ d`, and so for two and three points
+-- ---- by the door for C: the answer's number, then each count beside it
+abbrev pub ReplySettled : Type 0
+ReplySettled = Settles (λ (o : ℕ × ℕ × ℕ × ℕ × Columns). reply (o .0) (stateAt (o .1) (o .2) (o .3)) (o .4))
+
+abbrev pub FlatReplySettled : Type 0
+FlatReplySettled = Settles (λ (f : ℕ × ℕ × ℕ × ℕ × QuadTable × SplineTable × Output). flatReply (f .0) (f .1) (f .2) (f .3) (f .4) (f .5) (f .6))
+
+-- ---- the program's listing: the result, and the whole output
+abbrev pub ListingSettled : Type 0
+ListingSettled = Settles (λ (l : Listed × List ℕ). listed (l .0) (l .1))
+
+-- a text that does not fit is not written; one that does is written, and the output behind it is as it was
+pub record Lists (text given : List ℕ) (r : Listed) (left : List ℕ) : Type 0 where
+  pub short : length given < length text → (r ≡ Short) × (left ≡ given)
+  pub fits : length text ≤ length given → (r ≡ Bytes (length text)) × (left ≡ text ++ drop (length text) given)
+
+abbrev pub ListingLists : Type 0
+ListingLists = (input given left : List ℕ) (r : Listed) → listed r left ≡ listedAs (listingOf input) given → Lists (listingOf input) given r left
+
+-- ---- inside the program: the fields of a listing
 abbrev pub PairSettled : Type 0
-PairSettled = (d : Fields) (end line : ℕ) (r r' : Pairs.Pair) → pairFields r end line ≡ d → pairFields r' end line ≡ d → r ≡ r'
+PairSettled = (end line : ℕ) → Settles (λ (r : Pairs.Pair). pairFields r end line)
 
 abbrev pub TwoPointsSettled : Type 0
-TwoPointsSettled = (d : Fields) (end line : ℕ) (r r' : TwoPoints) → twoPointsFields r end line ≡ d → twoPointsFields r' end line ≡ d → r ≡ r'
+TwoPointsSettled = (end line : ℕ) → Settles (λ (r : TwoPoints). twoPointsFields r end line)
 
 abbrev pub ThreePointsSettled : Type 0
-ThreePointsSettled = (d : Fields) (end line : ℕ) (r r' : ThreePoints) → threePointsFields r end line ≡ d → threePointsFields r' end line ≡ d → r ≡ r'
+ThreePointsSettled = (end line : ℕ) → Settles (λ (r : ThreePoints). threePointsFields r end line)
 
--- ---- the reading of a listing, `progressOf r columns ≡ d`: the result always, and the columns unless it stopped at a fault or a refused command
+-- ---- and its reading, `progressOf r columns ≡ d`: the result always, and the columns unless it stopped at a fault or a refused command
 pub data HasStopped : Progress → Type 0 where
   has-stopped : (a : Answer) (line : ℕ) → HasStopped (stopped a line)
 
 abbrev pub ReadSettled : Type 0
 ReadSettled =
-    (d : Progress) (r r' : Progresses.Progress) (c c' : StoreColumns) → progressOf r (held c) ≡ d → progressOf r' (held c') ≡ d → (r ≡ r') × (HasStopped d ⊎ (c ≡ c'))
-
--- ---- the program's listing: what is written for an input
-abbrev pub ListingSettled : Type 0
-ListingSettled = (input written written' : List ℕ) → written ≡ listingOf input → written' ≡ listingOf input → written ≡ written'
+    (d : Progress) (r r' : Progresses.Progress) (c c' : Columns) → progressOf r c ≡ d → progressOf r' c' ≡ d → (r ≡ r') × (HasStopped d ⊎ (c ≡ c'))
