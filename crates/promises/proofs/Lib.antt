@@ -15,6 +15,7 @@ pub mod Refusing
 pub mod Refusals
 pub mod FlattenAnswers
 pub mod Settled
+pub mod Answering
 pub mod ListingReading
 pub mod ListingAnswers
 pub mod QuarterRound
