@@ -16,6 +16,7 @@ pub mod Refusals
 pub mod Past
 pub mod FlattenAnswers
 pub mod Settled
+pub mod Answering
 pub mod ListingReading
 pub mod ListingAnswers
 pub mod QuarterRound

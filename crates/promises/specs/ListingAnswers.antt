@@ -1,6 +1,6 @@
--- 01, "The program": each answer and its line, if and only if what holds of the text. What a good text is, is said by printing it (listing/specs/Printing); all else goes by
--- the calls of its commands on a fresh drawing. "11 is tested first, then the first fault in text order wins; a command is drawn once its last line is read. Lines count
--- from 1." Assumes nothing.
+-- 01, "The program": each answer and its line, if and only if what holds of the text. What a good text is, is said by printing it (listing/specs/Printing); all
+-- else goes by the calls of its commands on a fresh drawing. When a call is answered so is said in DrawingAnswers, and when a flattening is, in FlattenAnswers.
+-- "11 is tested first, then the first fault in text order wins; a command is drawn once its last line is read. Lines count from 1." Assumes nothing.
 use Prim.Native.Nat.{ℕ, _+_, _≤_, _<_}
 use mathlib.Core.Path.{_≡_}
 use mathlib.Core.Logic.{_⊎_, _≢_, _↔_}
