@@ -1,97 +1,50 @@
-// Writes the list of `store_cases`: drawing calls on columns of a given length, and what is then to be seen.
-// Which calls are refused is decided here, from the document's table; what an accepted call stores is the original's.
+//! Drawing calls on columns of a given length, and what is then to be seen, for `store_cases`.
+//! Which calls are refused is decided here, from the document's table; what an accepted call stores is the original's.
 
-use std::{cell::RefCell, rc::Rc};
-
-use super::{PathBuilder, PathCommand, PathData};
-use crate::math::Point;
+use super::{bits, row};
+use crate::{
+    call::{p, Call},
+    original::screen,
+    seen::Store,
+};
 
 const ROOM: usize = 16;
 const MAX: usize = 0xffff_ffff; // written for the largest count
 
-#[derive(Clone, Copy)]
-enum Call {
-    Move([f32; 2]),
-    Line([f32; 2]),
-    Quad([f32; 4]),
-    Cubic([f32; 6]),
-    RatQuad([f32; 4], f32),
-    RatCubic([f32; 6], f32, f32),
-    Build,
-}
-
-impl Call {
-    fn letter(&self) -> char {
-        match self {
-            Call::Move(_) => 'm',
-            Call::Line(_) => 'l',
-            Call::Quad(_) => 'q',
-            Call::Cubic(_) => 'u',
-            Call::RatQuad(..) => 'r',
-            Call::RatCubic(..) => 'v',
-            Call::Build => 'b',
-        }
-    }
-
-    fn coordinates(&self) -> Vec<f32> {
-        match self {
-            Call::Move(p) | Call::Line(p) => p.to_vec(),
-            Call::Quad(p) | Call::RatQuad(p, _) => p.to_vec(),
-            Call::Cubic(p) | Call::RatCubic(p, _, _) => p.to_vec(),
-            Call::Build => vec![],
-        }
-    }
-
-    fn weights(&self) -> Vec<f32> {
-        match *self {
-            Call::RatQuad(_, w) => vec![w],
-            Call::RatCubic(_, w1, w2) => vec![w1, w2],
-            _ => vec![],
-        }
-    }
-
-    // the same call with one number exchanged
-    fn with(&self, slot: usize, v: f32) -> Call {
-        let mut c = self.coordinates();
-        let mut w = self.weights();
-        if slot < c.len() {
-            c[slot] = v;
-        } else {
-            w[slot - c.len()] = v;
-        }
-        let four = |c: &[f32]| [c[0], c[1], c[2], c[3]];
-        let six = |c: &[f32]| [c[0], c[1], c[2], c[3], c[4], c[5]];
-        match self {
-            Call::Move(_) => Call::Move([c[0], c[1]]),
-            Call::Line(_) => Call::Line([c[0], c[1]]),
-            Call::Quad(_) => Call::Quad(four(&c)),
-            Call::Cubic(_) => Call::Cubic(six(&c)),
-            Call::RatQuad(..) => Call::RatQuad(four(&c), w[0]),
-            Call::RatCubic(..) => Call::RatCubic(six(&c), w[0], w[1]),
-            Call::Build => Call::Build,
-        }
-    }
-
-    fn draw(&self, b: &mut PathBuilder) {
-        let p = |c: &[f32], i: usize| Point::new(c[2 * i], c[2 * i + 1]);
-        match *self {
-            Call::Move(c) => drop(b.move_to(p(&c, 0))),
-            Call::Line(c) => drop(b.line_to(p(&c, 0))),
-            Call::Quad(c) => drop(b.quad_to(p(&c, 0), p(&c, 1))),
-            Call::Cubic(c) => drop(b.cubic_to(p(&c, 0), p(&c, 1), p(&c, 2))),
-            Call::RatQuad(c, w) => drop(b.rat_quad_to(p(&c, 0), p(&c, 1), w)),
-            Call::RatCubic(c, w1, w2) => drop(b.rat_cubic_to(p(&c, 0), p(&c, 1), p(&c, 2), w1, w2)),
-            Call::Build => drop(b.build()),
-        }
+fn letter(call: &Call) -> char {
+    match call {
+        Call::Move(_) => 'm',
+        Call::Line(_) => 'l',
+        Call::Quad(..) => 'q',
+        Call::Cubic(..) => 'u',
+        Call::RatQuad(..) => 'r',
+        Call::RatCubic(..) => 'v',
+        Call::Build => 'b',
     }
 }
 
-fn word(v: f32) -> String {
-    format!("{:08x}", if v.is_nan() { 0x7fc0_0000 } else { v.to_bits() })
+// The same call with one number exchanged: its coordinates come first, then its weights.
+fn with(call: &Call, slot: usize, v: f32) -> Call {
+    let (mut c, mut w) = (call.coordinates(), call.weights());
+    match slot.checked_sub(c.len()) {
+        None => c[slot] = v,
+        Some(i) => w[i] = v,
+    }
+    let q = |i: usize| p(c[2 * i], c[2 * i + 1]);
+    match call {
+        Call::Move(_) => Call::Move(q(0)),
+        Call::Line(_) => Call::Line(q(0)),
+        Call::Quad(..) => Call::Quad(q(0), q(1)),
+        Call::Cubic(..) => Call::Cubic(q(0), q(1), q(2)),
+        Call::RatQuad(..) => Call::RatQuad(q(0), q(1), w[0]),
+        Call::RatCubic(..) => Call::RatCubic(q(0), q(1), q(2), w[0], w[1]),
+        Call::Build => Call::Build,
+    }
 }
 
-// The columns as the program has them, whole, and what of them is lent.
-struct Case {
+// The columns as the program has them, whole, and what of them is lent. What is written goes to the list.
+struct Case<'a> {
+    list: &'a mut String,
     x: Vec<f32>,
     y: Vec<f32>,
     weight: Vec<f32>,
@@ -102,31 +55,46 @@ struct Case {
     opening: usize,
 }
 
-impl Case {
-    fn new(lent: [usize; 4]) -> Case {
-        println!("c {:08x} {:08x} {:08x} {:08x}", lent[0], lent[1], lent[2], lent[3]);
+impl Case<'_> {
+    fn new(list: &mut String, lent: [usize; 4]) -> Case<'_> {
         let filled = |from: f32| (0..ROOM).map(|i| from + i as f32).collect::<Vec<_>>();
         let commands = (0..ROOM).map(|i| 100 + i as u8).collect();
-        Case { x: filled(1000.0), y: filled(2000.0), weight: filled(3000.0), commands, lent, points: 0, count: 0, opening: 0 }
+        let mut case = Case { list, x: filled(1000.0), y: filled(2000.0), weight: filled(3000.0), commands, lent, points: 0, count: 0, opening: 0 };
+        case.line('c', &lent.map(|n| n as u32));
+        case
     }
 
-    fn sized(points: usize, commands: usize) -> Case {
-        Case::new([points, points, points, commands])
+    fn sized(list: &mut String, points: usize, commands: usize) -> Case<'_> {
+        Case::new(list, [points, points, points, commands])
+    }
+
+    // A letter and its words.
+    fn line(&mut self, letter: char, words: &[u32]) {
+        self.list.extend([letter, ' ']);
+        row(self.list, words);
     }
 
     fn state_by_hand(&mut self, points: usize, count: usize, opening: usize) {
-        println!("h {points:08x} {count:08x} {opening:08x}");
         (self.points, self.count, self.opening) = (points, count, opening);
+        self.line('h', &self.state_words());
     }
 
     fn point_by_hand(&mut self, i: usize, x: f32, y: f32, weight: f32) {
-        println!("s {i:08x} {} {} {}", word(x), word(y), word(weight));
         (self.x[i], self.y[i], self.weight[i]) = (x, y, weight);
+        self.line('s', &self.point_words(i));
     }
 
     fn command_by_hand(&mut self, i: usize, c: u8) {
-        println!("k {i:08x} {c:08x}");
         self.commands[i] = c;
+        self.line('k', &[i as u32, c as u32]);
+    }
+
+    fn state_words(&self) -> [u32; 3] {
+        [self.points as u32, self.count as u32, self.opening as u32]
+    }
+
+    fn point_words(&self, i: usize) -> [u32; 4] {
+        [i as u32, bits(self.x[i]), bits(self.y[i]), bits(self.weight[i])]
     }
 
     fn even(&self) -> bool {
@@ -166,52 +134,36 @@ impl Case {
         } else {
             0
         };
-        println!("f {answer:08x}");
+        self.line('f', &[answer]);
         (self.points, self.count, self.opening) = (0, 0, 0);
         if answer == 0 {
-            self.hold(&PathBuilder::new());
+            self.hold(&screen::store(&[]));
         }
     }
 
-    // The store in the original's hands. A command that it does not have stands for a Line: it looks at the last one only.
-    fn builder(&self) -> PathBuilder {
-        let data = PathData {
+    // The store as the original takes it. A command that it does not have stands for a Line: it looks at the last one only.
+    fn store(&self) -> Store {
+        Store {
             x: self.x[..self.points].to_vec(),
             y: self.y[..self.points].to_vec(),
             weight: self.weight[..self.points].to_vec(),
-            commands: self.commands[..self.count]
-                .iter()
-                .map(|c| match c {
-                    0 => PathCommand::Move,
-                    2 => PathCommand::Quad,
-                    3 => PathCommand::Cubic,
-                    _ => PathCommand::Line,
-                })
-                .collect(),
-            open_point_index: self.opening,
-            segments: None,
-        };
-        PathBuilder { inner: Rc::new(RefCell::new(data)) }
-    }
-
-    fn hold(&mut self, b: &PathBuilder) {
-        let data = b.inner.borrow();
-        let n = data.x.len();
-        self.x[..n].copy_from_slice(&data.x);
-        self.y[..n].copy_from_slice(&data.y);
-        self.weight[..n].copy_from_slice(&data.weight);
-        for (i, c) in data.commands.iter().enumerate().skip(self.count) {
-            self.commands[i] = match c {
-                PathCommand::Move => 0,
-                PathCommand::Line => 1,
-                PathCommand::Quad => 2,
-                PathCommand::Cubic => 3,
-            };
+            commands: self.commands[..self.count].iter().map(|&c| if c <= 3 { c } else { 1 }).collect(),
+            opening: self.opening,
         }
-        (self.points, self.count, self.opening) = (n, data.commands.len(), data.open_point_index);
     }
 
-    fn answer(&self, call: &Call) -> (u32, Option<PathBuilder>) {
+    fn hold(&mut self, store: &Store) {
+        let n = store.x.len();
+        self.x[..n].copy_from_slice(&store.x);
+        self.y[..n].copy_from_slice(&store.y);
+        self.weight[..n].copy_from_slice(&store.weight);
+        let count = store.commands.len();
+        self.commands[self.count..count].copy_from_slice(&store.commands[self.count..]);
+        (self.points, self.count, self.opening) = (n, count, store.opening);
+    }
+
+    // The answer, and on 0 the store that the original makes of it.
+    fn answer(&self, call: &Call) -> (u32, Option<Store>) {
         if !self.usable() {
             return (3, None);
         }
@@ -221,40 +173,45 @@ impl Case {
         if call.weights().iter().any(|w| w.is_nan() || *w < 1.0 / 64.0 || *w > 64.0) {
             return (2, None);
         }
-        let mut b = self.builder();
-        call.draw(&mut b);
-        let (points, count) = (b.inner.borrow().x.len(), b.inner.borrow().commands.len());
-        if points > self.lent[0] || count > self.lent[3] {
+        let store = screen::draw_on(&self.store(), &[*call]);
+        if store.x.len() > self.lent[0] || store.commands.len() > self.lent[3] {
             return (4, None);
         }
-        (0, Some(b))
+        (0, Some(store))
     }
 
-    fn call(&mut self, call: Call) -> u32 {
-        let (answer, b) = self.answer(&call);
-        let numbers = call.coordinates().into_iter().chain(call.weights());
-        let words: String = numbers.map(|v| format!("{} ", word(v))).collect();
-        println!("{} {words}{answer:08x}", call.letter());
-        if let Some(b) = b {
-            self.hold(&b);
+    fn call(&mut self, call: Call) {
+        let (answer, store) = self.answer(&call);
+        let mut words: Vec<u32> = call.coordinates().into_iter().chain(call.weights()).map(bits).collect();
+        words.push(answer);
+        self.line(letter(&call), &words);
+        if let Some(store) = store {
+            self.hold(&store);
         }
-        answer
     }
 
-    fn state(&self) {
-        println!("t {:08x} {:08x} {:08x}", self.points, self.count, self.opening);
+    fn calls(&mut self, calls: &[Call]) {
+        calls.iter().for_each(|c| self.call(*c));
+    }
+
+    fn state(&mut self) {
+        self.line('t', &self.state_words());
+    }
+
+    fn tested(&mut self) {
+        self.line('d', &[self.drawable() as u32]);
     }
 
     // All entries that are lent, and one more of each.
-    fn seen(&self) {
+    fn seen(&mut self) {
         self.state();
-        println!("d {:08x}", self.drawable() as u32);
-        let most = self.lent[..3].iter().max().unwrap();
+        self.tested();
+        let most = *self.lent[..3].iter().max().unwrap();
         for i in 0..(most + 1).min(ROOM) {
-            println!("p {i:08x} {} {} {}", word(self.x[i]), word(self.y[i]), word(self.weight[i]));
+            self.line('p', &self.point_words(i));
         }
         for i in 0..(self.lent[3] + 1).min(ROOM) {
-            println!("o {i:08x} {:08x}", self.commands[i]);
+            self.line('o', &[i as u32, self.commands[i] as u32]);
         }
     }
 }
@@ -286,16 +243,14 @@ impl Random {
     }
 
     fn call(&mut self) -> Call {
-        let mut c = [0.0; 6];
-        c.iter_mut().for_each(|v| *v = self.coordinate());
-        let four = [c[0], c[1], c[2], c[3]];
+        let [a, b, c] = [(); 3].map(|_| p(self.coordinate(), self.coordinate()));
         match self.below(9) {
-            0 | 1 => Call::Move([c[0], c[1]]),
-            2 | 3 => Call::Line([c[0], c[1]]),
-            4 => Call::Quad(four),
-            5 => Call::Cubic(c),
-            6 => Call::RatQuad(four, self.weight()),
-            7 => Call::RatCubic(c, self.weight(), self.weight()),
+            0 | 1 => Call::Move(a),
+            2 | 3 => Call::Line(a),
+            4 => Call::Quad(a, b),
+            5 => Call::Cubic(a, b, c),
+            6 => Call::RatQuad(a, b, self.weight()),
+            7 => Call::RatCubic(a, b, c, self.weight(), self.weight()),
             _ => Call::Build,
         }
     }
@@ -304,24 +259,24 @@ impl Random {
 // One of each, none of which closes a contour by itself.
 fn each() -> [Call; 7] {
     [
-        Call::Move([1.0, 2.0]),
-        Call::Line([3.0, 4.0]),
-        Call::Quad([5.0, 6.0, 7.0, 8.0]),
-        Call::Cubic([9.0, 10.0, 11.0, 12.0, 13.0, 14.0]),
-        Call::RatQuad([15.0, 16.0, 17.0, 18.0], 0.5),
-        Call::RatCubic([19.0, 20.0, 21.0, 22.0, 23.0, 24.0], 2.0, 0.1),
+        Call::Move(p(1.0, 2.0)),
+        Call::Line(p(3.0, 4.0)),
+        Call::Quad(p(5.0, 6.0), p(7.0, 8.0)),
+        Call::Cubic(p(9.0, 10.0), p(11.0, 12.0), p(13.0, 14.0)),
+        Call::RatQuad(p(15.0, 16.0), p(17.0, 18.0), 0.5),
+        Call::RatCubic(p(19.0, 20.0), p(21.0, 22.0), p(23.0, 24.0), 2.0, 0.1),
         Call::Build,
     ]
 }
 
 // Random sequences on ample columns, on columns that just hold them, and one entry short of it.
-fn sequences(r: &mut Random) {
+fn sequences(list: &mut String, r: &mut Random) {
     for _ in 0..40 {
         let calls: Vec<Call> = (0..2 + r.below(6)).map(|_| r.call()).collect();
-        let run = |points: usize, commands: usize| {
-            let mut case = Case::sized(points, commands);
+        let mut run = |points: usize, commands: usize| {
+            let mut case = Case::sized(list, points, commands);
             case.fresh();
-            calls.iter().for_each(|c| drop(case.call(*c)));
+            case.calls(&calls);
             case.seen();
             (case.points, case.count)
         };
@@ -333,7 +288,7 @@ fn sequences(r: &mut Random) {
 }
 
 // Each number of each call at and beside the limits.
-fn limits() {
+fn limits(list: &mut String) {
     let up = |v: f32| f32::from_bits(v.to_bits() + 1);
     let coordinates =
         [65_536.0, up(65_536.0), -65_536.0, up(-65_536.0), f32::NAN, f32::INFINITY, f32::NEG_INFINITY, -0.0, f32::from_bits(1)];
@@ -343,53 +298,53 @@ fn limits() {
         let (n, m) = (call.coordinates().len(), call.weights().len());
         for slot in 0..n + m {
             for v in if slot < n { &coordinates[..] } else { &weights[..] } {
-                let mut case = Case::sized(5, 3);
+                let mut case = Case::sized(list, 5, 3);
                 case.fresh();
-                case.call(Call::Line([1.0, 1.0]));
-                case.call(call.with(slot, *v));
+                case.call(Call::Line(p(1.0, 1.0)));
+                case.call(with(&call, slot, *v));
                 case.seen();
             }
         }
     }
     // the largest product, of each sign
-    let mut case = Case::sized(8, 8);
+    let mut case = Case::sized(list, 8, 8);
     case.fresh();
-    case.call(Call::RatCubic([65_536.0, -65_536.0, -65_536.0, 65_536.0, 0.0, 0.0], 64.0, 64.0));
-    case.call(Call::RatQuad([up(65_535.0), 1.0e-40, 0.0, 0.0], least));
+    case.call(Call::RatCubic(p(65_536.0, -65_536.0), p(-65_536.0, 65_536.0), p(0.0, 0.0), 64.0, 64.0));
+    case.call(Call::RatQuad(p(up(65_535.0), 1.0e-40), p(0.0, 0.0), least));
     case.seen();
 }
 
 // More than one thing is wrong: the order of the answers.
-fn orders() {
+fn orders(list: &mut String) {
     let bad = [
-        Call::RatQuad([f32::NAN, 0.0, 0.0, 0.0], 65.0),
-        Call::RatCubic([0.0, 0.0, 0.0, 0.0, 0.0, 1.0e9], 1.0, f32::NAN),
-        Call::RatQuad([0.0, 0.0, 0.0, 0.0], 65.0),
-        Call::RatCubic([0.0, 0.0, 0.0, 0.0, 0.0, 0.0], 1.0, 0.0),
-        Call::Line([f32::INFINITY, 0.0]),
-        Call::Move([0.0, f32::NAN]),
-        Call::Line([0.0, 0.0]),
+        Call::RatQuad(p(f32::NAN, 0.0), p(0.0, 0.0), 65.0),
+        Call::RatCubic(p(0.0, 0.0), p(0.0, 0.0), p(0.0, 1.0e9), 1.0, f32::NAN),
+        Call::RatQuad(p(0.0, 0.0), p(0.0, 0.0), 65.0),
+        Call::RatCubic(p(0.0, 0.0), p(0.0, 0.0), p(0.0, 0.0), 1.0, 0.0),
+        Call::Line(p(f32::INFINITY, 0.0)),
+        Call::Move(p(0.0, f32::NAN)),
+        Call::Line(p(0.0, 0.0)),
         Call::Build,
     ];
     for unusable in [false, true] {
-        let mut case = Case::sized(2, 2);
+        let mut case = Case::sized(list, 2, 2);
         case.fresh();
-        case.call(Call::Line([5.0, 5.0]));
+        case.call(Call::Line(p(5.0, 5.0)));
         if unusable {
             case.command_by_hand(1, 4);
         }
-        bad.iter().for_each(|c| drop(case.call(*c)));
+        case.calls(&bad);
         case.seen();
     }
 }
 
 // States made by hand, most of them unusable, with each call.
-fn states() {
+fn states(list: &mut String) {
     for (points, count, opening) in [
         (0, 1, 0), (1, 0, 0), (1, 1, 1), (2, 1, 2), (5, 1, 0), (1, 5, 0), (MAX, 1, 0), (1, MAX, 0), (1, 1, MAX), (MAX, MAX, MAX), (4, 4, 3), (4, 4, 4),
         (3, 2, 2), (2, 2, 0),
     ] {
-        let mut case = Case::sized(4, 4);
+        let mut case = Case::sized(list, 4, 4);
         case.fresh();
         (1..4).for_each(|i| case.command_by_hand(i, 1));
         for call in each() {
@@ -401,48 +356,48 @@ fn states() {
     }
     // columns of unequal length
     for lent in [[4, 3, 4, 4], [4, 4, 3, 4], [3, 4, 4, 4], [4, 5, 4, 4], [4, 4, 5, 4], [5, 4, 4, 4]] {
-        let mut case = Case::new(lent);
+        let mut case = Case::new(list, lent);
         case.fresh();
         case.command_by_hand(0, 0);
         case.state_by_hand(1, 1, 0);
-        each().into_iter().for_each(|c| drop(case.call(c)));
+        case.calls(&each());
         case.seen();
     }
     // a last command that is none, and one before it that is not looked at
     for c in [4, 255] {
-        let mut case = Case::sized(6, 6);
+        let mut case = Case::sized(list, 6, 6);
         case.fresh();
         case.command_by_hand(1, c);
         case.state_by_hand(2, 2, 0);
-        each().into_iter().for_each(|c| drop(case.call(c)));
+        case.calls(&each());
         case.command_by_hand(2, 1);
         case.state_by_hand(3, 3, 0);
-        case.call(Call::Line([1.0, 1.0]));
+        case.call(Call::Line(p(1.0, 1.0)));
         case.seen();
     }
 }
 
-fn fresh() {
+fn fresh(list: &mut String) {
     for lent in [[0, 0, 0, 0], [0, 0, 0, 1], [1, 1, 1, 0], [1, 1, 1, 1], [1, 1, 2, 1], [1, 0, 1, 1], [0, 1, 0, 0], [2, 1, 1, 0], [16, 16, 16, 16]] {
-        let mut case = Case::new(lent);
+        let mut case = Case::new(list, lent);
         case.state_by_hand(7, MAX, 3);
         case.fresh();
-        case.call(Call::Move([1.0, 1.0]));
+        case.call(Call::Move(p(1.0, 1.0)));
         case.call(Call::Build);
         case.seen();
     }
 }
 
 // A store that is full: a move after a Move needs no room, and a build of a closed contour none either.
-fn full() {
-    let mut case = Case::sized(1, 1);
+fn full(list: &mut String) {
+    let mut case = Case::sized(list, 1, 1);
     case.fresh();
-    [Call::Move([3.0, 4.0]), Call::Build, Call::Move([-0.0, 2.0]), Call::Line([0.0, 0.0]), Call::Move([5.0, 6.0])].into_iter().for_each(|c| drop(case.call(c)));
+    case.calls(&[Call::Move(p(3.0, 4.0)), Call::Build, Call::Move(p(-0.0, 2.0)), Call::Line(p(0.0, 0.0)), Call::Move(p(5.0, 6.0))]);
     case.seen();
     for (points, commands) in [(2, 2), (3, 3), (4, 4), (3, 4), (4, 3), (5, 5)] {
-        let mut case = Case::sized(points, commands);
+        let mut case = Case::sized(list, points, commands);
         case.fresh();
-        for c in [Call::Line([1.0, 0.0]), Call::Move([2.0, 2.0]), Call::Move([3.0, 3.0]), Call::Line([3.0, 3.0]), Call::Build, Call::Move([9.0, 9.0])] {
+        for c in [Call::Line(p(1.0, 0.0)), Call::Move(p(2.0, 2.0)), Call::Move(p(3.0, 3.0)), Call::Line(p(3.0, 3.0)), Call::Build, Call::Move(p(9.0, 9.0))] {
             case.call(c);
             case.state();
         }
@@ -451,7 +406,7 @@ fn full() {
 }
 
 // Contents made by hand: what closing compares.
-fn closing() {
+fn closing(list: &mut String) {
     let nan = f32::NAN;
     let inf = f32::INFINITY;
     let pairs = [
@@ -475,9 +430,9 @@ fn closing() {
         ([65_536.0, 1.0, 1.0], [4_194_304.0, 64.0, 64.0]),
     ];
     for (open, last) in pairs {
-        for call in [Call::Build, Call::Move([8.0, 9.0])] {
+        for call in [Call::Build, Call::Move(p(8.0, 9.0))] {
             for room in [3, 4, 5] {
-                let mut case = Case::sized(room, room);
+                let mut case = Case::sized(list, room, room);
                 case.fresh();
                 case.point_by_hand(1, open[0], open[1], open[2]);
                 case.point_by_hand(2, last[0], last[1], last[2]);
@@ -492,15 +447,15 @@ fn closing() {
 }
 
 // Flattening's test for 3, on contents made by hand.
-fn drawables() {
-    let test = |change: &dyn Fn(&mut Case)| {
-        let mut case = Case::sized(8, 5);
+fn drawables(list: &mut String) {
+    let mut test = |change: &dyn Fn(&mut Case)| {
+        let mut case = Case::sized(list, 8, 5);
         case.fresh();
-        case.call(Call::Quad([1.0, 1.0, 2.0, 2.0]));
-        case.call(Call::Cubic([1.0, 1.0, 2.0, 2.0, 3.0, 3.0]));
+        case.call(Call::Quad(p(1.0, 1.0), p(2.0, 2.0)));
+        case.call(Call::Cubic(p(1.0, 1.0), p(2.0, 2.0), p(3.0, 3.0)));
         case.call(Call::Build);
         change(&mut case);
-        println!("d {:08x}", case.drawable() as u32);
+        case.tested();
     };
     test(&|_| ());
     for i in 0..5 {
@@ -522,14 +477,11 @@ fn drawables() {
     }
 }
 
-pub fn main() {
-    let mut r = Random(2022);
-    sequences(&mut r);
-    limits();
-    orders();
-    states();
-    fresh();
-    full();
-    closing();
-    drawables();
+pub fn fixed() -> String {
+    let mut list = String::new();
+    sequences(&mut list, &mut Random(2022));
+    for group in [limits, orders, states, fresh, full, closing, drawables] {
+        group(&mut list);
+    }
+    list
 }
