@@ -472,7 +472,9 @@ fn drawables(list: &mut String) {
             test(&|case| case.point_by_hand(i, 0.0, 0.0, weights[k]));
         }
     }
-    for (points, count, opening) in [(7, 4, 0), (6, 3, 5), (3, 2, 2), (3, 2, 3), (1, 1, 0), (2, 1, 0), (8, 4, 0), (8, 5, 0), (7, 4, 7), (0, 0, 0), (7, 3, 0), (9, 5, 0), (MAX, MAX, 0)] {
+    for (points, count, opening) in [
+        (7, 4, 0), (6, 3, 5), (3, 2, 2), (3, 2, 3), (1, 1, 0), (2, 1, 0), (8, 4, 0), (8, 5, 0), (7, 4, 7), (0, 0, 0), (7, 3, 0), (9, 5, 0), (MAX, MAX, 0),
+    ] {
         test(&|case| case.state_by_hand(points, count, opening));
     }
 }
