@@ -1,11 +1,14 @@
 #!/usr/bin/env python3
-"""Writes crates/leaves_vectors/stdin, the hard vectors of the float leaves. Run it in this folder; see README.md.
+"""Writes the hard vectors of the float leaves: make.py FILE. tests/vectors/run compares them with those that are stored; see README.md.
 
 A line is "OP A B C R": the leaf's letter, three f32 patterns and the pattern (or count) expected, in eight hex digits.
 """
 import math
+import os
 import random
 import subprocess
+import sys
+import tempfile
 from fractions import Fraction
 
 SIGN, INF, NAN, MAX = 0x80000000, 0x7F800000, 0x7FC00000, 0x7F7FFFFF
@@ -261,10 +264,12 @@ def rows():
 def main():
     table = list(rows())
     asked = "".join(f"{o} {a:08x} {b:08x} {c:08x}\n" for o, a, b, c, r in table if r is None)
-    subprocess.run(["gcc", "-O1", "-ffp-contract=off", "-o", "/tmp/reference", "reference.c", "-lm"], check=True)
-    answers = iter(subprocess.run(["/tmp/reference"], input=asked, capture_output=True, text=True, check=True).stdout.split("\n"))
+    with tempfile.TemporaryDirectory() as work:
+        source, reference = os.path.join(os.path.dirname(os.path.abspath(__file__)), "reference.c"), os.path.join(work, "reference")
+        subprocess.run([os.environ.get("CC", "cc"), "-O1", "-ffp-contract=off", "-o", reference, source, "-lm"], check=True)
+        answers = iter(subprocess.run([reference], input=asked, capture_output=True, text=True, check=True).stdout.split("\n"))
     count = {}
-    with open("../../crates/leaves_vectors/stdin", "w") as out:
+    with open(sys.argv[1], "w") as out:
         for o, a, b, c, r in table:
             if r is None:
                 r = int(next(answers).split()[4], 16)

@@ -1,5 +1,5 @@
 // Replays drawing calls that were made with the original Rust: reads them, what is to be seen after each, and writes how many
-// answers, states and entries agree. A line is a letter and its words, each of eight hex digits; tests/vectors/store has the list's letters.
+// answers, states and entries agree. A line is a letter and its words, each of eight hex digits; tests/rust/answers has the list's letters.
 use libc::STDIN_FILENO;
 use libc::STDOUT_FILENO;
 use point::Point;

@@ -21,28 +21,49 @@ pub enum Call {
     Build,
 }
 
+impl Call {
+    pub fn points(&self) -> Vec<P> {
+        match *self {
+            Call::Move(a) | Call::Line(a) => vec![a],
+            Call::Quad(a, b) | Call::RatQuad(a, b, _) => vec![a, b],
+            Call::Cubic(a, b, c) | Call::RatCubic(a, b, c, ..) => vec![a, b, c],
+            Call::Build => vec![],
+        }
+    }
+
+    pub fn coordinates(&self) -> Vec<f32> {
+        self.points().iter().flat_map(|q| [q.x, q.y]).collect()
+    }
+
+    pub fn weights(&self) -> Vec<f32> {
+        match *self {
+            Call::RatQuad(_, _, w) => vec![w],
+            Call::RatCubic(.., v, w) => vec![v, w],
+            _ => vec![],
+        }
+    }
+
+    pub fn name(&self) -> &'static str {
+        match self {
+            Call::Move(_) => "move",
+            Call::Line(_) => "line",
+            Call::Quad(..) => "quad",
+            Call::Cubic(..) => "cubic",
+            Call::RatQuad(..) => "rquad",
+            Call::RatCubic(..) => "rcubic",
+            Call::Build => "build",
+        }
+    }
+}
+
 /// The same drawing again and again gives the same bits: all numbers as bits, for messages.
 pub fn written(calls: &[Call]) -> String {
     let mut text = String::new();
-    let h = |v: f32| format!(" {:08x}({v:?})", v.to_bits());
     for call in calls {
-        let (name, points, weights): (&str, Vec<P>, Vec<f32>) = match *call {
-            Call::Move(a) => ("move", vec![a], vec![]),
-            Call::Line(a) => ("line", vec![a], vec![]),
-            Call::Quad(a, b) => ("quad", vec![a, b], vec![]),
-            Call::Cubic(a, b, c) => ("cubic", vec![a, b, c], vec![]),
-            Call::RatQuad(a, b, w) => ("rquad", vec![a, b], vec![w]),
-            Call::RatCubic(a, b, c, v, w) => ("rcubic", vec![a, b, c], vec![v, w]),
-            Call::Build => ("build", vec![], vec![]),
-        };
         text.push_str("  ");
-        text.push_str(name);
-        for q in points {
-            text.push_str(&h(q.x));
-            text.push_str(&h(q.y));
-        }
-        for w in weights {
-            text.push_str(&h(w));
+        text.push_str(call.name());
+        for v in call.coordinates().into_iter().chain(call.weights()) {
+            text.push_str(&format!(" {:08x}({v:?})", v.to_bits()));
         }
         text.push('\n');
     }

@@ -62,6 +62,7 @@ pub mod drawings;
 pub mod flat_case;
 #[cfg(feature = "library")]
 pub mod hostile;
+pub mod lists;
 pub mod model;
 pub mod original;
 pub mod rng;

@@ -12,7 +12,7 @@ macro_rules! original {
         pub mod $name {
             use super::*;
             use crate::$path::{probe, PathBuilder};
-            pub use crate::$path::probe::Repeated;
+            pub use crate::$path::probe::{cubic_at, curvature_of, inv_curvature_of, opens, packed, quad_at, unpacked, Repeated};
 
             fn at(p: P) -> Point {
                 Point::new(p.x, p.y)

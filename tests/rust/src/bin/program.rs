@@ -1,8 +1,9 @@
 //! Runs the proved program on listings, good and damaged, and compares what it writes with the model. Its status is not 0 on any mismatch.
 //!
-//! program BINARY [LISTINGS [SEED]]
+//! program BINARY [LISTINGS [SEED]], or the variables KERMEZHUL_LISTINGS and KERMEZHUL_SEED.
 
 use against_rust::{
+    number,
     drawings::{directed, kind, random},
     model::program::{listing, program},
     rng::Rng,
@@ -26,10 +27,9 @@ fn run(binary: &str, input: &[u8]) -> Vec<u8> {
 }
 
 fn main() {
-    let mut args = std::env::args().skip(1);
-    let binary = args.next().expect("program BINARY [LISTINGS [SEED]]");
-    let listings: usize = args.next().map_or(3000, |t| t.parse().unwrap());
-    let mut rng = Rng(args.next().map_or(1, |t| t.parse().unwrap()));
+    let binary = std::env::args().nth(1).expect("program BINARY [LISTINGS [SEED]]");
+    let listings = number(2, "KERMEZHUL_LISTINGS", 3000);
+    let mut rng = Rng(number(3, "KERMEZHUL_SEED", 1));
     let directed = directed();
     let mut answers = [0u64; 12];
     let mut mismatches = 0;

@@ -1,0 +1,201 @@
+//! Whole drawings with what the original makes of them, for `flatten_cases` and `tables_cases`. answers/README.md says how they are laid out.
+
+use super::row;
+use crate::{
+    against::{compare_drawing, drawn, Counts, Room},
+    call::{p, Call, P},
+    drawings::{directed, kind, random},
+    model::{cover, flatten::{exact_pieces, pieces_of}},
+    original::{knife, screen},
+    rng::Rng,
+    seen::{Seen, Store},
+};
+
+fn call_row(call: &Call) -> [u32; 9] {
+    let o = p(0.0, 0.0);
+    let (kind, a, b, c, v, w): (u32, P, P, P, f32, f32) = match *call {
+        Call::Move(a) => (0, a, o, o, 0.0, 0.0),
+        Call::Line(a) => (1, a, o, o, 0.0, 0.0),
+        Call::Quad(a, b) => (2, a, b, o, 0.0, 0.0),
+        Call::Cubic(a, b, c) => (3, a, b, c, 0.0, 0.0),
+        Call::RatQuad(a, b, w) => (4, a, b, o, w, 0.0),
+        Call::RatCubic(a, b, c, v, w) => (5, a, b, c, v, w),
+        Call::Build => (6, o, o, o, 0.0, 0.0),
+    };
+    [kind, a.x.to_bits(), a.y.to_bits(), b.x.to_bits(), b.y.to_bits(), c.x.to_bits(), c.y.to_bits(), v.to_bits(), w.to_bits()]
+}
+
+/// One drawing. Without points, a list for the tables alone.
+fn drawing(text: &mut String, setting: u32, calls: &[Call], store: &Store, seen: &Seen, points: bool) {
+    let t = &seen.tables;
+    let words = if points { seen.words.len() as u32 } else { 0 };
+    row(
+        text,
+        &[
+            setting,
+            calls.len() as u32,
+            store.x.len() as u32,
+            store.commands.len() as u32,
+            store.opening as u32,
+            t.x0.len() as u32,
+            t.curvature.len() as u32,
+            words,
+        ],
+    );
+    for call in calls {
+        row(text, &call_row(call));
+    }
+    for i in 0..store.x.len() {
+        row(text, &[store.x[i].to_bits(), store.y[i].to_bits(), store.weight[i].to_bits()]);
+    }
+    for c in &store.commands {
+        row(text, &[*c as u32]);
+    }
+    for i in 0..t.x0.len() {
+        let three = |c: &[f32]| [c[3 * i].to_bits(), c[3 * i + 1].to_bits(), c[3 * i + 2].to_bits()];
+        let [x, y, w] = [three(&t.x), three(&t.y), three(&t.weight)];
+        row(
+            text,
+            &[
+                x[0],
+                x[1],
+                x[2],
+                y[0],
+                y[1],
+                y[2],
+                w[0],
+                w[1],
+                w[2],
+                t.x0[i].to_bits(),
+                t.dx_recip[i].to_bits(),
+                t.k0[i].to_bits(),
+                t.dk[i].to_bits(),
+                t.curvatures_recip[i].to_bits(),
+                t.partial_curvatures[i].to_bits(),
+                t.partial_splines[i],
+            ],
+        );
+    }
+    for i in 0..t.curvature.len() {
+        row(
+            text,
+            &[t.curvature[i].to_bits(), t.p0x[i].to_bits(), t.p0y[i].to_bits(), t.p2x[i].to_bits(), t.p2y[i].to_bits(), t.contour[i] as u32],
+        );
+    }
+    if points {
+        for i in 0..seen.words.len() {
+            row(text, &[seen.words[i], seen.x[i].to_bits(), seen.y[i].to_bits(), seen.end[i] as u32]);
+        }
+    }
+}
+
+/// What a drawing must not exceed, so that it fits the rooms of the program and the list stays small.
+struct Limits {
+    points: usize,
+    quads: usize,
+    words: usize,
+}
+
+const SMALL: Limits = Limits { points: 40, quads: 10, words: 40 };
+const LARGE: Limits = Limits { points: 200, quads: 126, words: 1000 };
+
+fn fits(calls: &[Call], l: &Limits) -> bool {
+    let Ok((st, c)) = drawn(calls) else { return false };
+    if st.points > l.points {
+        return false;
+    }
+    // the list has only drawings whose cubics both cut alike
+    let pieces = screen::pieces(calls);
+    if pieces_of(st, &c, exact_pieces).iter().zip(&pieces).any(|(a, b)| *a != *b as u64) || pieces.iter().sum::<usize>() > l.quads {
+        return false;
+    }
+    let [a, b] = [screen::flatten(calls), knife::flatten(calls)];
+    [a, b].iter().all(|s| s.words.len() <= l.words && s.tables.x0.len() <= l.quads && s.tables.curvature.len() <= 60)
+}
+
+/// Any number of random drawings within the large limits, both settings by turns.
+pub fn many(drawings: u32, seed: u64) -> String {
+    let mut rng = Rng(seed);
+    let mut text = format!("{drawings:08x}\n");
+    let mut n = 0;
+    while n < drawings {
+        let k = kind(&mut rng);
+        let calls = random(&mut rng, k);
+        if fits(&calls, &LARGE) {
+            let seen = if n % 2 == 0 { screen::flatten(&calls) } else { knife::flatten(&calls) };
+            drawing(&mut text, n % 2, &calls, &screen::store(&calls), &seen, true);
+            n += 1;
+        }
+    }
+    text
+}
+
+/// The lists of `flatten_cases` and `tables_cases`; says which rules decided how often.
+pub fn fixed() -> (String, String) {
+    let mut room = Room::new(4096, 4096, 1 << 16);
+    let mut n = Counts::default();
+
+    // which drawings: directed ones, and random ones, where a rule that decided seldom so far decides again
+    let mut chosen: Vec<Vec<Call>> = Vec::new();
+    let mut seen_often = [0u64; cover::NAMES.len()];
+    let mut rng = Rng(2026);
+    let mut consider = |calls: Vec<Call>, always: bool, l: &Limits, often: u64| {
+        if !fits(&calls, l) {
+            return;
+        }
+        let before = cover::counts();
+        compare_drawing(&calls, true, &mut room, &mut n).expect("the model agrees");
+        let after = cover::counts();
+        let decided: Vec<usize> = (0..after.len()).filter(|i| after[*i] > before[*i]).collect();
+        if always || decided.iter().any(|i| seen_often[*i] < often) {
+            for i in decided {
+                seen_often[i] += 1;
+            }
+            chosen.push(calls);
+        }
+    };
+    let directed = directed();
+    for (i, calls) in directed.iter().enumerate() {
+        // the first are the examples; then one in 67, which is odd, so that built ones and others come by turns
+        consider(calls.clone(), i < 14 || i % 67 == 0, &SMALL, 8);
+    }
+    for i in 0..6000 {
+        let k = kind(&mut rng);
+        let calls = random(&mut rng, k);
+        consider(calls, i % 20 == 0, &SMALL, 12);
+    }
+    for calls in &directed {
+        consider(calls.clone(), false, &LARGE, 3);
+    }
+    for _ in 0..20_000 {
+        let k = kind(&mut rng);
+        let calls = random(&mut rng, k);
+        consider(calls, false, &LARGE, 3);
+    }
+
+    let mut flatten = String::new();
+    let mut tables = String::new();
+    let (mut screens, mut knives, mut tabled) = (0, 0, 0);
+    for calls in &chosen {
+        let store = screen::store(calls);
+        let [a, b] = [screen::flatten(calls), knife::flatten(calls)];
+        drawing(&mut flatten, 0, calls, &store, &a, true);
+        screens += 1;
+        if a.words != b.words {
+            drawing(&mut flatten, 1, calls, &store, &b, true);
+            knives += 1;
+        }
+        if tabled < 240 && a.tables.x0.len() <= 10 {
+            drawing(&mut tables, 0, calls, &store, &a, false);
+            tabled += 1;
+        }
+    }
+    // how many drawings there are stands first
+    let counted = |n: u32, text: String| format!("{n:08x}\n{text}");
+    let (flatten, tables) = (counted(screens + knives, flatten), counted(tabled, tables));
+    println!("{} drawings for flatten_cases, {screens} in the screen setting and {knives} in the knife setting; {tabled} for tables_cases", screens + knives);
+    for (name, often) in cover::NAMES.iter().zip(seen_often) {
+        println!("{often:6} drawings  {name}");
+    }
+    (flatten, tables)
+}
