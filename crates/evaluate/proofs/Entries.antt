@@ -138,13 +138,13 @@ module _ (q : QuadTable) (s : SplineTable) (k : ℕ) (from : Place) (o : Output)
 
 -- ---- the whole walk
 walk-from-written : (setting : Setting) (q : QuadTable) (s : SplineTable) (n k : ℕ) (from : Place) (o : Output)
-    → writeWalkFrom setting q s n k from o ≡ writeItems q s (from .at) (walkFrom setting q s n k (from .cursor)) o
+    → writeWalkFrom q s n k from o ≡ writeItems q s (from .at) (walkFrom setting q s n k (from .cursor)) o
 unfolding writeWalkFrom walkFrom writeItems
 walk-from-written setting q s zero k from o = refl
 walk-from-written setting q s (suc n) k from o =
     let items = splineItemsOf q s k (from .cursor) in
     let cursor = cursorAfter q s k (from .cursor) in
-    ap (λ (w : Written). writeWalkFrom setting q s n (k + 1) (w .place) (w .output)) (spline-written q s k from o)
+    ap (λ (w : Written). writeWalkFrom q s n (k + 1) (w .place) (w .output)) (spline-written q s k from o)
     ∙ walk-from-written setting q s n (k + 1) (placeAt (from .at + length items) cursor) (writeItems q s (from .at) items o)
     ∙ sym (items-append q s (from .at) items (walkFrom setting q s n (k + 1) cursor) o)
 
@@ -192,6 +192,6 @@ written-fits q s items o h =
     )
 
 pub walk-written : (setting : Setting) (q : QuadTable) (s : SplineTable) (n : ℕ) (o : Output) → fitsOutput (length (walkOf setting q s n)) o ≡ true
-    → writeWalkOf setting q s n o ≡ writeOutput q s (walkOf setting q s n) o
+    → writeWalkOf q s n o ≡ writeOutput q s (walkOf setting q s n) o
 unfolding writeWalkOf walkOf
 walk-written setting q s n o e = walk-from-written setting q s n 0 (placeAt 0 0) o ∙ written-fits q s (walkOf setting q s n) o e

@@ -113,17 +113,17 @@ unfolding writeSplineOf
 spline-passes q k last row from start to r o₀ o₁ o₂ o₃ size n word hs hz hn ht hw ho hr = rw (← hs, ← hz, ← hn, ← ht, ← hw, ← ho, ← hr)
 
 -- ---- all splines
-pub record Walking (setting : Setting) (q : QuadTable) (s : SplineTable) (n : ℕ) (o₀ o : Output) (last : SplineRow) (place : Place) (k left : ℕ) : Type 0 where
+pub record Walking (q : QuadTable) (s : SplineTable) (n : ℕ) (o₀ o : Output) (last : SplineRow) (place : Place) (k left : ℕ) : Type 0 where
   pub within : k + left ≡ n
   pub entry : place .at ≤ 65538 * k
   pub cursor : place .cursor ≤ 65538 * k
   pub before : last ≡ splineAt s (k - 1)
   pub long : Same o o₀
-  pub same : writeWalkOf setting q s n o₀ ≡ writeWalkFrom setting q s left k place o
+  pub same : writeWalkOf q s n o₀ ≡ writeWalkFrom q s left k place o
 
-pub walking-start : (setting : Setting) (q : QuadTable) (s : SplineTable) (n : ℕ) (o : Output) (last : SplineRow) → last ≡ splineAt s 0 → Walking setting q s n o o last (placeAt 0 0) 0 n
+pub walking-start : (q : QuadTable) (s : SplineTable) (n : ℕ) (o : Output) (last : SplineRow) → last ≡ splineAt s 0 → Walking q s n o o last (placeAt 0 0) 0 n
 unfolding writeWalkOf
-walking-start setting q s n o last e = record { within = omega arith; entry = omega arith; cursor = omega arith; before = e; long = same-refl; same = refl }
+walking-start q s n o last e = record { within = omega arith; entry = omega arith; cursor = omega arith; before = e; long = same-refl; same = refl }
 
 after-bound : (q : QuadTable) (s : SplineTable) (k cursor : ℕ) → cursorAfter q s k cursor ≤ cursor + 65537
 unfolding cursorAfter subdivisionsOf
@@ -136,18 +136,18 @@ after-bound q s k cursor =
     go true m c h l = omega arith
     go false m c h l = omega arith
 
-walk-more : (setting : Setting) (q : QuadTable) (s : SplineTable) (left k : ℕ) (from : Place) (o : Output) → 0 < left
-    → writeWalkFrom setting q s left k from o
-    ≡ writeWalkFrom setting q s (left - 1) (k + 1) (writeSplineOf q k (splineAt s (k - 1)) (splineAt s k) from o .place)
+walk-more : (q : QuadTable) (s : SplineTable) (left k : ℕ) (from : Place) (o : Output) → 0 < left
+    → writeWalkFrom q s left k from o
+    ≡ writeWalkFrom q s (left - 1) (k + 1) (writeSplineOf q k (splineAt s (k - 1)) (splineAt s k) from o .place)
     (writeSplineOf q k (splineAt s (k - 1)) (splineAt s k) from o .output)
 unfolding writeWalkFrom
-walk-more setting q s zero k from o h = absurd (let z : _≡_ {A = ℕ} 0 1 = omega arith in omega arith)
-walk-more setting q s (suc n) k from o h = let e : suc n - 1 ≡ n = omega arith in rw e
+walk-more q s zero k from o h = absurd (let z : _≡_ {A = ℕ} 0 1 = omega arith in omega arith)
+walk-more q s (suc n) k from o h = let e : suc n - 1 ≡ n = omega arith in rw e
 
-module _ (setting : Setting) (q : QuadTable) (s : SplineTable) (n : ℕ) (o₀ o : Output) (last : SplineRow) (place : Place) (k left : ℕ) (g : Walking setting q s n o₀ o last place k left) where
+module _ (q : QuadTable) (s : SplineTable) (n : ℕ) (o₀ o : Output) (last : SplineRow) (place : Place) (k left : ℕ) (g : Walking q s n o₀ o last place k left) where
   pub walking-more : (row : SplineRow) (place' : Place) (o' : Output) → 0 < left
       → row ≡ splineAt s k → written o' place' ≡ writeSplineOf q k last row place o → Same o' o
-      → Walking setting q s n o₀ o' row place' (k + 1) (left - 1)
+      → Walking q s n o₀ o' row place' (k + 1) (left - 1)
   walking-more row place' o' h hr hw l =
       let e : k + 1 - 1 ≡ k = omega arith in
       let w : written o' place' ≡ writeSplineOf q k (splineAt s (k - 1)) (splineAt s k) place o = rw (← g .before, ← hr) hw in
@@ -163,12 +163,12 @@ module _ (setting : Setting) (q : QuadTable) (s : SplineTable) (n : ℕ) (o₀ o
         cursor = let x = g .cursor in omega arith;
         before = rw e hr;
         long = same-trans l (g .long);
-        same = g .same ∙ walk-more setting q s left k place o h ∙ rw (← w);
+        same = g .same ∙ walk-more q s left k place o h ∙ rw (← w);
       }
 
-  pub walking-end : left ≤ 0 → o ≡ writeWalkOf setting q s n o₀
+  pub walking-end : left ≤ 0 → o ≡ writeWalkOf q s n o₀
   unfolding writeWalkFrom
-  walking-end h = let e : left ≡ 0 = omega arith in sym (g .same ∙ ap (λ (m : ℕ). writeWalkFrom setting q s m k place o) e)
+  walking-end h = let e : left ≡ 0 = omega arith in sym (g .same ∙ ap (λ (m : ℕ). writeWalkFrom q s m k place o) e)
 
 -- ---- the length tested, then all written
 module _ (setting : Setting) (q : QuadTable) (s : SplineTable) (n len : ℕ) (o : Output) (hl : len ≡ walkLengthOf s n) where
@@ -179,7 +179,7 @@ module _ (setting : Setting) (q : QuadTable) (s : SplineTable) (n len : ℕ) (o 
   unfolding deliverOf
   delivered-not h = rw (counted, h)
 
-  pub delivered : (o' : Output) → fitsOutput len o ≡ true → o' ≡ writeWalkOf setting q s n o → delivery true len o' ≡ deliverOf setting q s n o
+  pub delivered : (o' : Output) → fitsOutput len o ≡ true → o' ≡ writeWalkOf q s n o → delivery true len o' ≡ deliverOf setting q s n o
   unfolding deliverOf
   delivered o' h e =
       let f : fitsOutput (length (walkOf setting q s n)) o ≡ true = ap (λ (m : ℕ). fitsOutput m o) counted ∙ h in

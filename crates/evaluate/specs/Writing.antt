@@ -61,14 +61,14 @@ writeSplineOf q k last row from o =
     written (writeEntryOf (b .place .at) (packOf (End k (row .contour))) (finished (row .p2) (row .contour)) (b .output)) (endPlaceOf (row .curvature) (b .place))
 
 -- n splines from spline k on
-unfoldable pub writeWalkFrom : Setting → QuadTable → SplineTable → ℕ → ℕ → Place → Output → Output
-writeWalkFrom setting q s zero k from o = o
-writeWalkFrom setting q s (suc n) k from o =
+unfoldable pub writeWalkFrom : QuadTable → SplineTable → ℕ → ℕ → Place → Output → Output
+writeWalkFrom q s zero k from o = o
+writeWalkFrom q s (suc n) k from o =
     let w = writeSplineOf q k (splineAt s (k - 1)) (splineAt s k) from o in
-    writeWalkFrom setting q s n (k + 1) (w .place) (w .output)
+    writeWalkFrom q s n (k + 1) (w .place) (w .output)
 
-unfoldable pub writeWalkOf : Setting → QuadTable → SplineTable → ℕ → Output → Output
-writeWalkOf setting q s n o = writeWalkFrom setting q s n 0 (placeAt 0 0) o
+unfoldable pub writeWalkOf : QuadTable → SplineTable → ℕ → Output → Output
+writeWalkOf q s n o = writeWalkFrom q s n 0 (placeAt 0 0) o
 
 -- whether the walk fits and how long it is, with the outputs
 pub record Delivery : Type 0 where

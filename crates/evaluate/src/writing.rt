@@ -206,10 +206,9 @@ fn write_walk(
     out_x: &mut [f32],
     out_y: &mut [f32],
     out_end: &mut [u8],
-    setting: Setting,
     n: u32,
 )
-    ensures { λ _. ⌜ output (now (words .exit)) (now («out_x» .exit)) (now («out_y» .exit)) (now («out_end» .exit)) ≡ writeWalkOf setting (quadTable (now (x .entry)) (now (y .entry)) (now (weight .entry)) (now (x0 .entry)) (now («dx_recip» .entry)) (now (k0 .entry)) (now (dk .entry)) (now («curvatures_recip» .entry)) (now («partial_curvatures» .entry)) (now («partial_splines» .entry))) (splineTable (now (curvature .entry)) (now (p0x .entry)) (now (p0y .entry)) (now (p2x .entry)) (now (p2y .entry)) (now (contour .entry))) n (output (now (words .entry)) (now («out_x» .entry)) (now («out_y» .entry)) (now («out_end» .entry))) ⌝ }
+    ensures { λ _. ⌜ output (now (words .exit)) (now («out_x» .exit)) (now («out_y» .exit)) (now («out_end» .exit)) ≡ writeWalkOf (quadTable (now (x .entry)) (now (y .entry)) (now (weight .entry)) (now (x0 .entry)) (now («dx_recip» .entry)) (now (k0 .entry)) (now (dk .entry)) (now («curvatures_recip» .entry)) (now («partial_curvatures» .entry)) (now («partial_splines» .entry))) (splineTable (now (curvature .entry)) (now (p0x .entry)) (now (p0y .entry)) (now (p2x .entry)) (now (p2y .entry)) (now (contour .entry))) n (output (now (words .entry)) (now («out_x» .entry)) (now («out_y» .entry)) (now («out_end» .entry))) ⌝ }
 {
     let mut last = spline_at(curvature, p0x, p0y, p2x, p2y, contour, 0);
     let mut place = Place { at: 0, cursor: 0 };
@@ -308,7 +307,6 @@ pub fn deliver(
         out_x,
         out_y,
         out_end,
-        setting,
         n,
     );
     Delivered {

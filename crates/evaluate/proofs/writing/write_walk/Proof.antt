@@ -8,19 +8,19 @@ use Rattle.evaluate.proofs.writing.write_walk.Statement.{statement}
 use Rattle.evaluate.proofs.writing.write_walk.Tie as tie
 
 abbrev Inv-loop : tie.InvT-loop
-Inv-loop x y weight x0 dx-recip k0 dk curvatures-recip partial-curvatures partial-splines curvature p0x p0y p2x p2y contour words₀ out-x₀ out-y₀ out-end₀ setting n last₀ place₀ k₀ left₀ words out-x out-y out-end last place k left =
-    Walking setting (quadTable x y weight x0 dx-recip k0 dk curvatures-recip partial-curvatures partial-splines) (splineTable curvature p0x p0y p2x p2y contour) n
+Inv-loop x y weight x0 dx-recip k0 dk curvatures-recip partial-curvatures partial-splines curvature p0x p0y p2x p2y contour words₀ out-x₀ out-y₀ out-end₀ n last₀ place₀ k₀ left₀ words out-x out-y out-end last place k left =
+    Walking (quadTable x y weight x0 dx-recip k0 dk curvatures-recip partial-curvatures partial-splines) (splineTable curvature p0x p0y p2x p2y contour) n
     (output words₀ out-x₀ out-y₀ out-end₀) (output words out-x out-y out-end) last place k left
 
 abbrev μ-loop : tie.MeasureT-loop
-μ-loop x y weight x0 dx-recip k0 dk curvatures-recip partial-curvatures partial-splines curvature p0x p0y p2x p2y contour words₀ out-x₀ out-y₀ out-end₀ setting n last₀ place₀ k₀ left₀ words out-x out-y out-end last place k left =
+μ-loop x y weight x0 dx-recip k0 dk curvatures-recip partial-curvatures partial-splines curvature p0x p0y p2x p2y contour words₀ out-x₀ out-y₀ out-end₀ n last₀ place₀ k₀ left₀ words out-x out-y out-end last place k left =
     left
 
 spline-at-requires : tie.Need-spline-at-requires Inv-loop μ-loop
 spline-at-requires c κs = search needs
 
 loop-holds : tie.Need-loop-holds Inv-loop μ-loop
-loop-holds c = walking-start _ _ _ _ _ _ (c .spline-at .ensures)
+loop-holds c = walking-start _ _ _ _ _ (c .spline-at .ensures)
 
 cast-spline-at : tie.Need-cast-spline-at Inv-loop μ-loop
 cast-spline-at c = omega (arith, c .before .loop .inv .within, c .before .before .before .before .before .before .before .before .before .before .before .before .before .before .before .before .before .before .before .before .before .before .before .fits .n)
@@ -42,7 +42,7 @@ loop-less c = omega (arith, c .before .before .before .before .before .before .b
 
 loop-again : tie.Need-loop-again Inv-loop μ-loop
 loop-again c =
-    walking-more _ _ _ _ _ _ _ _ _ _ (c .before .before .before .before .before .before .before .before .before .before .before .before .before .before .before .loop .inv) _ _ _ (c .before .before .before .before .before .before .before .before .before .before .before .before .before .before .loop-test .taken) (c .before .before .before .before .before .before .before .before .before .before .before .before .before .spline-at2 .ensures) (c .before .before .before .before .before .before .before .before .write-spline .ensures)
+    walking-more _ _ _ _ _ _ _ _ _ (c .before .before .before .before .before .before .before .before .before .before .before .before .before .before .before .loop .inv) _ _ _ (c .before .before .before .before .before .before .before .before .before .before .before .before .before .before .loop-test .taken) (c .before .before .before .before .before .before .before .before .before .before .before .before .before .spline-at2 .ensures) (c .before .before .before .before .before .before .before .before .write-spline .ensures)
     (record { words = c .before .before .before .before .before .before .before .before .write-spline .kept .1 .1 .1 .1 .1 .1 .1 .1 .1 .1 .0; x = c .before .before .before .before .before .before .before .before .write-spline .kept .1 .1 .1 .1 .1 .1 .1 .1 .1 .1 .1 .0; y = c .before .before .before .before .before .before .before .before .write-spline .kept .1 .1 .1 .1 .1 .1 .1 .1 .1 .1 .1 .1 .0; end = c .before .before .before .before .before .before .before .before .write-spline .kept .1 .1 .1 .1 .1 .1 .1 .1 .1 .1 .1 .1 .1 .0 })
 
 same-length : tie.Need-same-length Inv-loop μ-loop
@@ -58,7 +58,7 @@ same-length-4 : tie.Need-same-length-4 Inv-loop μ-loop
 same-length-4 c = c .before .loop .inv .long .end
 
 returns : tie.Need-returns Inv-loop μ-loop
-returns c = walking-end _ _ _ _ _ _ _ _ _ _ (c .before .loop .inv) (c .loop-test .left)
+returns c = walking-end _ _ _ _ _ _ _ _ _ (c .before .loop .inv) (c .loop-test .left)
 
 pub write-walk-spec : {M : Type 1} → statement M
 write-walk-spec =
