@@ -1,7 +1,7 @@
 # Reads the list of a crate's wrong answers (README.md has the format) and, by the variable mode,
 #   test   says what is wrong with the list: a text that its function has not, or more than once, or a line that is missing
 #   apply  puts the wrong answers `which` (first or second) into the crate's copy at `dir`, and prints each changed function as the prover names it
-#   bare   the same, and takes the `ensures` of each changed function away; with the variable `only`, in that one function (as the prover names it)
+#   bare   the same, and takes the `ensures` of each changed function away; with the variable `only`, in those functions alone (as the prover names them)
 #   names  prints the functions listed
 #   table  prints the table of docs/PROMISES.md
 # Variables: mode, crate, dir (the crate's folder), which, only. A text is looked for in the function's body alone, by lines without their indentation.
@@ -111,7 +111,7 @@ END {
         if (mode == "names") print name[n]
         if (mode == "table") print "| `" name[n] "` | `" contract[n] "` | " words[n, "first"] " | " words[n, "second"] " |"
         path = dir "/" file[n]
-        if ((mode == "apply" || mode == "bare" && (only == "" || only == full_name(n))) && edit(n, which, path)) { printf "%s", edited > path; close(path); print full_name(n) }
+        if ((mode == "apply" || mode == "bare" && (only == "" || index(" " only " ", " " full_name(n) " "))) && edit(n, which, path)) { printf "%s", edited > path; close(path); print full_name(n) }
     }
     exit faults
 }
