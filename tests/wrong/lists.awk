@@ -52,6 +52,7 @@ function test_contract(n,    i, word, head, parts) {
     if (!find_body(n)) return
     head = ""
     for (i = begins - 1; i > 0 && line[i] ~ /^ *(requires|ensures) /; i--) head = head line[i]
+    if (head !~ /ensures .*\}$/) fault(n, "it has no `ensures` on a line of its own")
     parts = split(contract[n], word, /[^A-Za-z0-9_]+/)
     for (i = 1; i <= parts; i++)
         if ((i == 1 || word[i] ~ /Of$/) && !index(head, word[i])) fault(n, "its contract does not name " word[i])
