@@ -1,9 +1,10 @@
 # Reads the list of a crate's wrong answers (README.md has the format) and, by the variable mode,
 #   test   says what is wrong with the list: a text that its function has not, or more than once, or a line that is missing
 #   apply  puts the wrong answers `which` (first or second) into the crate's copy at `dir`, and prints each changed function as the prover names it
+#   bare   the same, and takes the `ensures` of each changed function away; with the variable `only`, in those functions alone (as the prover names them)
 #   names  prints the functions listed
 #   table  prints the table of docs/PROMISES.md
-# Variables: mode, crate, dir (the crate's folder), which. A text is looked for in the function's body alone, by lines without their indentation.
+# Variables: mode, crate, dir (the crate's folder), which, only. A text is looked for in the function's body alone, by lines without their indentation.
 
 function fault(n, message) {
     print "tests/wrong/" crate ": " name[n] ": " message
@@ -28,7 +29,7 @@ function keep(key, line) {
 /^new: / { keep("new", substr($0, 6)); next }
 { fault(count, "a line that says nothing: " $0) }
 
-# Where the body of entry n begins and ends among the lines of its file: between { and } at the function's own indentation.
+# Where the head of entry n stands among the lines of its file, and where its body begins and ends: between { and } at the function's own indentation.
 function find_body(n,    own, type, in_type, indent, i, found) {
     own = name[n]
     type = ""
@@ -38,7 +39,7 @@ function find_body(n,    own, type, in_type, indent, i, found) {
         if (line[i] ~ /^impl /) in_type = line[i]
         if (line[i] == "}") in_type = ""
         if (in_type != (type == "" ? "" : "impl " type " {")) continue
-        if (!found && line[i] ~ ("^ *pub (extern \"C\" )?fn " own "[(<]")) { found = i; indent = line[i]; sub(/[^ ].*/, "", indent) }
+        if (!found && line[i] ~ ("^ *pub (extern \"C\" )?fn " own "[(<]")) { found = heads = i; indent = line[i]; sub(/[^ ].*/, "", indent) }
         if (found && !begins && line[i] == indent "{") begins = i
         if (begins && line[i] == indent "}") { ends = i; return 1 }
     }
@@ -51,6 +52,7 @@ function test_contract(n,    i, word, head, parts) {
     if (!find_body(n)) return
     head = ""
     for (i = begins - 1; i > 0 && line[i] ~ /^ *(requires|ensures) /; i--) head = head line[i]
+    if (head !~ /ensures .*\}$/) fault(n, "it has no `ensures` on a line of its own")
     parts = split(contract[n], word, /[^A-Za-z0-9_]+/)
     for (i = 1; i <= parts; i++)
         if ((i == 1 || word[i] ~ /Of$/) && !index(head, word[i])) fault(n, "its contract does not name " word[i])
@@ -74,7 +76,7 @@ function edit(n, p, path,    i, s, body, at, old, rest) {
     rest = substr(body, at + length(old))
     if (old == "" || !at || index(rest, old)) { fault(n, "the old text of '" p "' does not stand in it exactly once"); return 0 }
     edited = ""
-    for (i = 1; i <= begins; i++) edited = edited line[i] "\n"
+    for (i = 1; i <= begins; i++) if (!(mode == "bare" && i >= heads && line[i] ~ /^ *ensures /)) edited = edited line[i] "\n"
     body = "\n" substr(body, 1, at - 1) text[n, p, "new"] substr(rest, 1, length(rest) - 1)
     gsub(/\n/, "\n        ", body)
     edited = edited substr(body, 2) "\n"
@@ -110,7 +112,7 @@ END {
         if (mode == "names") print name[n]
         if (mode == "table") print "| `" name[n] "` | `" contract[n] "` | " words[n, "first"] " | " words[n, "second"] " |"
         path = dir "/" file[n]
-        if (mode == "apply" && edit(n, which, path)) { printf "%s", edited > path; close(path); print full_name(n) }
+        if ((mode == "apply" || mode == "bare" && (only == "" || index(" " only " ", " " full_name(n) " "))) && edit(n, which, path)) { printf "%s", edited > path; close(path); print full_name(n) }
     }
     exit faults
 }

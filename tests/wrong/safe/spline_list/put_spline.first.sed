@@ -1,0 +1,2 @@
+s/true-lit !/false-lit !/
+s/exits gn true/exits gn false/
