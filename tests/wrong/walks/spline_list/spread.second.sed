@@ -1,0 +1,1 @@
+fill.first.sed
