@@ -3,7 +3,7 @@
 #   apply  puts the wrong answers `which` (first or second) into the crate's copy at `dir`, and prints each changed function as the prover names it
 #   bare   the same, and takes the `ensures` of each changed function away; with the variable `only`, in those functions alone (as the prover names them)
 #   names  prints the functions listed
-#   table  prints the table of docs/PROMISES.md
+#   table  prints the table of docs/WRONG-ANSWERS.md
 # Variables: mode, crate, dir (the crate's folder), which, only. A text is looked for in the function's body alone, by lines without their indentation.
 
 function fault(n, message) {

@@ -1,4 +1,4 @@
--- 01, "Numbered answers": the number of each answer. It is matched here and nowhere else. Assumes nothing.
+-- RULES, Answers: the number of each answer. It is matched here and nowhere else. Assumes nothing.
 use Prim.Native.Nat.{ℕ}
 use mathlib.Core.Bool.{Bool}
 use lib.Dec.{eqb}

@@ -1,4 +1,4 @@
--- 01, "Packed words and the walk": a command as a word of 32 bits, and back. Assumes nothing.
+-- RULES, Packed words: a command as a word of 32 bits, and back. Assumes nothing.
 use Prim.Native.Nat.{ℕ, _+_, _/_, _%_}
 use mathlib.Core.Bool.{cond}
 use lib.Dec.{eqb}

@@ -1,4 +1,4 @@
--- 01, "Packed words and the walk": "Points follow `into_segments`". Assumes nothing.
+-- RULES, Points: "Points follow `into_segments`". Assumes nothing.
 use Prim.Native.Nat.{ℕ, _+_, _-_, _*_}
 use mathlib.Core.Bool.{Bool, false, _&&_, cond}
 use mathlib.Core.List.{List, map}

@@ -1,4 +1,4 @@
--- 01, "Numbered answers": the words and the outputs of a walk. "Words and outputs are written only on 0, entries past the count are unchanged". Assumes nothing.
+-- RULES, Flattening 4: the words and the outputs of a walk. "Words and outputs are written only on 0, entries past the count are unchanged". Assumes nothing.
 use Prim.Native.Nat.{ℕ}
 use mathlib.Core.Bool.{Bool, _&&_}
 use mathlib.Core.List.{List, _++_, map}

@@ -1,4 +1,4 @@
--- 01, "Numbered answers": the whole flattening, from all that is lent to the result and all that is then held. Assumes nothing.
+-- RULES, Flattening and Answers 11: the whole flattening, from all that is lent to the result and all that is then held. Assumes nothing.
 use Prim.Native.Nat.{ℕ}
 use mathlib.Core.Bool.{Bool, true, false, _&&_}
 use mathlib.Core.List.{List, _++_, map}

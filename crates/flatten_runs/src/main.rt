@@ -1,4 +1,4 @@
-// The run-only examples of 01, and the drawings of P1 to P8, through the compiled code. For each it writes the store's points, the answer, the counts of splines,
+// The examples that are only run, and the drawings of P1 to P8, through the compiled code. For each it writes the store's points, the answer, the counts of splines,
 // quads and points, and the first words, all in hex.
 ghost use mathlib.Core.Path.{_≡_};
 ghost use Prim.Native.Nat.{_≤_};

@@ -1,4 +1,4 @@
--- 01, "Numbered answers": "NaN is stored as 0x7FC00000". The bits of an f32, and the f32 of any bits: every NaN's pattern gives the one NaN. Assumes nothing.
+-- RULES, Numbers 10: "NaN is stored as 0x7FC00000". The bits of an f32, and the f32 of any bits: every NaN's pattern gives the one NaN. Assumes nothing.
 use Prim.Native.Nat.{ℕ}
 use mathlib.Core.Bool.{cond}
 use lib.Ieee.{Float, binary32, isNan, toBits, ofBits}

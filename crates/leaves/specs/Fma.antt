@@ -1,4 +1,4 @@
--- 01, port order 1: fused multiply-add, IEEE 754's fusedMultiplyAdd: x * y + z, worked out exactly and rounded once. Where x or y is a NaN or an infinity the
+-- RULES, Numbers 3: fused multiply-add, IEEE 754's fusedMultiplyAdd: x * y + z, worked out exactly and rounded once. Where x or y is a NaN or an infinity the
 -- product is exact as it is, so there it is the product and then the sum; a finite product is exact however large. Assumes nothing.
 use Prim.Native.Nat.{_*_}
 use lib.Ieee.{Float, nan, inf, fin, Format, binary32, up, down, unlike, sum, add, mul}

@@ -1,4 +1,4 @@
--- 01, port order 1: "fused multiply-add". IEEE 754's fusedMultiplyAdd in binary32, in the standard's words and not by a computation: what r has to be, for r to
+-- RULES, Numbers 3: IEEE 754's fusedMultiplyAdd in binary32, in the standard's words and not by a computation: what r has to be, for r to
 -- be x * y + z. For any x, y and z exactly one r obeys: `fma32 x y z` (`fma-lawful` and `fma-only`, leaves/proofs/FmaOnly). The numbers are the
 -- standard's clauses. Assumes nothing.
 use mathlib.Core.Path.{_≡_}

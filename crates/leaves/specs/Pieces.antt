@@ -1,4 +1,4 @@
--- 01, Primitives: "Pieces: r times the largest of w1, w2, 1, rounded, then the least whole number not below that, at least 1". Assumes nothing.
+-- RULES, Cubics 2: "Pieces: r times the largest of w1, w2, 1, rounded, then the least whole number not below that, at least 1". Assumes nothing.
 use Prim.Native.Nat.{ℕ, max}
 use lib.Ieee.{Float}
 use Rattle.leaves.specs.Single.{_⊗_, one32}

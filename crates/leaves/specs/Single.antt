@@ -1,4 +1,4 @@
--- 01, head: "Rounded" means nearest, ties to even. The f32 operations, each rounded once, as operators, and an f32 from its bits. Assumes nothing.
+-- RULES, Numbers 2: "Rounded" means nearest, ties to even. The f32 operations, each rounded once, as operators, and an f32 from its bits. Assumes nothing.
 use Prim.Native.Nat.{ℕ}
 use lib.IntN.{pos}
 use lib.Ieee.{Float, binary32, add, sub, mul, div, ofInt, ofBits}

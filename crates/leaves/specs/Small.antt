@@ -1,4 +1,4 @@
--- 01, port order 1: absolute, min, max, clamp ("zeros keep IEEE signs; clamp keeps NaN, min and max drop it") and the next whole number up, as a float.
+-- RULES, Numbers 5 to 8: absolute, min, max, clamp ("zeros keep IEEE signs; clamp keeps NaN, min and max drop it") and the next whole number up, as a float.
 -- Assumes nothing.
 use Prim.Native.Nat.{zero, suc, _+_, _-_, _*_, _/_}
 use mathlib.Core.Bool.{Bool, true, false, not, _&&_, _||_, cond}

@@ -1,4 +1,4 @@
--- 01, port order 1: "square root". IEEE 754's squareRoot in binary32, in the standard's words and not by a computation: what r has to be, for r to be the root
+-- RULES, Numbers 4: IEEE 754's squareRoot in binary32, in the standard's words and not by a computation: what r has to be, for r to be the root
 -- of x. For any f32 x exactly one r obeys: `sqrt32 x` (`sqrt-lawful` and `sqrt-only`, leaves/proofs/SqrtOnly). Nothing overflows. The
 -- numbers are the standard's clauses. Assumes nothing.
 use mathlib.Core.Path.{_≡_}

@@ -1,4 +1,4 @@
--- 01, "Forms that change": "Saturating `as usize` becomes a tested conversion". The least whole number not below x, as a count. Assumes nothing.
+-- RULES, Numbers 9: "Saturating `as usize` becomes a tested conversion". The least whole number not below x, as a count. Assumes nothing.
 use Prim.Native.Nat.{ℕ, _+_, _-_, _/_}
 use mathlib.Core.Bool.{_&&_, cond}
 use lib.Ieee.{Float, le}

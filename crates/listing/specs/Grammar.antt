@@ -1,4 +1,4 @@
--- 01, "The program": the six op names, their keys in order, and the call that each makes. Assumes nothing.
+-- RULES, The program 3: the six op names, their keys in order, and the call that each makes. Assumes nothing.
 use Prim.Native.Nat.{ℕ}
 use mathlib.Core.List.{List, [], _∷_, _++_}
 use lib.Ieee.{Float, nan}

@@ -1,4 +1,4 @@
--- 01, "The program": "It reads standard input, builds, flattens in the screen setting." All of its output, from all of its input. Assumes nothing.
+-- RULES, The program: "It reads standard input, builds, flattens in the screen setting." All of its output, from all of its input. Assumes nothing.
 use Prim.Native.Nat.{ℕ}
 use mathlib.Core.Bool.{Bool, true, false}
 use mathlib.Core.List.{List, []}

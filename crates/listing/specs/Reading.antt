@@ -1,4 +1,4 @@
--- 01, "The program": reading. Every line has a fixed width, so a place in the text and a line number say how far it is read. Assumes nothing.
+-- RULES, The program: reading. Every line has a fixed width, so a place in the text and a line number say how far it is read. Assumes nothing.
 use Prim.Native.Nat.{ℕ, zero, suc, _+_, _≤_}
 use mathlib.Core.Bool.{Bool, true, false, _&&_, cond}
 use mathlib.Core.List.{List, [], _∷_, _++_}

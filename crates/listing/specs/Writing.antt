@@ -1,4 +1,4 @@
--- 01, "The program": "Output: answer, line, points, then x, y, end for each point; x and y in eight lowercase hex digits, the others in plain decimal, each line ended
+-- RULES, The program 9: "Output: answer, line, points, then x, y, end for each point; x and y in eight lowercase hex digits, the others in plain decimal, each line ended
 -- by 0x0A." Assumes nothing.
 use Prim.Native.Nat.{ℕ, zero, suc, _+_}
 use mathlib.Core.Path.{_≡_}

@@ -1,4 +1,4 @@
--- 01, "Primitives, from 000 and 001": angles, by `approx_atan2` of point.rs, and when an angle has changed. Assumes nothing.
+-- RULES, Angles: by `approx_atan2` of point.rs, and when an angle has changed. Assumes nothing.
 use mathlib.Core.Bool.{Bool, false, cond}
 use lib.Ieee.{Float, lt, le, neg}
 use Rattle.leaves.specs.Single.{_⊖_, _⊗_, _⊘_, f32, zero32}

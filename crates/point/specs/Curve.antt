@@ -1,4 +1,4 @@
--- 01, "Primitives, from 000 and 001": lerp, curvature and its inverse, and the evaluation of quads and cubics, nested as the Rust nests them. Assumes nothing.
+-- RULES, Quads, Cubics and Points: lerp, curvature and its inverse, and the evaluation of quads and cubics, nested as the Rust nests them. Assumes nothing.
 use lib.Ieee.{Float, neg}
 use Rattle.leaves.specs.Single.{_⊕_, _⊖_, _⊗_, _⊘_, f32, one32, recip}
 use Rattle.leaves.specs.Fma.{fma32}

@@ -1,4 +1,4 @@
--- 01, "Primitives, from 000 and 001": a cubic is cut into pieces, each of which is a quad of weight 1. Assumes nothing.
+-- RULES, Cubics: a cubic is cut into pieces, each of which is a quad of weight 1. Assumes nothing.
 use Prim.Native.Nat.{ℕ, zero, suc, _+_}
 use mathlib.Core.Bool.{Bool, true, false}
 use mathlib.Core.List.{List, [], _∷_}

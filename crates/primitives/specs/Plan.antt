@@ -1,4 +1,4 @@
--- 01, "Primitives, from 000 and 001" and "Numbered answers": what one primitive changes, or how it is refused. "each primitive tests 5, 6, 7, 8, as far as it would
+-- RULES, Lines, Quads and Answers 10: what one primitive changes, or how it is refused. "each primitive tests 5, 6, 7, 8, as far as it would
 -- store there, before it stores anything". Assumes nothing.
 use Prim.Native.Nat.{ℕ, _+_}
 use mathlib.Core.Bool.{Bool, true, not, _&&_, cond}

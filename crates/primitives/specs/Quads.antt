@@ -1,4 +1,4 @@
--- 01, "Primitives, from 000 and 001": the numbers of a quad's curve, as `push_quad` works them out, from its three points after the division by their weights.
+-- RULES, Quads 4 to 6: the numbers of a quad's curve, as `push_quad` works them out, from its three points after the division by their weights.
 -- Assumes nothing.
 use mathlib.Core.Bool.{Bool, not, _||_, cond}
 use lib.Ieee.{Float, le, neg}

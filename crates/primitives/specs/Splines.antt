@@ -1,4 +1,4 @@
--- 01, "Primitives, from 000 and 001": when a primitive opens a spline, and the spline's row and the state after it. Assumes nothing.
+-- RULES, Opening and Lines: when a primitive opens a spline, and the spline's row and the state after it. Assumes nothing.
 use Prim.Native.Nat.{ℕ, _+_, _-_}
 use mathlib.Core.Bool.{Bool, true, false, not, _||_, cond}
 use lib.Ieee.{Float, le}

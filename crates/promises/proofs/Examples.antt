@@ -1,4 +1,4 @@
--- P1 to P12 of 01 hold of the definitions, as one statement over their list, by computation. Assumes nothing.
+-- P1 to P12 (RULES, Examples) hold of the definitions, as one statement over their list, by computation. Assumes nothing.
 use mathlib.Core.Path.{_≡_, refl}
 use mathlib.Core.List.{List, map}
 use lib.Count.{trailingZeros}

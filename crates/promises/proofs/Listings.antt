@@ -1,4 +1,4 @@
--- The program's example of 01 holds of the definitions, and so do some refused listings, by computation. Assumes nothing.
+-- The program's example holds of the definitions, and so do some refused listings, by computation. Assumes nothing.
 use mathlib.Core.Path.{_≡_, refl}
 use mathlib.Core.List.{List, map}
 use lib.Count.{trailingZeros}

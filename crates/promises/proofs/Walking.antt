@@ -1,4 +1,4 @@
--- Laws of the walk: cut after each End it falls into the items of each spline in turn, whose commands are Start, steps and End as 01 says, whatever the cursor is; and over
+-- Laws of the walk: cut after each End it falls into the items of each spline in turn, whose commands are Start, steps and End as the rules say, whatever the cursor is; and over
 -- sound tables every command of it can be packed. Assumes nothing.
 use mathlib.Core.Path.{_≡_, refl, sym, ap, ap₂, _∙_, subst}
 use mathlib.Core.Logic.{_⊎_, inl, inr}

@@ -37,7 +37,7 @@ Accepted job = flatteningOf job .result .answer ≡ Done
 abbrev pub wordsIn : Flattening → List ℕ
 wordsIn f = take (f .result .points) (f .output .words)
 
--- 01's walk over the tables that it leaves
+-- the walk over the tables that it leaves
 abbrev pub walkIn : Setting → Flattening → List Item
 walkIn setting f = walkOf setting (f .quads) (f .splines) (f .result .splines)
 
@@ -72,7 +72,7 @@ pub record ContourLast (job : Job) (k : ℕ) : Type 0 where
   pub within : Within job a b k
   pub last : suc k ≡ splinesBefore job b
 
--- ---- spline k in words: "with 01's Start, 01's number and size of steps"
+-- ---- spline k in words: "with its Start and its number and size of steps"
 abbrev pub stepsOf : SplineTable → ℕ → ℕ
 stepsOf s k = subdivisionsOf s k - 1
 

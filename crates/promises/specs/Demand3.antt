@@ -24,7 +24,7 @@ Demand3a = (job : Job) → Accepted job → decoded (wordsIn (flatteningOf job))
 abbrev pub NeverNan : Type 0
 NeverNan = (job : Job) → Accepted job → (i : ℕ) → i < length (wordsIn (flatteningOf job)) → getD (wordsIn (flatteningOf job)) i 0 ≢ 0x7fc0_0000
 
--- 3b. "Cut after each End: piece k is spline k, with 01's Start, 01's number and size of steps"
+-- 3b. "Cut after each End: piece k is spline k, with its Start and its number and size of steps"
 pub record PiecesAreSplines (f : Flattening) : Type 0 where
   pub as-many : length (piecesIn (wordsIn f)) ≡ f .result .splines
   pub each : (k : ℕ) → k < f .result .splines → decoded (getD (piecesIn (wordsIn f)) k []) ≡ pieceOf (f .splines) k

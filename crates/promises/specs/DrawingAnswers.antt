@@ -1,4 +1,4 @@
--- 01, "Numbered answers", of the drawing calls: each answer, if and only if what 01 says. "Drawing calls test 3, 1, 2, 4 in that order". Assumes nothing.
+-- RULES, Answers, of the drawing calls: each answer, if and only if what the rules say. "Drawing calls test 3, 1, 2, 4 in that order". Assumes nothing.
 use Prim.Native.Nat.{ℕ, _+_, _-_, _≤_, _<_}
 use mathlib.Core.Path.{_≡_}
 use mathlib.Core.Logic.{_⊎_, _≢_, _↔_}

@@ -1,4 +1,4 @@
--- 01, "Examples on both sides": P1 to P12, each as what the definitions give and what 01 claims, in one list. Assumes nothing.
+-- RULES, Examples: P1 to P12, each as what the definitions give and what is claimed, in one list. Assumes nothing.
 use Prim.Native.Nat.{ℕ}
 use mathlib.Core.Bool.{true}
 use mathlib.Core.List.{List, [], _∷_, _++_, map}

@@ -1,4 +1,4 @@
--- 01, "Numbered answers", of flattening: each answer, if and only if what 01 says of the drawing, of what was pushed before, and of the buffers. Assumes nothing.
+-- RULES, Answers, of flattening: each answer, if and only if what the rules say of the drawing, of what was pushed before, and of the buffers. Assumes nothing.
 use Prim.Native.Nat.{ℕ, _-_, _*_, _≤_, _<_}
 use mathlib.Core.Path.{_≡_}
 use mathlib.Core.Logic.{_⊎_, _≢_, _↔_}
@@ -63,7 +63,7 @@ pub data Straight (p0 p1 p2 : WeightedPoint) : Type 0 where
   first-missing : (b : Float) → legOf p0 p1 ≡ Missing → legOf p1 p2 ≡ Known b → Straight p0 p1 p2
   second-missing : (a : Float) → legOf p0 p1 ≡ Known a → legOf p1 p2 ≡ Missing → Straight p0 p1 p2
 
--- 01's rule when a primitive opens a spline, of one that begins at p0 with this angle
+-- RULES, Opening: whether a primitive opens a spline, for one that begins at p0 with this angle
 abbrev pub opensAt : Setting → World → Angle → WeightedPoint → Bool
 opensAt setting w angle p0 = opensOf setting (w .state) (lastSplineOf (w .splines) (w .state .splines)) angle (appliedOf p0)
 

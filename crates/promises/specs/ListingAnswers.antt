@@ -1,4 +1,4 @@
--- 01, "The program": each answer and its line, if and only if what holds of the text. What a good text is, is said by printing it (listing/specs/Printing); all
+-- RULES, The program: each answer and its line, if and only if what holds of the text. What a good text is, is said by printing it (listing/specs/Printing); all
 -- else goes by the calls of its commands on a fresh drawing. When a call is answered so is said in DrawingAnswers, and when a flattening is, in FlattenAnswers.
 -- "11 is tested first, then the first fault in text order wins; a command is drawn once its last line is read. Lines count from 1." Assumes nothing.
 use Prim.Native.Nat.{ℕ, _+_, _≤_, _<_}
@@ -89,7 +89,7 @@ pub record Flattens (text : List ℕ) (a : Answer) : Type 0 where
   pub built : builtOf (read .good .commands) .answer ≡ Done
   pub answer : flatteningOf (jobOf (read .good .commands)) .result .answer ≡ a
 
--- the points of 01's walk over the tables that a flattening leaves
+-- the points of the walk over the tables that a flattening leaves
 abbrev pub pointsIn : Flattening → List Finished
 pointsIn f = pointsOf (f .quads) (f .splines) (walkIn Screen f)
 

@@ -1,4 +1,4 @@
--- 01, "The program": its example, the doubled point, and listings that are refused, each with the output that is claimed. Assumes nothing.
+-- RULES, The program: its example, the doubled point, and listings that are refused, each with the output that is claimed. Assumes nothing.
 use Prim.Native.Nat.{ℕ}
 use mathlib.Core.List.{List, [], _∷_}
 use Rattle.text.specs.Bytes.{bytes}

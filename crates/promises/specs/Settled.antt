@@ -1,4 +1,4 @@
--- 01, "What the contracts settle": "That two outcomes allowed by a contract coincide is proved". A contract is one equation between all that a call gives back or leaves in
+-- PROMISES, "What the contracts settle": "That two outcomes allowed by a contract coincide is proved". A contract is one equation between all that a call gives back or leaves in
 -- what it was lent, and a definition over what it was given. So for each form that a contract has: two outcomes that satisfy it are the same, part by part. Which public
 -- function has which form is a table of docs/PROMISES.md, held to the sources by tests/settled/run.
 -- All NaNs are one value here; which bytes a NaN then has in an f32 column is not settled, and that is the one exception. Assumes nothing.

@@ -1,4 +1,4 @@
--- What "nearest, ties to even" means: 01, head. Values are compared as fractions of whole numbers, with signs. Assumes nothing.
+-- RULES, Numbers 2: what "nearest, ties to even" means. Values are compared as fractions of whole numbers, with signs. Assumes nothing.
 use mathlib.Core.Path.{_≡_}
 use mathlib.Core.Bool.{Bool, cond}
 use Prim.Native.Nat.{ℕ, suc, _-_, _*_, _%_, _^_, _≤_}

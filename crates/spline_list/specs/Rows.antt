@@ -1,4 +1,4 @@
--- 01, "The table of splines is offered as a lent list of records too": the rows of the columns as records, and whole lists
+-- RULES, The tables 8: the rows of the columns as records, and whole lists
 -- that go from the columns and back. Assumes nothing.
 use Prim.Native.Nat.{ℕ, zero, suc}
 use mathlib.Core.Bool.{Bool, false, cond, _&&_}

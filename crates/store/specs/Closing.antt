@@ -1,4 +1,4 @@
--- 01, "Drawing store": closing. "Closing compares the last point with the open point, each as (x·(1/w), y·(1/w)). If they differ as floats, it appends the open point
+-- RULES, The store 7: closing. "Closing compares the last point with the open point, each as (x·(1/w), y·(1/w)). If they differ as floats, it appends the open point
 -- and a Line." Assumes nothing.
 use Prim.Native.Nat.{ℕ, _-_}
 use mathlib.Core.Bool.{Bool, not}

@@ -1,4 +1,4 @@
--- 01, "Drawing store" and "Numbered answers": the four columns, and when a store is unusable. Assumes nothing.
+-- RULES, The store and Answers: the four columns, and when a store is unusable. Assumes nothing.
 use Prim.Native.Nat.{ℕ, _-_, max}
 use mathlib.Core.Bool.{Bool, _&&_}
 use mathlib.Core.List.{List}

@@ -1,4 +1,4 @@
--- 01, "Drawing store" and "Numbered answers": each drawing call, as a function from state and columns to answer, state and columns. Assumes nothing.
+-- RULES, The store and Answers: each drawing call, as a function from state and columns to answer, state and columns. Assumes nothing.
 use Prim.Native.Nat.{ℕ, _+_, _-_}
 use mathlib.Core.Bool.{Bool, true, false, not, _&&_, _||_, cond}
 use mathlib.Core.List.{List, [], _∷_, _++_}

@@ -1,4 +1,4 @@
--- 01, "Numbered answers": "Then commands are taken in order". The primitives of a store's commands, and the tables of a drawing. Assumes nothing.
+-- RULES, Commands: "Then commands are taken in order". The primitives of a store's commands, and the tables of a drawing. Assumes nothing.
 use Prim.Native.Nat.{ℕ, zero, suc, _+_, _-_}
 use mathlib.Core.List.{List, [], _∷_, _++_}
 use lib.ListN.{take}

@@ -1,4 +1,4 @@
--- 01, "Numbered answers": a run over a list of primitives. "On 5 to 8 the tables hold all that was pushed before the refused primitive, pieces of its own cubic
+-- RULES, Commands 2 and Answers 11: a run over a list of primitives. "On 5 to 8 the tables hold all that was pushed before the refused primitive, pieces of its own cubic
 -- included." Assumes nothing.
 use mathlib.Core.Bool.{true, cond}
 use mathlib.Core.List.{List, [], _∷_}

@@ -1,4 +1,4 @@
--- 01, "Primitives" and "Numbered answers": the quad table and the spline table as records of columns, their capacities, and what an edit stores. Assumes nothing.
+-- RULES, The tables: the quad table and the spline table as records of columns, their capacities, and what an edit stores. Assumes nothing.
 use Prim.Native.Nat.{ℕ, _+_, _-_, _*_, _/_, min}
 use mathlib.Core.Bool.{Bool, true, false, cond}
 use mathlib.Core.List.{List}

@@ -1,4 +1,4 @@
--- 01, "The program": "Each key and op name is compared byte by byte as a fixed string." Texts as lists of bytes. Assumes nothing.
+-- RULES, The program 5: "Each key and op name is compared byte by byte as a fixed string." Texts as lists of bytes. Assumes nothing.
 use Prim.Native.Nat.{ℕ}
 use Prim.Native.String.{String, [] as empty, _∷_ as _◂_}
 use Prim.Native.Char.{code}

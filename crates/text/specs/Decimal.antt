@@ -1,4 +1,4 @@
--- 01, "The program": "the others in plain decimal". Assumes nothing.
+-- RULES, The program 9: "the others in plain decimal". Assumes nothing.
 use Prim.Native.Nat.{ℕ, zero, suc, _+_, _/_, _%_}
 use mathlib.Core.Bool.{Bool, true, false}
 use mathlib.Core.List.{List, [], _∷_, _++_}

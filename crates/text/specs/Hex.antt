@@ -1,4 +1,4 @@
--- 01, "The program": "Numbers are eight lowercase hex digits". Assumes nothing.
+-- RULES, The program 4: "Numbers are eight lowercase hex digits". Assumes nothing.
 use Prim.Native.Nat.{ℕ, zero, suc, _+_, _-_, _*_, _/_, _%_}
 use mathlib.Core.Bool.{Bool, true, _&&_, cond}
 use mathlib.Core.List.{List, [], _∷_, _++_}

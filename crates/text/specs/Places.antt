@@ -1,4 +1,4 @@
--- 01, "The program": "the line where the wrong or missing byte is due", for any notion of a good text. A text is right up to a place if some ending completes it to a good
+-- RULES, The program 8: "the line where the wrong or missing byte is due", for any notion of a good text. A text is right up to a place if some ending completes it to a good
 -- text; the place where the wrong or missing byte is due is the end of the longest such beginning. Assumes nothing.
 use Prim.Native.Nat.{ℕ, suc, _≤_}
 use mathlib.Core.Path.{_≡_}

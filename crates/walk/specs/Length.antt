@@ -1,4 +1,4 @@
--- 01, "Packed words and the walk": how many items the walk has, from the splines alone. Assumes nothing.
+-- RULES, The walk 7: how many items the walk has, from the splines alone. Assumes nothing.
 use Prim.Native.Nat.{ℕ, zero, suc, _+_, _-_}
 use mathlib.Core.Bool.{cond}
 use lib.Ieee.{Float}

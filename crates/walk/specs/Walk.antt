@@ -1,4 +1,4 @@
--- 01, "Packed words and the walk": the walk as a list of items, each a command with the step's number and its quad. Assumes nothing.
+-- RULES, The walk: the walk as a list of items, each a command with the step's number and its quad. Assumes nothing.
 use Prim.Native.Nat.{ℕ, zero, suc, _+_, _-_}
 use mathlib.Core.Bool.{Bool, _||_, cond}
 use mathlib.Core.List.{List, [], _∷_, _++_, map}
