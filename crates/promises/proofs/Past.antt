@@ -139,7 +139,7 @@ module _ (caps : Capacities) (q : QuadTable) (s : SplineTable) where
   push-past : (w : World) → Sound caps w → TablesPast q s w → {b : Bool} {w' : World} → Pushed caps w b w' → TablesPast q s w'
   unfolding refusedOf markedOf applyOf splineEditOf
   push-past w S P (kept answer) = record { quads = P .quads; splines = P .splines }
-  push-past w S P marked = record { quads = P .quads; splines = P .splines }
+  push-past w S P (marked _) = record { quads = P .quads; splines = P .splines }
   push-past w S P (lined true start end angle A) =
       let n = w .state .splines in
       record { quads = P .quads; splines = put-spline-past n (n + 1) _ s (w .splines) (up n) (new n) (P .splines) }

@@ -57,7 +57,7 @@ module _ (setting : Setting) (caps : Capacities) where
   push-kept : (w : World) {b : Bool} {w' : World} → Pushed caps w b w' → isDone (w .state .answer) ≡ true → isDone (w' .state .answer) ≡ false → w' ≡ world (refusedOf (w .state) (w' .state .answer)) (w .quads) (w .splines)
   unfolding refusedOf markedOf applyOf splineEditOf
   push-kept w (kept answer) d h = refl
-  push-kept w marked d h = absurd (true≢false (sym d ∙ h))
+  push-kept w (marked _) d h = absurd (true≢false (sym d ∙ h))
   push-kept w (lined true start end angle A) d h = absurd (true≢false h)
   push-kept w (lined false start end angle A) d h = absurd (true≢false h)
   push-kept w (bent true start end angle c row A B K fit e o) d h = absurd (true≢false h)
