@@ -30,7 +30,7 @@ pub enum Answer {
     InputTooLong,
 }
 
-// The only match on an answer: all else asks for its number.
+// The only match on an answer: all other code goes by its number.
 pub fn number(a: Answer) -> u32
     ensures { λ r. ⌜ r ≡ numberOf a ⌝ }
 {

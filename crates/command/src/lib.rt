@@ -13,7 +13,7 @@ pub enum PointCommand {
 }
 
 impl PointCommand {
-    // Spline numbers are below the limit; the mask keeps their 22 bits, and the flag stands above them.
+    // Spline numbers are below the limit; the mask keeps their 22 bits, and the flag is the bit above them.
     pub const INDEX_LIMIT: usize = 0x40_0000;
 
     pub const INDEX_MASK: u32 = 0x3f_ffff;

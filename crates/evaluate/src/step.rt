@@ -1,4 +1,4 @@
-// The point of a step: into_segments of path.rs, for one step.
+// The point of one step: what `into_segments` of path.rs does for it.
 ghost use mathlib.Core.Path.{_≡_};
 ghost use Prim.Native.Nat.{_≤_};
 ghost use Rattle.leaves.specs.Single.{whole32};

@@ -252,7 +252,7 @@ fn holds(words: &[u32], out_x: &[f32], out_y: &[f32], out_end: &[u8], length: u6
         & (length <= out_end.len() as u64)
 }
 
-// The walk over n splines, written where it fits. Both settings are alike here.
+// The walk over n splines, written if it fits. It is the same in both settings.
 pub fn deliver(
     x: &[f32],
     y: &[f32],

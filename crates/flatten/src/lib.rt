@@ -16,7 +16,7 @@ pub struct Flattened {
     pub points: usize,
 }
 
-// The drawing as it stands in the store becomes tables, words and points. It is not closed first, and each call reads it anew.
+// The drawing in the store becomes tables, words and points. It is not closed first, and each call reads it anew.
 pub fn flatten(
     setting: Setting,
     st: StoreState,

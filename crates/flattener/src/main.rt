@@ -4,7 +4,7 @@ use libc::STDOUT_FILENO;
 use listing::Listed;
 
 fn main() {
-    // One byte more than a listing may have, which tells a longer input from one of that length.
+    // One byte more than a listing may have, so that a longer input is noticed.
     let mut input = [0u8; 16385];
     let mut output = [0u8; 14418];
     let n = io::read_full(STDIN_FILENO, &mut input);
@@ -12,7 +12,7 @@ fn main() {
         Listed::Bytes(m) => {
             io::write_all(STDOUT_FILENO, &output[..m]);
         }
-        // Never: every output fits, which the proof of this call shows.
+        // This never happens: the proof of this call shows that every output fits.
         Listed::Short => check::expect(false),
     }
 }

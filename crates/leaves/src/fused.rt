@@ -52,8 +52,8 @@ fn total(s: bool, x: u64, t: bool, y: u64, z: u64) -> f32
     parts::rounded(sum_sign(s, x, t, y), sum_size(s, x, t, y), z, 161)
 }
 
-// p * 2 ^ pe and q * 2 ^ qe, both brought to the higher exponent, which leaves one as it is. Where
-// the other loses something the sum is so large that what is lost only says which way to round.
+// p * 2 ^ pe and q * 2 ^ qe, both brought to the higher exponent, so one of them stays as it is. If
+// the other loses digits, the sum is so large that the lost digits only decide which way to round.
 fn align(s: bool, p: u64, pe: u64, t: bool, q: u64, qe: u64) -> f32
     requires { ⌜ Aligns p pe q qe ⌝ }
     ensures { λ r. ⌜ r ≡ sum binary32 s (p * 2 ^ pe) t (q * 2 ^ qe) (2 ^ 311) ⌝ }

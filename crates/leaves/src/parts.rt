@@ -1,5 +1,5 @@
-// A float's pattern taken apart and put together, and the one rounding between. In a pattern b of
-// a finite f32 are digits(b) * 2 ^ place(b) of the smallest values, 2 ^ -149.
+// A float's pattern taken apart and put together, and the one rounding in between. The finite f32
+// of pattern b is digits(b) * 2 ^ place(b) times the smallest value, 2 ^ -149.
 ghost use mathlib.Core.Path.{_≡_};
 ghost use mathlib.Core.Logic.{_⊎_};
 ghost use Prim.Native.Nat.{suc, _+_, _*_, _/_, _%_, _^_, _<_, _≤_};
@@ -79,7 +79,7 @@ fn lift(m: u64) -> u64
     (u64::leading_zeros(m) as u64) - 2
 }
 
-// m * 2 ^ z / 2 ^ (150 + y), rounded: 2 ^ y counts a half of the smallest value. m is brought to 62
+// m * 2 ^ z / 2 ^ (150 + y), rounded: 2 ^ y is worth half of the smallest value. m is shifted to 62
 // digits by its leading zeros; then 24 of them stay, or as many as reach down to the smallest value.
 pub fn rounded(s: bool, m: u64, z: u64, y: u64) -> f32
     requires { ⌜ m < 2 ^ 62 ⌝ }

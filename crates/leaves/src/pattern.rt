@@ -2,7 +2,7 @@
 ghost use mathlib.Core.Path.{_≡_};
 ghost use Rattle.leaves.specs.Bits.{bitsOf, floatOf};
 
-// 0x7fc0_0000 stands for the NaN.
+// The NaN's bits are 0x7fc0_0000.
 pub fn bits(x: f32) -> u32
     ensures { λ r. ⌜ r ≡ bitsOf x ⌝ }
 {

@@ -1,4 +1,4 @@
-// Square root by a guess and an exact correction over whole numbers, which alone carries the proof.
+// Square root by a guess and an exact correction over whole numbers. The proof rests on the correction alone.
 use crate::parts;
 ghost use mathlib.Core.Path.{_≡_};
 ghost use Prim.Native.Nat.{_*_, _^_, _<_, _≤_};
@@ -6,8 +6,8 @@ ghost use lib.Ieee.{binary32};
 ghost use Rattle.rounding.specs.Roots.{rooted, IsNear};
 ghost use Rattle.leaves.specs.Sqrt.{sqrt32};
 
-// About 2 ^ 16 over the root of 1 + f / 2 ^ 23, or of twice that, by a cubic. Of this, `gap` and
-// `guess` only a bound is proved: `settle` makes the answer right.
+// About 2 ^ 16 over the root of 1 + f / 2 ^ 23, or of twice that, by a cubic polynomial. Of this
+// function, `gap` and `guess` only bounds are proved: `settle` makes the answer right.
 fn inverse(f: u64, even: bool) -> u64
     requires { ⌜ f < 0x80_0000 ⌝ }
     ensures { λ r. ⌜ r ≤ 65467 ⌝ }
@@ -59,7 +59,7 @@ fn settle(n: u64, start: u64) -> u64
     r
 }
 
-// By how much m is shifted left to have 24 digits: not at all, but for a subnormal.
+// By how much m is shifted left to have 24 digits: 0, except for a subnormal.
 fn lift(m: u64) -> u64
     requires { ⌜ 0 < m ⌝ }
     requires { ⌜ m < 2 ^ 24 ⌝ }

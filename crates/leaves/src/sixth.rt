@@ -53,7 +53,7 @@ fn settle(t: u64) -> u64
     lo
 }
 
-// By how much m is shifted left to have 31 to 36 digits, so that what is left of e + 637 goes by six.
+// By how much m is shifted left to have 31 to 36 digits, such that e + 637 less the shift is a multiple of six.
 fn shift(m: u64, e: u64) -> u64
     requires { ⌜ 0 < m ⌝ }
     requires { ⌜ m < 2 ^ 24 ⌝ }

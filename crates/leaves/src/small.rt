@@ -1,4 +1,4 @@
-// Absolute, min, max and clamp: zeros keep IEEE signs, clamp keeps NaN, min and max drop it.
+// Absolute value, min, max and clamp: zeros keep IEEE signs, clamp keeps NaN, min and max drop it.
 use crate::parts;
 ghost use mathlib.Core.Path.{_≡_};
 ghost use Rattle.leaves.specs.Small.{negativeOf, absOf, lessOf, minOf, maxOf, clampOf};

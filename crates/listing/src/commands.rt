@@ -41,7 +41,7 @@ fn op_at(listing: &[u8], at: usize) -> OpAt
     OpAt::Wrong
 }
 
-// The fields of each op, from the place and line behind its op line.
+// The fields of each op, from the place and line after its op line.
 fn move_fields(listing: &[u8], at: usize, line: usize) -> Command
     requires { ⌜ Placed (now listing) at line ⌝ }
     ensures { λ r. ⌜ r ≡ withFields Op.Move (fieldsFrom (now (listing .entry)) at line [] (keysOf Op.Move)) ⌝ }

@@ -23,19 +23,19 @@ pub enum Op {
     RatCubic,
 }
 
-// What stands where an op line is due.
+// What is found where an op line must come.
 pub enum OpAt {
     Found(Op),
     Wrong,
 }
 
-// What stands where a field is due: its key, eight digits and a line end; or something else.
+// What is found where a field must come: its key, eight digits and a line end; or something else.
 pub enum Field {
     Value(f32),
     Wrong,
 }
 
-// Two fields, two points or three points that are read, or the line of the first fault.
+// Two fields, two points or three points as they were read, or the line of the first fault.
 pub enum Pair {
     Read(f32, f32),
     Wrong(usize),
@@ -51,7 +51,7 @@ pub enum ThreePoints {
     Wrong(usize),
 }
 
-// One command: its call, with the place and line behind it; a fault's line; or the end of the text.
+// One command: its call, with the place and line after it; a fault's line; or the end of the text.
 pub enum Command {
     Drawing(Call, usize, usize),
     Fault(usize),
@@ -65,7 +65,7 @@ pub enum Progress {
     Stopped(Answer, usize),
 }
 
-// How many bytes are written; or that the output is too short for them, and none is.
+// How many bytes were written; or that the output is too short for them, and nothing was written.
 pub enum Listed {
     Bytes(usize),
     Short,

@@ -15,7 +15,7 @@ ghost use Rattle.listing.specs.Writing.{lineOf, pointLines, allPointLine
 use crate::Listed;
 use answer::Answer;
 
-// A line with a number in plain decimal; the place behind it.
+// Writes a line with a number in plain decimal, and gives the place after it.
 fn decimal_line(buffer: &mut [u8], at: usize, key: &[u8], n: u64) -> usize
     requires { ⌜ at + length (lineOf (now key) (decimalOf n)) ≤ length (now buffer) ⌝ }
     ensures { λ r. ⌜ WrittenAs (lineOf (now (key .entry)) (decimalOf n)) (now (buffer .entry)) at (now (buffer .exit)) r ⌝ }
@@ -30,7 +30,7 @@ fn decimal_line(buffer: &mut [u8], at: usize, key: &[u8], n: u64) -> usize
     end + 1
 }
 
-// A line with the bits of a float in eight hex digits; the place behind it.
+// Writes a line with the bits of a float in eight hex digits, and gives the place after it.
 fn hex_line(buffer: &mut [u8], at: usize, key: &[u8], v: f32) -> usize
     requires { ⌜ at + length (lineOf (now key) (hexOf (bitsOf v))) ≤ length (now buffer) ⌝ }
     ensures { λ r. ⌜ WrittenAs (lineOf (now (key .entry)) (hexOf (bitsOf v))) (now (buffer .entry)) at (now (buffer .exit)) r ⌝ }
@@ -45,7 +45,7 @@ fn hex_line(buffer: &mut [u8], at: usize, key: &[u8], v: f32) -> usize
     end + 1
 }
 
-// The three lines of a finished point; the place behind them.
+// Writes the three lines of a finished point, and gives the place after them.
 fn point_lines(buffer: &mut [u8], at: usize, x: f32, y: f32, end: u8) -> usize
     requires { ⌜ at + 28 ≤ length (now buffer) ⌝ }
     ensures { λ r. ⌜ WrittenAs (pointLines (finished (pointAt x y) (isFlagOf end))) (now (buffer .entry)) at (now (buffer .exit)) r ⌝ }

@@ -1,5 +1,5 @@
-// Runs each listing of standard input through the library's entry, and writes what it writes. Before each listing stand its number of bytes, in
-// six decimal digits, and a line end, or an `s` where only 20 bytes are lent for the output.
+// Runs each listing of standard input through the library's entry, and writes what it writes. Before each listing come its number of bytes, in
+// six decimal digits, and a line end, or an `s` if only 20 bytes are to be lent for the output.
 use libc::STDIN_FILENO;
 use libc::STDOUT_FILENO;
 use listing::Listed;

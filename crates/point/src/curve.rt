@@ -15,12 +15,12 @@ const B: f32 = 0.39;
 // 2^-100
 const EXACT_QUARTER: f32 = 7.888609e-31;
 
-// a - t * a, rounded once. That is a * (1 - t), so where 1 - t is exact a product will do, but for a zero, whose sign could differ.
+// a - t * a, rounded once. That is a * (1 - t), so if 1 - t is exact a plain product gives the same, except for a zero, whose sign could differ.
 fn lessened(t: f32, a: f32) -> f32
     ensures { λ r. ⌜ r ≡ fma32 (neg t) a a ⌝ }
 {
     let rest = 1.0 - t;
-    // From 0.5 to 1 the difference from 1 is exact. Below 0.5 it is where the way back gives t.
+    // For t from 0.5 to 1 the difference 1 - t is exact. For t below 0.5 it is exact if 1 less that difference gives t back.
     let exact = ((0.5 <= t) & (t < 1.0)) | ((0.5 <= rest) & (rest < 1.0) & (1.0 - rest == t));
     // a - a is 0 where a is finite.
     if exact & (a != 0.0) & (a - a == 0.0) {
@@ -35,7 +35,7 @@ pub fn lerp(t: f32, a: f32, b: f32) -> f32
     leaves::fma(t, b, lessened(t, a))
 }
 
-// x / 4 + c, rounded once. From 2^-100 on x / 4 is exact, so that the processor's product and sum will do.
+// x / 4 + c, rounded once. From 2^-100 on x / 4 is exact, so the processor's product and sum give the same.
 fn quarter_plus(x: f32, c: f32) -> f32
     ensures { λ r. ⌜ r ≡ fma32 x (f32 0x3e80_0000) c ⌝ }
 {
@@ -87,7 +87,7 @@ fn quad_weight(t: f32, a: f32, b: f32, c: f32) -> f32
     quad_at(t, a, b, c)
 }
 
-// The same of a cubic.
+// The weight of a cubic at t, in the same way.
 fn cubic_weight(t: f32, a: f32, b: f32, c: f32, d: f32) -> f32
     ensures { λ r. ⌜ r ≡ cubicAtOf t a b c d ⌝ }
 {

@@ -51,7 +51,7 @@ pub fn diff(a0: f32, a1: f32) -> f32
     diff
 }
 
-// Both settings are alike here.
+// This is the same in both settings.
 pub fn changed(setting: Setting, a0: Angle, a1: Angle) -> bool
     ensures { λ r. ⌜ r ≡ changedOf setting a0 a1 ⌝ }
 {

@@ -35,7 +35,7 @@ pub enum Angle {
 }
 
 impl Point {
-    // The square of f32::EPSILON, 2^-23: the least length that has an angle.
+    // The square of f32::EPSILON, which is 2^-23: a shorter direction has no angle.
     const EPSILON_SQUARED: f32 = 1.4210855e-14;
 
     pub fn new(x: f32, y: f32) -> Self
@@ -77,7 +77,7 @@ impl Point {
     pub fn angle(self) -> Angle
         ensures { λ r. ⌜ r ≡ angleOf self ⌝ }
     {
-        // The rounded root reaches 2^-23 just where the square reaches 2^-46.
+        // The rounded root reaches 2^-23 exactly when the square reaches 2^-46, so no root is needed.
         if self.squared() >= Self::EPSILON_SQUARED {
             return Angle::Known(approx_atan2(self.y, self.x));
         }

@@ -20,7 +20,7 @@ fn bend(p0: f32, p1: f32, p2: f32) -> f32
     fma(p2, 3.0, -p0) - fma(p1, 3.0, -p1)
 }
 
-// The end point isn't in it, in the Rust either.
+// The end point is not in it; it is not in the Rust's either.
 fn cubic_error(c: Cubic) -> f32
     ensures { λ r. ⌜ r ≡ cubicErrorOf c ⌝ }
 {

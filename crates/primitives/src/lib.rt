@@ -1,4 +1,4 @@
-// The plan: what one primitive does to the tables, worked out on values alone. Primitives of path.rs.
+// The plan: what one primitive does to the tables, worked out on values alone. `Primitives` of path.rs.
 mod cubics;
 mod planning;
 mod quads;

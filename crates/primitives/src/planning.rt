@@ -36,7 +36,7 @@ fn refused(st: State, answer: Answer) -> State
     }
 }
 
-// push_contour: a mark waits. Both settings are alike here.
+// push_contour: a mark waits. This is the same in both settings.
 fn marked(setting: Setting, st: State) -> State
     ensures { λ r. ⌜ r ≡ markedOf setting st ⌝ }
 {

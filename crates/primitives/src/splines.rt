@@ -15,7 +15,7 @@ ghost use Rattle.primitives.specs.Splines.{farOf, opensOf, lineAngleOf, 
 // The square of MAX_ERROR, 0.0625.
 const MAX_ERROR_SQUARED: f32 = 0.00390625;
 
-// The rounded root reaches 0.0625 just where the square reaches its square.
+// The rounded root reaches 0.0625 exactly when the square reaches 0.0625 squared, so no root is needed.
 fn far(start: Point, last: SplineRow) -> bool
     ensures { λ r. ⌜ r ≡ farOf start last ⌝ }
 {
@@ -55,7 +55,7 @@ fn below(n: u32) -> u32
     if n == 0 { 0 } else { n - 1 }
 }
 
-// Callers refuse a spline past the capacity first, so that one more can be counted.
+// Callers first refuse a spline past the capacity, so the count plus one does not wrap.
 pub fn spline_edit(
     opens: bool,
     st: State,

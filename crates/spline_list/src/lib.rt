@@ -1,5 +1,5 @@
-// The spline table as a lent list of records, thin over its columns. No function over such a list is covered by the borrow checker, so each is proved by hand;
-// what they decide and read is left to functions that are.
+// The spline table as a lent list of records, beside its columns. The toolchain's borrow checker does not cover functions over such a list, so each of these is
+// proved by hand. They leave what they decide and read to functions that it does cover.
 ghost use mathlib.Core.Path.{_≡_};
 ghost use lib.Dec.{ltb};
 ghost use lib.ListN.{length, set};
@@ -21,7 +21,7 @@ pub struct Spline {
     pub contour: bool,
 }
 
-// What stands at an index of a list.
+// The record at an index of a list, or that the index is past the list.
 pub enum Found {
     At(Spline),
     Past,
@@ -59,7 +59,7 @@ pub fn row_at<'c>(
     }
 }
 
-// A record goes to row i of the columns; where a column ends before it, nothing is written there.
+// Writes a record to row i of the columns; a column that ends before it stays as it was.
 pub fn put_row(
     curvature: &mut [f32],
     p0x: &mut [f32],
@@ -114,7 +114,7 @@ fn agree(
     n <= contour
 }
 
-// How many rows go: all, or none where the lengths are unequal.
+// How many rows are copied: all, or none if the lengths are unequal.
 fn count(agreed: bool, n: usize) -> usize
     ensures { λ r. ⌜ r ≡ countOf agreed n ⌝ }
 {
@@ -127,7 +127,7 @@ fn outcome(agreed: bool) -> Copied
     if agreed { Copied::All } else { Copied::Unequal }
 }
 
-// The first n rows of the columns go to a list of n records.
+// Copies the first n rows of the columns to a list of n records.
 pub fn fill<'l, 'c>(
     list: &'l mut [Spline],
     curvature: &'c [f32],
@@ -159,7 +159,7 @@ pub fn fill<'l, 'c>(
     outcome(agreed)
 }
 
-// The way back: the n records of a list go to the first n rows of the columns, and the rows past them stay.
+// Copies the n records of a list back to the first n rows of the columns; the rows past them stay.
 pub fn spread(
     list: &[Spline],
     curvature: &mut [f32],

@@ -1,4 +1,4 @@
-// The columns: when a store is usable, a point read and written, and what closing asks.
+// The columns: when a store is usable, reading and writing a point, and whether a contour is unclosed.
 
 ghost use mathlib.Core.Path.{_≡_};
 ghost use mathlib.Core.List.{List, []};

@@ -24,7 +24,7 @@ pub use builder::rat_cubic_to;
 pub use builder::rat_quad_to;
 pub use whole::drawable;
 
-// What stands beside the columns: how many points and commands there are, and which point opened the contour.
+// The state beside the columns: how many points and commands there are, and which point opened the contour.
 pub struct StoreState {
     pub points: usize,
     pub commands: usize,
@@ -37,7 +37,7 @@ pub struct Drawn {
     pub state: StoreState,
 }
 
-// A drawing call as a value; the weights of a rational call stand last.
+// A drawing call as a value; the weights of a rational call come last.
 pub enum Call {
     Move(Point),
     Line(Point),

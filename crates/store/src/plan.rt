@@ -1,4 +1,4 @@
-// What a call is to do, decided on values before anything is written: an answer that refuses it, or all its points and commands.
+// What a call will do, decided on values before anything is written: an answer that refuses it, or all its points and commands.
 
 ghost use mathlib.Core.Path.{_≡_};
 ghost use mathlib.Core.Bool.{true, false};
@@ -22,7 +22,7 @@ use answer::Answer;
 use point::Point;
 use point::WeightedPoint;
 
-// The points of a call, with a closing point at most three.
+// The points of a call: at most three, a closing point included.
 pub enum Batch {
     Empty,
     One(WeightedPoint),
@@ -43,7 +43,7 @@ impl Batch {
     }
 }
 
-// The commands of a call; the closing line stands first.
+// The commands of a call; the closing line comes first.
 pub enum Marks {
     Empty,
     One(u8),
@@ -62,7 +62,7 @@ impl Marks {
     }
 }
 
-// Points from an index on, commands behind the last, and the open index after the call.
+// Points from an index on, commands after the last one, and the open index after the call.
 pub struct Plan {
     pub at: usize,
     pub points: Batch,
@@ -75,7 +75,7 @@ pub enum Decision {
     Store(Plan),
 }
 
-// Behind the last point and the last command.
+// After the last point and the last command.
 fn append(st: StoreState, points: Batch, command: u8) -> Plan
     ensures { λ r. ⌜ writesBy r ≡ appended st (pointsIn points) command ⌝ }
 {
@@ -115,7 +115,7 @@ fn close(x: &[f32], y: &[f32], weight: &[f32], st: StoreState) -> Plan
     append(st, Batch::One(opening), LINE)
 }
 
-// PathBuilder::move_to, where the last command is no Move.
+// PathBuilder::move_to, if the last command is no Move.
 fn move_on(x: &[f32], y: &[f32], weight: &[f32], st: StoreState, p: Point) -> Plan
     requires { ⌜ Standing st (columns (now x) (now y) (now weight) []) ⌝ }
     ensures { λ r. ⌜ writesBy r ≡ moved st (columns (now (x .entry)) (now (y .entry)) (now (weight .entry)) []) p false (unclosedOf st (columns (now (x .entry)) (now (y .entry)) (now (weight .entry)) [])) ⌝ }
@@ -196,7 +196,7 @@ fn plan_of(
     }
 }
 
-// Answer 4, by what is left: a sum with a count made by hand could wrap.
+// Answer 4, by the room that is left, so that no sum can wrap.
 fn has_room(x: &[f32], commands: &[u8], st: StoreState, plan: Plan) -> bool
     requires { ⌜ (plan .at ≤ length (now x)) × (st .commands ≤ length (now commands)) ⌝ }
     ensures { λ r. ⌜ r ≡ roomOf (writesBy plan) st (columns (now (x .entry)) [] [] (now (commands .entry))) ⌝ }

@@ -1,4 +1,4 @@
-// Replays drawing calls that were made with the original Rust: reads them, what is to be seen after each, and writes how many
+// Replays drawing calls that were made with the original Rust: reads them and what must be seen after each, and writes how many
 // answers, states and entries agree. A line is a letter and its words, each of eight hex digits; tests/rust/answers has the list's letters.
 use libc::STDIN_FILENO;
 use libc::STDOUT_FILENO;
@@ -36,7 +36,7 @@ fn letter() -> u8 {
     start[0]
 }
 
-// All ones stand for the largest count.
+// A word of all ones means the largest count.
 fn count() -> usize {
     let n = word();
     if n == 0xffff_ffff {
@@ -72,7 +72,7 @@ fn same_state(a: StoreState, b: StoreState) -> bool {
     (a.points == b.points) & (a.commands == b.commands) & (a.opening == b.opening)
 }
 
-// A length that can be lent of a column.
+// How much of a column is lent: the length asked for, or all of it.
 fn lent(n: usize, most: usize) -> usize
     ensures { λ r. ⌜ r ≤ most ⌝ }
 {
@@ -219,7 +219,7 @@ fn made(
     run
 }
 
-// A call, and the answer that it is to give.
+// A call, and the answer that it must give.
 fn called(
     x: &mut [f32],
     y: &mut [f32],
@@ -247,7 +247,7 @@ fn called(
     told(run, answer::number(answer) == word())
 }
 
-// A line that says what is to be seen: whether the drawing can be flattened, the state, a point or a command.
+// A line that says what must be seen: whether the drawing can be flattened, the state, a point or a command.
 fn seen(x: &[f32], y: &[f32], weight: &[f32], commands: &[u8], run: Run, l: u8) -> Run {
     let st = run.state;
     if l == b't' {

@@ -32,7 +32,7 @@ const LINE: u8 = 1;
 
 const CUBIC: u8 = 3;
 
-// No column of floats is as long: a point from here on is not there.
+// No column of floats is this long, so there is no point from this index on.
 const NO_POINT: usize = 0x4000_0000_0000_0000;
 
 // The Rust's `points!`.
@@ -87,7 +87,7 @@ fn uses(k: u8) -> usize
     if k == 0 { 1 } else { k as usize }
 }
 
-// The points used up behind the command k. A number without a point stays, so that it never wraps.
+// The points used up after command k. A number past every point stays as it is, so the sum never wraps.
 fn advance(j: usize, k: u8) -> usize
     ensures { λ r. ⌜ r ≡ cond (ltb j (2 ^ 62)) (j + usesOf k) j ⌝ }
 {

@@ -1,4 +1,4 @@
-// One row of a table, written and read. An index past the end of a column writes nothing there, and reads what stands for nothing.
+// One row of a table, written and read. An index past the end of a column writes nothing there, and reads NaN or 0.
 ghost use mathlib.Core.Path.{_≡_};
 ghost use Prim.Native.Nat.{_-_};
 ghost use Rattle.tables.specs.Tables.{quadTable, splineTable, setThree, putQuad, clearFlag, putSpline, splineAt, lastSplineOf};
@@ -68,7 +68,7 @@ pub fn below(n: usize) -> usize
     if n == 0 { 0 } else { n - 1 }
 }
 
-// Where `clears` is true the flag of the spline before k goes.
+// If `clears` is true, the flag of the spline before k is cleared.
 fn clear_flag(clears: bool, contour: &mut [u8], k: usize)
     ensures { λ _. ⌜ now (contour .exit) ≡ clearFlag clears (now (contour .entry)) k ⌝ }
 {
@@ -123,7 +123,7 @@ pub fn spline_at(
     }
 }
 
-// The last of n splines; where there is none a mark waits, so what stands for it decides nothing.
+// The last of n splines. If there is none, a mark waits, so the spline given in its place decides nothing.
 pub fn last_spline(
     curvature: &[f32],
     p0x: &[f32],

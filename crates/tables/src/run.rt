@@ -1,4 +1,4 @@
-// Primitives pushed into the tables: push_line, push_quad and push_cubic of path.rs, by way of the plan.
+// Primitives pushed into the tables, as planned: push_line, push_quad and push_cubic of path.rs.
 use crate::rows::last_spline;
 use crate::rows::put_quad;
 use crate::rows::put_spline;
@@ -70,7 +70,7 @@ fn apply(
     }
 }
 
-// One primitive, where nothing was refused before it.
+// One primitive, if nothing was refused before it.
 pub fn push(
     quad_x: &mut [f32],
     quad_y: &mut [f32],

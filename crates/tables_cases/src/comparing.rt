@@ -1,4 +1,4 @@
-// What the library left, compared with the numbers that follow on standard input. Every row is read to its end, also behind a difference.
+// What the library left, compared with the numbers that follow on standard input. Every row is read to its end, also after a difference.
 use crate::reading;
 use columns::read_f32;
 use columns::read_u8;

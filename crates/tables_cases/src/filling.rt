@@ -1,9 +1,9 @@
-// A run over a drawing into tables of this program's own, whose entries past the counts can be told from written ones.
+// A run over a drawing into tables of this program's own. Their old entries differ from all that is ever written, so a stray write is seen.
 use point::Setting;
 use store::StoreState;
 ghost use Prim.Native.Nat.{_≤_};
 
-// No table holds one of these.
+// No run writes one of these.
 pub const UNTOUCHED: f32 = 1.0e30;
 
 pub const UNTOUCHED_WORD: u32 = 0xffff_ffff;

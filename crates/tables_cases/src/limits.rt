@@ -9,7 +9,7 @@ use point::Setting;
 use store::Call;
 use store::StoreState;
 
-// 28 rounds of four quads come to a sum of at most 65,536, and one more quad to a larger one.
+// 28 rounds of four quads have a sum of at most 65,536, and one more quad makes it larger.
 const LONGEST: u32 = 112;
 
 // The farthest points that can be drawn.
@@ -61,7 +61,7 @@ fn rounds(
     st
 }
 
-// Fills the tables with n quads and then with `last` drawn behind them. The answer is `answer` with room, and `full` where the quad table is full besides.
+// Fills the tables with n quads and then with `last` drawn after them. The answer must be `answer` with room, and `full` if the quad table is full as well.
 fn stops(setting: Setting, n: u32, last: Call, answer: u32, full: u32) -> bool {
     let mut x = [0.0f32; 256];
     let mut y = [0.0f32; 256];
@@ -78,7 +78,7 @@ fn stops(setting: Setting, n: u32, last: Call, answer: u32, full: u32) -> bool {
     held & answered & same(before, room) & same(before, none)
 }
 
-// A cubic with the greatest weights and far points, and a sum that is too large. Where the quad table is full besides, 5 comes before 6 and 6 before 8.
+// A cubic with the greatest weights and far points, and a sum that is too large. If the quad table is full as well, 5 comes before 6 and 6 before 8.
 fn each_limit(setting: Setting) -> Tally {
     let cubic = Call::RatCubic(
         corner(1.0, 1.0),

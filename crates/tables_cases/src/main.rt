@@ -27,7 +27,7 @@ struct Expected {
     words: u32,
 }
 
-// Whether a drawing has the Rust's tables, and its runs with a full column; then the same of all drawings, counted.
+// Whether a drawing has the Rust's tables, and its runs with a full column; and the same for all drawings, as counts.
 struct Replayed {
     same: bool,
     tally: Tally,

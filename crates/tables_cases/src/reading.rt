@@ -23,7 +23,7 @@ fn half(text: &[u8; 9], second: bool) -> u32 {
     (digit(text[0]) << 12) | (digit(text[1]) << 8) | (digit(text[2]) << 4) | digit(text[3])
 }
 
-// The next number; 0 behind the end.
+// The next number; 0 after the end of the input.
 pub fn number() -> u32 {
     let mut text = [0u8; 9];
     io::read_full(STDIN_FILENO, &mut text);

@@ -1,4 +1,4 @@
-// A drawing with a column full at each place in turn: 6 or 7, and all that was pushed before stays.
+// A drawing with a column full at each place in turn: the answer must be 6 or 7, and all that was pushed before must stay.
 use crate::filling::Tables;
 use crate::filling::filled;
 use crate::kept::quads_kept;
@@ -12,7 +12,7 @@ use point::Setting;
 use std::num::wrapping_add_u32;
 use store::StoreState;
 
-// Runs, and those of them that are as they must be.
+// How many runs there were, and how many of them came out right.
 pub struct Tally {
     pub runs: u32,
     pub right: u32,
@@ -89,8 +89,8 @@ fn ends_at(got: Tables, whole: Tables, last: usize, at: usize) -> bool {
         & same_float(float_at(&p2y, last), three_at(&y, at))
 }
 
-// A spline that the refused quad would have gone on with. It ends where that quad starts, or where the quad before it ended: a cubic's last piece may end a
-// rounding beside the next start.
+// A spline that the refused quad would have continued. It ends where that quad starts, or where the quad before it ended: a cubic's last piece may end a
+// rounding error away from the next start.
 fn open_kept(got: Tables, whole: Tables, place: usize, last: usize) -> bool {
     let curvature = got.curvature;
     let sum = sum_so_far(whole, place, last);

@@ -1,4 +1,4 @@
-// Numbers in plain decimal, written.
+// Writing numbers in plain decimal.
 
 ghost use mathlib.Core.Path.{_≡_};
 ghost use lib.ListN.{length};
@@ -19,7 +19,7 @@ pub fn decimal_length(n: u64) -> usize
     more + 1
 }
 
-// The digits written from a place on, the last one first; their count.
+// Writes the digits from a place on, the last digit first, and gives their count.
 pub fn put_decimal(buffer: &mut [u8], at: usize, n: u64) -> usize
     ensures { λ r. ⌜ (r ≡ length (decimalOf n)) × (now (buffer .exit) ≡ sets (now (buffer .entry)) at (decimalOf n)) ⌝ }
 {

@@ -1,4 +1,4 @@
-// Fixed byte strings, matched and written byte by byte.
+// Matching and writing fixed byte strings, byte by byte.
 
 ghost use mathlib.Core.Path.{_≡_};
 ghost use mathlib.Core.List.{[], _∷_};
@@ -7,7 +7,7 @@ ghost use lib.ListN.{set};
 ghost use lib.Seq.{sets};
 ghost use Rattle.text.specs.Bytes.{standsAt};
 
-// Whether a byte stands i bytes behind a place. The sum of the two may wrap, so it is made only inside the text.
+// Whether the byte b is found i bytes after a place. The sum of the two could wrap, so it is made only inside the text.
 pub fn byte_stands_at(text: &[u8], at: usize, i: usize, b: u8) -> bool
     ensures { λ r. ⌜ r ≡ standsAt (now (text .entry)) (at + i) (b ∷ []) ⌝ }
 {
@@ -34,7 +34,7 @@ pub fn stands_at(text: &[u8], at: usize, fixed: &[u8]) -> bool
     true
 }
 
-// A byte written i bytes behind a place; past the end nothing is.
+// Writes a byte i bytes after a place; past the end it writes nothing.
 pub fn put_byte(buffer: &mut [u8], at: usize, i: usize, b: u8)
     ensures { λ _. ⌜ now (buffer .exit) ≡ set (now (buffer .entry)) (at + i) b ⌝ }
 {
@@ -46,7 +46,7 @@ pub fn put_byte(buffer: &mut [u8], at: usize, i: usize, b: u8)
     }
 }
 
-// Bytes written from a place on, as many as the buffer has room for.
+// Writes bytes from a place on, as many as the buffer has room for.
 pub fn put_bytes(buffer: &mut [u8], at: usize, bytes: &[u8])
     ensures { λ _. ⌜ now (buffer .exit) ≡ sets (now (buffer .entry)) at (now (bytes .entry)) ⌝ }
 {

@@ -1,4 +1,4 @@
-// Eight lowercase hex digits, read and written.
+// Reading and writing eight lowercase hex digits.
 
 ghost use mathlib.Core.Path.{_≡_};
 ghost use Prim.Native.Nat.{_+_, _<_};
@@ -37,7 +37,7 @@ fn hex_value(b: u8) -> u32
     16
 }
 
-// The value of the digit i bytes behind a place: 16 past the end, where no digit stands.
+// The value of the digit i bytes after a place; 16 past the end, where there is no digit.
 fn hex_value_at(text: &[u8], at: usize, i: usize) -> u32
     ensures { λ r. ⌜ r ≡ hexValueOf (getD (now (text .entry)) (at + i) 0) ⌝ }
 {
@@ -67,7 +67,7 @@ pub fn hex_at(text: &[u8], at: usize) -> HexAt
     HexAt::Number(n)
 }
 
-// Eight digits written from a place on, the last one first.
+// Writes eight digits from a place on, the last digit first.
 pub fn put_hex(buffer: &mut [u8], at: usize, n: u32)
     ensures { λ _. ⌜ now (buffer .exit) ≡ sets (now (buffer .entry)) at (hexOf n) ⌝ }
 {

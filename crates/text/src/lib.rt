@@ -13,7 +13,7 @@ pub use fixed::stands_at;
 pub use hex::hex_at;
 pub use hex::put_hex;
 
-// What stands where a number is due: eight digits, or something else.
+// What is found where a number must come: eight digits, or something else.
 pub enum HexAt {
     Number(u32),
     Wrong,

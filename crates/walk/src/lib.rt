@@ -1,5 +1,5 @@
-// The walk over the splines: where a Start is written, how many steps there are, where the quad cursor goes, and how long the whole is. populate_buffers of
-// path.rs.
+// The walk over the splines: where a Start is written, how many steps there are, where the quad cursor goes, and how long the whole is: what
+// `populate_buffers` of path.rs does.
 ghost use mathlib.Core.Path.{_≡_};
 ghost use Rattle.tables.specs.Tables.{splineTable};
 ghost use Rattle.walk.specs.Walk.{startsAfterOf, cursorAtOf};
@@ -28,7 +28,7 @@ pub fn steps(sum: f32) -> u32
     if m == 0 { 0 } else { m - 1 }
 }
 
-// The size of those steps; a NaN where there are none.
+// The size of those steps; a NaN if there are none.
 pub fn size(sum: f32) -> f32
     ensures { λ r. ⌜ r ≡ sizeOf sum ⌝ }
 {
@@ -36,7 +36,7 @@ pub fn size(sum: f32) -> f32
     sum / m as f32
 }
 
-// The cursor for step p: on by one, and no further, where p exceeds the sum of its quad.
+// The cursor for step p: it goes on by one, and no further, if p exceeds the sum of its quad.
 pub fn cursor_at(partial_curvatures: &[f32], p: f32, cursor: usize) -> usize
     ensures { λ r. ⌜ r ≡ cursorAtOf (now («partial_curvatures» .entry)) p cursor ⌝ }
 {
