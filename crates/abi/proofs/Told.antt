@@ -1,4 +1,4 @@
--- From what the library ensures to what the door ensures. Assumes nothing.
+-- From what the library ensures to what the C interface ensures. Assumes nothing.
 use Prim.Native.Nat.{ℕ}
 use mathlib.Core.Path.{_≡_, refl, ap, _∙_}
 use Rattle.answer.specs.declared.Answer.{Answer}

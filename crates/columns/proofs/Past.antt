@@ -1,4 +1,4 @@
--- Past the end of a list a read gives what stands for nothing. Assumes nothing.
+-- Past the end of a list a read gives the default, NaN or 0. Assumes nothing.
 use mathlib.Core.Path.{_≡_, refl}
 use mathlib.Core.List.{List, [], _∷_}
 use Prim.Native.Nat.{ℕ, zero, suc, _≤_}

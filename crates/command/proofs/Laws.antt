@@ -1,4 +1,4 @@
--- Laws of the packed words: unpacking gives back what was packed, packing gives back every word but 7FC00000 to 7FFFFFFF, and 7FC00000 is a NaN's alone. Assumes nothing.
+-- Laws of the packed words: unpacking gives back what was packed, packing gives back every word but 7FC00000 to 7FFFFFFF, and only a NaN step has the word 7FC00000. Assumes nothing.
 use Prim.Native.Nat.{ℕ, _+_, _/_, _%_, _^_, _<_, _≤_}
 use mathlib.Core.Path.{_≡_, refl, sym, _∙_, ap, subst}
 use mathlib.Core.Logic.{_⊎_, inl, inr}
@@ -31,7 +31,7 @@ start-back : (i : ℕ) → i < indexLimit → unpackOf (packOf (Start i)) ≡ St
 start-back i h =
     ap unpackOf (start-word i h) ∙ is-start (0x7f80_0000 + i) (omega arith) (omega arith) ∙ ap Start (let e : (0x7f80_0000 + i) % indexLimit ≡ i = omega arith in e)
 
--- an End's word: e is the index, and the flag's bit where it is flagged
+-- an End's word: e is the index, with the flag's bit if it is flagged
 end-word : (i : ℕ) (flag : Bool) → i < indexLimit → packOf (End i flag) ≡ 0xff80_0000 + (i + cond flag 0x40_0000 0)
 unfolding packOf
 end-word i flag h = rw (mod-eq-of-lt h) (omega arith)
@@ -155,7 +155,7 @@ nan-bits nan f h = refl
 nan-bits (inf s) f h = sym (ofBits-toBits binary32 (inf s) f) ∙ ap (ofBits binary32) h
 nan-bits (fin s m e) f h = sym (ofBits-toBits binary32 (fin s m e) f) ∙ ap (ofBits binary32) h
 
--- an f32 holds only what fits, so every command of the code has this
+-- an f32 of the code is always a value of the format, so every command of the code has this
 abbrev pub Holds : PointCommand → Type 0
 Holds (Start i) = Unit {0}
 Holds (Incr step) = T (fits binary32 step)

@@ -1,4 +1,4 @@
--- The two loops that write: what is left to write leaves what the whole leaves, and the place stays small. Assumes nothing.
+-- The two loops that write. Their invariant: writing what is left, from here, leaves the same as writing the whole; and the place stays small. Assumes nothing.
 use Prim.Native.Nat.{ℕ, zero, suc, _+_, _-_, _*_, _≤_, _<_}
 use native.Mathlib.Omega.{arith}
 use mathlib.Core.Path.{_≡_, refl, sym, _∙_, ap, subst}

@@ -21,7 +21,7 @@ use Rattle.evaluate.specs.Writing.{Delivery, delivery, deliverOf}
 use Rattle.flatten.specs.declared.Flattened.{Flattened}
 use Rattle.flatten.specs.Flatten.{Flattening, flattened, flattening, walked, tabled, flattenDrawable, flattenOf}
 
--- what was delivered decides between 0 and 9
+-- whether the walk was delivered decides between 0 and 9
 module _ (w : World) (items : List Item) (o : Output) where
   unfoldable laid : Bool → Delivery
   laid b = cond b (delivery true (length items) (writeOutput (w .quads) (w .splines) items o)) (delivery false 0 o)

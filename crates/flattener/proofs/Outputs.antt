@@ -1,4 +1,4 @@
--- What a report in a buffer says of the buffer: the count is within it, and a buffer that holds the text is not too short. Assumes nothing.
+-- A report written into a buffer: its count is within the buffer, and a buffer as long as the text is not too short. Assumes nothing.
 use mathlib.Core.Path.{_≡_, refl, sym, ap, _∙_}
 use mathlib.Core.Bool.{Bool, true, false, cond}
 use mathlib.Core.List.{List}

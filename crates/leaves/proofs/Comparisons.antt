@@ -1,4 +1,4 @@
--- A float tested against 0 and infinity, as the square root and the sixth root test it: which floats each branch has. Assumes nothing.
+-- A float tested against 0 and infinity, as the square root and the sixth root test it: which floats go to which branch. Assumes nothing.
 use mathlib.Core.Path.{_≡_, refl, sym, ap, ap₂, _∙_, subst}
 use mathlib.Core.Logic.{inl, inr}
 use mathlib.Core.Bool.{Bool, true, false, not, _&&_, _||_, Bool·beq, true≢false}
@@ -42,7 +42,7 @@ finite-no-nan nan h = no (sym h)
 finite-no-nan (inf s) h = no (sym h)
 finite-no-nan (fin s m e) h = tt
 
--- ---- the tests as the code has them, by patterns
+-- ---- the tests as the code makes them, by patterns
 pub above : (x : Float) (b : Bool) → lt (ofBits binary32 0) x ≡ b → lt plain x ≡ b
 above x b h = ap (λ (z : Float). lt z x) (sym zero-is) ∙ h
 
@@ -55,7 +55,7 @@ level x b h = ap (λ (z : Float). eq x z) (sym zero-is) ∙ h
 pub held : (x : Float) → fits binary32 x ≡ true → T (fits binary32 x)
 held x e = subst T (sym e) tt
 
--- ---- 0 < x by numerators: not at digits 0, and at any others
+-- ---- 0 < x by numerators: false if the digits are 0, true for any others
 no-zero : (e : ℤ) → ltb (0 * down e) (0 * up e * 1) ≡ true → ⊥
 no-zero e h = none (0 * up e * 1) (mul-one (0 * up e) ∙ zero-mul (up e)) (lower (0 * down e) (0 * up e * 1) (ltb-true (0 * down e) (0 * up e * 1) h))
   where

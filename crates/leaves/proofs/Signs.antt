@@ -1,4 +1,4 @@
--- Laws of the small leaves: which float is the NaN, where its sign stands, and `absOf`, `lessOf`, `minOf`, `maxOf`, `clampOf` by the tests that the code
+-- Laws of the small leaves: which float is the NaN, which bit is the sign, and `absOf`, `lessOf`, `minOf`, `maxOf`, `clampOf` by the tests that the code
 -- makes. Assumes nothing.
 use mathlib.Core.Path.{_≡_, refl, sym, ap, ap₂, _∙_, subst}
 use mathlib.Core.Bool.{Bool, true, false, not, _&&_, _||_, Bool·beq, cond}

@@ -119,7 +119,7 @@ module _ (x : Float) (s : Bool) (t p : ℕ) (v : HasValue x s (t * 2 ^ p) (2 ^ 1
       ∙ ap (λ (y : ℕ). y * den x) (sym (mul-assoc t (2 ^ j) (2 ^ 149)))
       ∙ mul-right-comm (t * 2 ^ j) (2 ^ 149) (den x))
 
--- the parts as the code has them
+-- the parts as the code computes them
 pub pattern-value : (x : Float) → T (fits binary32 x) → T (finite x) → (s : Bool) (t p : ℕ) → s ≡ leb 2147483648 (toBits binary32 x)
     → t ≡ sig binary32 (toBits binary32 x) → p ≡ place binary32 (toBits binary32 x) → HasValue x s (t * 2 ^ p) (2 ^ 149)
 pattern-value x F f s t p h e g =

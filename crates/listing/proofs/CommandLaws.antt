@@ -1,4 +1,4 @@
--- Laws of one command: its fields make its call, the first op line that stands is its own, and what follows it stands behind it. Assumes nothing.
+-- Laws of one command: its fields make its call, the first op line that matches is its own, and what follows comes after it. Assumes nothing.
 use mathlib.Core.Path.{_≡_, refl, sym, ap, _∙_}
 use mathlib.Core.Bool.{Bool, true, false, cond}
 use mathlib.Core.List.{List, [], _∷_, _++_}

@@ -1,4 +1,4 @@
--- Laws of fields: when one stands, what it holds and where it ends; a row of fields is read part by part, and ends inside the text. Assumes nothing.
+-- Laws of fields: when the text has one, what it holds and where it ends; a row of fields is read part by part, and ends inside the text. Assumes nothing.
 use mathlib.Core.Path.{_≡_, refl, sym, ap, _∙_}
 use mathlib.Core.Bool.{Bool, true, false, _&&_, cond, and-false}
 use mathlib.Core.List.{List, [], _∷_, _++_, append-nil, append-assoc}
@@ -131,7 +131,7 @@ fields-append text at line values (key ∷ keys) more =
     ap (λ (f : Fields). cond (fieldStandsAt text at key) f (wrong line)) (fields-append text (at + fieldWidth key) (line + 1) (values ++ (v ∷ [])) keys more)
     ∙ sym (joined-cond text more (fieldStandsAt text at key) (fieldsFrom text (at + fieldWidth key) (line + 1) (values ++ (v ∷ [])) keys) (wrong line))
 
--- what is read of a row is placed as its start was, and no nearer
+-- after a row the place is inside the text again, and no earlier than its start
 pub record Onward (text : List ℕ) (at at' line' : ℕ) : Type 0 where
   pub placed : Placed text at' line'
   pub onward : at ≤ at'

@@ -1,4 +1,4 @@
--- Laws of the flattened drawing: what a flattening that is done delivered, its points read back from their columns, and how many there are. Assumes nothing.
+-- Laws of the flattened drawing: what a finished flattening delivered, its points read back from their columns, and how many there are. Assumes nothing.
 use mathlib.Core.Path.{_≡_, refl, sym, ap, _∙_}
 use mathlib.Core.Bool.{Bool, true, false, _&&_}
 use mathlib.Core.List.{List, [], _∷_, _++_, map}

@@ -25,7 +25,7 @@ two-seen r r' a l f h e = sym (ap (λ (q : TwoPoints). twoPointsFields q a l) e)
 pub three-seen : (r r' : ThreePoints) (a l : ℕ) (f : Fields) → threePointsFields r a l ≡ f → r ≡ r' → threePointsFields r' a l ≡ f
 three-seen r r' a l f h e = sym (ap (λ (q : ThreePoints). threePointsFields q a l) e) ∙ h
 
--- the place behind what was read, as the code has it
+-- the place after what was read, as the code computes it
 pub placed-behind : (text : List ℕ) (at line : ℕ) (got : List Float) (keys : List (List ℕ)) (a a' l : ℕ) → Placed text at line → read got a l ≡ fieldsFrom text at line [] keys → a ≡ a' → Placed text a' l
 placed-behind text at line got keys a a' l p h e =
     let o : Onward text at a l = fields-onward text at line [] got keys a l p (sym h) in

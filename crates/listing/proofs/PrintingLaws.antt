@@ -1,4 +1,4 @@
--- Laws of printing and reading: what is printed is read back command by command; what stands at a place is the end, a whole command, or a fault
+-- Laws of printing and reading: what is printed is read back command by command; at each place the text ends, or has a whole command, or a fault
 -- on the line where the longest good beginning ends. Assumes nothing.
 use mathlib.Core.Path.{_≡_, refl, sym, ap, _∙_}
 use mathlib.Core.Bool.{Bool, true, false, cond}
@@ -24,7 +24,7 @@ use Rattle.listing.specs.Printing.{TextCommand, fieldLines, commandLines
 use Rattle.listing.proofs.CommandLaws.{fields-drawn, fields-fault}
 use Rattle.listing.proofs.ShapeLaws.{fieldShapes, plain-keys, row-reads, RowAt, there, missing, row-at, row-once, op-once, op-newlines, shapeOf, command-fits, CommandText, shape-command, OpLineAt, op-line-at, op-line-newlines, command-newlines}
 
--- ---- commands one behind another
+-- ---- commands one after another
 pub printed-append : (cs ds : List TextCommand) → printed (cs ++ ds) ≡ printed cs ++ printed ds
 unfolding printed
 printed-append [] ds = refl
@@ -70,7 +70,7 @@ printed-same (c ∷ cs) (d ∷ ds) (more a p) (more b q) h =
     let later : cs ≡ ds = printed-same cs ds p q (same .1) in
     λ i. same .0 i ∷ later i
 
--- ---- a good text behind commands
+-- ---- a good text after commands
 good-behind : (c : TextCommand) (rest : List ℕ) (ds : List TextCommand) → ProperCommand c → Proper ds → commandLines c ++ rest ≡ printed ds → Good rest
 unfolding printed
 good-behind c rest [] a none h = absurd (command-some c rest a h)
@@ -162,7 +162,7 @@ in-ops RatQuad = List·Memᴰ·tail (List·Memᴰ·tail (List·Memᴰ·tail (Lis
 in-ops Cubic = List·Memᴰ·tail (List·Memᴰ·tail (List·Memᴰ·tail (List·Memᴰ·tail (List·Memᴰ·head refl))))
 in-ops RatCubic = List·Memᴰ·tail (List·Memᴰ·tail (List·Memᴰ·tail (List·Memᴰ·tail (List·Memᴰ·tail (List·Memᴰ·head refl)))))
 
--- behind an op line that stands, the command is its fields
+-- after a whole op line, the command is its fields
 command-is : (text : List ℕ) (at line : ℕ) (op : Op) (rest : List ℕ) → drop at text ≡ opLineOf op ++ rest
     → commandAt text at line ≡ withFields op (fieldsFrom text (at + length (opLineOf op)) (line + 1) [] (keysOf op))
 unfolding commandFrom newlines
@@ -191,7 +191,7 @@ command-reads text at line c rest p h =
 -- ---- where the reading stops
 -- Let no whole command begin the text. A good text that begins as this one does then goes on inside its first command, so it is right as far as it
 -- fits that command's shape; and whatever fits a beginning of a shape can be completed. So the longest beginning is that of the op whose shape fits
--- furthest. If its op line is not whole the beginning has no newline, and no other op line stands, since that would fit further; otherwise its op
+-- furthest. If its op line is not whole the beginning has no newline, and no other op line is whole, since that would fit further; otherwise its op
 -- is the one read, and the newlines are its whole lines.
 
 -- the op at which a count is largest
@@ -258,7 +258,7 @@ module _ (text : List ℕ) (op : Op) (widest : Widest text op) (none-whole : Non
   not-good some [] none h = some h
   not-good some (d ∷ ds) (more a q) h = none-whole d (printed ds) a h
 
--- where the widest shape has no newline no op line stands
+-- if the widest fit has no newline, no op line is whole
 no-op-line : (text : List ℕ) (op : Op) → Widest text op → newlines (fit (shapeOf op) text) ≡ 0
     → (o : Op) (rest : List ℕ) → text ≡ opLineOf o ++ rest → ⊥
 no-op-line text op widest z o rest h =

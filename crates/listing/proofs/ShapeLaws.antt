@@ -1,5 +1,5 @@
--- The shape of a field's line, a row of fields and a command: what is printed fits it, what fits it is printed; and the reader finds a line where
--- one of its shape stands. Assumes nothing.
+-- The shape of a field's line, a row of fields and a command: what is printed fits it, and what fits it is printed; the reader finds a line
+-- exactly where the text has one of its shape. Assumes nothing.
 use mathlib.Core.Path.{_≡_, refl, sym, ap, _∙_}
 use mathlib.Core.Bool.{Bool, true, false, _&&_, cond}
 use mathlib.Core.List.{List, [], _∷_, _++_, map, append-nil, append-assoc}
@@ -135,7 +135,7 @@ shape-field key s rest f =
       split = ap (λ (l : List ℕ). l ++ (0x0a ∷ rest)) same ∙ sym (field-text key (d .number) rest);
     }
 
--- a field's line stands; or it does not, and the beginning that fits its shape has no newline
+-- the field's line is whole; or it is not, and the beginning that fits its shape has no newline
 pub data FieldAt (text : List ℕ) (at : ℕ) (key : List ℕ) (later : List Class) : Type 0 where
   there : FieldThere (drop at text) key → FieldAt text at key later
   missing : fieldStandsAt text at key ≡ false → newlines (fit (fieldShape key ++ (byte 0x0a ∷ later)) (drop at text)) ≡ 0 → FieldAt text at key later
@@ -369,7 +369,7 @@ shape-command op s f =
     let parts : FitsParts name row s = fits-parts name row s f in
     rw (parts .split) (command-line op (parts .first) (parts .second) (bytes-fit (nameOf op) (parts .first) (parts .fits-first)) (parts .fits-second))
 
--- an op line stands, and the rest of its shape counts behind it; or the beginning that fits its shape has no newline
+-- the op line is whole, and the rest of its shape is matched after it; or the beginning that fits its shape has no newline
 pub data OpLineAt (op : Op) (s : List ℕ) : Type 0 where
   there : (rest : List ℕ) → s ≡ opLineOf op ++ rest → OpLineAt op s
   missing : newlines (fit (shapeOf op) s) ≡ 0 → OpLineAt op s

@@ -1,4 +1,4 @@
--- Laws of reading: one step goes on behind its command, or stops for good; as many steps as bytes are enough. Assumes nothing.
+-- Laws of reading: one step goes on after its command, or stops for good; as many steps as bytes are enough. Assumes nothing.
 use mathlib.Core.Path.{_≡_, refl, sym, ap, _∙_}
 use mathlib.Core.Bool.{Bool, true, false, cond}
 use mathlib.Core.List.{List, [], _∷_}
@@ -27,7 +27,7 @@ use Rattle.listing.specs.Reading.{Placed, Fields, read, wrong, fieldsFro
 use Rattle.listing.proofs.FieldLaws.{Onward, fields-onward}
 use Rattle.listing.proofs.CommandLaws.{behind-op}
 
--- ---- what a step comes to
+-- ---- what a step gives
 module _ (text : List ℕ) (at line : ℕ) (o : Outcome) where
   pub step-finish : commandAt text at line ≡ Finish → finished o ≡ stepOf text (going at line o)
   unfolding stepOf afterCommand

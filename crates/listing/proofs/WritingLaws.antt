@@ -1,4 +1,4 @@
--- Laws of writing: a line is written in four parts, texts one behind another, and a point's lines are 28 bytes. Assumes nothing.
+-- Laws of writing: a line is written in four parts, texts one after another, and a point's lines are 28 bytes. Assumes nothing.
 use mathlib.Core.Path.{_≡_, refl, sym, ap, _∙_}
 use mathlib.Core.Bool.{Bool, true, false, cond}
 use mathlib.Core.List.{List, [], _∷_, _++_, append-nil, append-assoc}
@@ -111,7 +111,7 @@ line-written b0 b1 b2 b3 b4 key value at d e e1 e2 e3 e4 =
 pub hex-seen : (b b' : List ℕ) (at n m : ℕ) → b ≡ sets b' at (hexOf n) → n ≡ m → b ≡ sets b' at (hexOf m)
 hex-seen b b' at n m h e = h ∙ ap (λ (k : ℕ). sets b' at (hexOf k)) e
 
--- ---- one text behind another
+-- ---- one text after another
 pub written-then : (s t b0 b1 b2 : List ℕ) (at n1 n2 : ℕ) → WrittenAs s b0 at b1 n1 → WrittenAs t b1 n1 b2 n2 → WrittenAs (s ++ t) b0 at b2 n2
 written-then s t b0 b1 b2 at n1 n2 w v =
     record {

@@ -1,4 +1,4 @@
--- The constants of the curves' shortcuts as numbers, and what an f32's digits keep to. Assumes nothing.
+-- The constants of the curves' shortcuts as numbers, and bounds of an f32's digits. Assumes nothing.
 use mathlib.Core.Path.{_≡_, refl}
 use mathlib.Core.Bool.{Bool, false, _&&_}
 use Prim.Native.Nat.{ℕ, zero, suc, _*_, _%_, _^_, _<_}

@@ -1,4 +1,4 @@
--- a - t * a is a * (1 - t). Where 1 - t is an f32, the product by it is rounded once too, so the processor's product is the fused operation, but for the sign
+-- a - t * a is a * (1 - t). If 1 - t is an f32, the product with it is rounded once too, so the processor's product is the fused operation, except for the sign
 -- of a zero. From 1/2 up to 1 the difference 1 - t is an f32 for each t. Assumes nothing.
 use mathlib.Core.Path.{_≡_, refl, sym, ap, ap₂, _∙_, subst}
 use mathlib.Core.Bool.{Bool, true, false, not, _&&_, _||_, Bool·beq, cond}
@@ -248,7 +248,7 @@ lower-rest t (n, d, x-is, l, k) h =
     half-pos : (M E : ℕ) → 0 < E → E ≤ M * 2 → 0 < M
     half-pos M E p l = omega arith
 
--- ---- where the tests pass the product is the fused operation
+-- ---- if the tests hold, the product is the fused operation
 rest-product : (t a : Float) → Rest t → Some a → mul binary32 a (sub binary32 one t) ≡ fma32 (neg t) a a
 unfolding neg
 rest-product t a (m, e, t-is, h, v) (s, o, g, a-is, p) =
@@ -257,7 +257,7 @@ rest-product t a (m, e, t-is, h, v) (s, o, g, a-is, p) =
     ∙ sym (fused-value s o g m e p h)
     ∙ sym (ap₂ (λ (x y : Float). fma32 (neg x) y y) t-is a-is)
 
--- ---- the same by the tests as the code has them
+-- ---- the same by the tests as the code makes them
 abbrev upperTest : Float → Bool
 upperTest t = le half32 t && lt t one32
 

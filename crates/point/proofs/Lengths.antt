@@ -1,4 +1,4 @@
--- The rounded root of an f32 is 1 / C at least just where that f32 is 1 / C ^ 2 at least, for a power of two C. So a length is tested by its square.
+-- For a power of two C, the rounded root of an f32 is at least 1 / C exactly if that f32 is at least 1 / C ^ 2. So a length can be tested by its square.
 -- Assumes nothing.
 use mathlib.Core.Path.{_≡_, refl, sym, ap, ap₂, _∙_, subst}
 use mathlib.Core.Bool.{Bool, true, false, true≢false}
@@ -209,7 +209,7 @@ root-test j k l w (fin false (suc m) e) F =
     let x = fin false (suc m) e in
     same-test (le (fin false 1 (negsuc k)) x) (le (fin false 1 (negsuc j)) (sqrt32 x)) (up-to j k l w m e F) (down-to j k l w m e F)
 
--- ---- a length 2 ^ -23 at least, and 2 ^ -4
+-- ---- a length of at least 2 ^ -23, and of at least 2 ^ -4
 short-is : f32 0x3400_0000 ≡ fin false 1 (negsuc 22)
 unfolding ofBits
 short-is = refl

@@ -1,4 +1,4 @@
--- Where a spline past the capacity is refused, one more spline can be counted. Assumes nothing.
+-- If a spline past the capacity is refused, counting one more spline does not wrap. Assumes nothing.
 use mathlib.Core.Path.{_≡_, sym}
 use mathlib.Core.Bool.{Bool, true, false, true≢false, _&&_}
 use Prim.Native.Nat.{ℕ, _<_, _^_}

@@ -1,5 +1,5 @@
--- Demand 3c. The splines before each command only become more, so the Moves divide them: each spline stands in one contour, found from the first Move on. A spline is
--- flagged exactly if the splines up to it are all there are at a Move, or at the end (laws of the tables), and then it is the last of the contour that it stands in.
+-- Demand 3c. The number of splines never falls from command to command, so the Moves divide the splines: each is in one contour, found from the first Move on. A spline
+-- is flagged exactly if, at a Move or at the end, it is the last spline so far (laws of the tables); then it is the last of its contour.
 -- Assumes nothing.
 use mathlib.Core.Path.{_≡_, refl, sym, ap, ap₂, _∙_, subst}
 use mathlib.Core.Logic.{_⊎_, inl, inr, _≢_, _↔_}
@@ -90,7 +90,7 @@ module _ (job : Job) (P : Passed job) where
   unfolding splinesBefore tablesOf primitivesOf
   all-last = refl
 
-  -- ---- each spline stands in a contour
+  -- ---- each spline is in a contour
   found : (k d b a : ℕ) → b + d ≡ (countOf job) → a < b → commandAt job a ≡ moveCommand → splinesBefore job a ≤ k → ((i : ℕ) → a < i → i < b → commandAt job i ≢ moveCommand) → k < splinesBefore job (countOf job) → (a' : ℕ) × (b' : ℕ) × Within job a' b' k
   found k zero b a e l m h n t = (
     a,
@@ -184,7 +184,7 @@ module _ (job : Job) (P : Passed job) where
   unfolding splinesBefore
   cut-list i h = ap (λ (x : List ℕ). runOf (job .setting) (capsOf job) (primitivesFrom (job .columns) x 0) (startOf job) .state .splines) (take-take i (countOf job) (job .columns .commands) h)
 
-  -- as many splines are there at a Move
+  -- that many splines are there at a Move
   move-of : (m : ℕ) → Met (job .setting) (capsOf job) (primitivesOf (job .state) (job .columns)) (startOf job) m → (i : ℕ) × (commandAt job i ≡ moveCommand) × (splinesBefore job i ≡ m)
   unfolding primitivesOf
   move-of m h =

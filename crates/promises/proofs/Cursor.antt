@@ -1,5 +1,5 @@
 -- Laws of the quad cursor over sound tables, within one spline whose quads are those from lo to l. It never passes l, since no step p reaches the spline's sum. Started at
--- lo it stands at each step p on the one quad that p falls on: the first whose sum is p or more; going on by one is enough, since each sum reaches the next whole number
+-- lo it is, at each step p, on the one quad that p falls on: the first whose sum is p or more. Going on by one is enough, since each sum reaches the next whole number
 -- above the one before. Assumes nothing.
 use mathlib.Core.Path.{_≡_, refl, sym, ap, ap₂, _∙_, subst, subst₂}
 use mathlib.Core.Logic.{_⊎_, inl, inr}
@@ -160,7 +160,7 @@ module _ (q : QuadTable) (total : Float) (lo l j m : ℕ) (R : Span q total lo (
       equal : (i i' : ℕ) → (i < i' → ⊥) → (i' < i → ⊥) → i ≡ i'
       equal i i' h k = omega arith
 
-  -- ---- the cursor stands where the step falls
+  -- ---- the cursor is where the step falls
   under-limit : (p : ℕ) → p < m → p ≤ 65537
   under-limit p h = le-trans (le-of-lt h) (le-trans (up-limit (sumAt q l) m S U) (lit≤ tt))
 

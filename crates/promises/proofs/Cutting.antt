@@ -1,4 +1,4 @@
--- Laws of cutting a list after each entry that a test names, and of a statement about every entry of a list. Assumes nothing.
+-- Laws of cutting a list after each entry that passes a test, and of a statement about every entry of a list. Assumes nothing.
 use mathlib.Core.Path.{_≡_, refl, sym, ap, ap₂, _∙_, subst}
 use mathlib.Core.Logic.{_⊎_, inl, inr}
 use mathlib.Core.Bool.{Bool, true, false}
@@ -29,7 +29,7 @@ module _ {A : Type 0} where
   all-at P (a ∷ s) d zero h k = h .0
   all-at P (a ∷ s) d (suc i) h k = all-at P s d i (h .1) (le-of-suc-le-suc k)
 
-  -- ---- up to and with the first entry that the test names
+  -- ---- up to the first entry that passes the test, and with it
   pub cut-piece : (test : A → Bool) (s t : List A) (e : A) → All (λ (a : A). test a ≡ false) s → test e ≡ true → cutAfter test (s ++ (e ∷ t)) ≡ (s ++ (e ∷ [])) ∷ cutAfter test t
   unfolding cutAfter
   cut-piece test [] t e h k = ap (λ (b : Bool). behind b e (cutAfter test t)) k

@@ -1,4 +1,4 @@
--- The answers of the drawing calls are exact: each of the four tests tells its fault, and the first that fails gives the answer. Assumes nothing.
+-- The answers of the drawing calls are exact: each of the four tests fails exactly on its fault, and the first that fails gives the answer. Assumes nothing.
 use Prim.Native.Nat.{ℕ, zero, suc, _+_, _-_, _≤_, _<_}
 use mathlib.Core.Path.{_≡_, refl, sym, ap, ap₂, _∙_, subst}
 use mathlib.Core.Logic.{_⊎_, inl, inr, _≢_, _↔_}

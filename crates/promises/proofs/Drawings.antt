@@ -1,4 +1,4 @@
--- Our own examples hold of the definitions, by computation. Assumes nothing.
+-- The additional examples hold of the definitions, by computation. Assumes nothing.
 use mathlib.Core.Path.{_≡_, refl}
 use mathlib.Core.List.{List, map}
 use lib.Count.{trailingZeros}

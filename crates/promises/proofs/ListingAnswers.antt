@@ -1,5 +1,5 @@
--- The program's answers are exact, with their lines. A cause tells how the reading ends, and so what is said (`given-so`). The other way, how the reading ends
--- has a cause (`cause`); the answers that a call, the build and a flattening can give say on which line of the table it stands (`told`). Assumes nothing.
+-- The program's answers are exact, with their lines. A cause fixes how the reading ends, and so what is said (`given-so`). Conversely, every way the reading ends
+-- has a cause (`cause`); which cause it is follows from the answers that a call, the build and a flattening can give (`told`). Assumes nothing.
 use Prim.Native.Nat.{ℕ, _+_, _≤_, _<_}
 use mathlib.Core.Path.{_≡_, refl, sym, ap, ap₂, _∙_, subst, subst₂}
 use mathlib.Core.Logic.{_⊎_, inl, inr, _≢_}
@@ -51,7 +51,7 @@ module _ (cs : List TextCommand) where
   unfolding builtFrom built flatOf flatReport
   done-said e f = ap (λ (b : Bool). built b (builtOf cs)) e ∙ ap (λ (b : Bool). flatReport b (flatteningOf (jobOf cs))) f
 
--- ---- two stops have one answer, and two longest beginnings as many lines
+-- ---- two stops have the same answer, and two longest beginnings have equally many lines
 stopAnswer : Progress → Answer
 stopAnswer (going at line o) = Done
 stopAnswer (finished o) = Done

@@ -1,5 +1,5 @@
--- How a text is read. From any place the reading ends behind the last command, at a refused command, or at a fault, and what is left of the text tells which
--- (`verdict`). The other way, commands that are all drawn are passed, a step for each (`passed`). A printed text is read back (`good-reads`). Assumes nothing.
+-- How a text is read. From any place the reading ends after the last command, at a refused command, or at a fault, and the rest of the text decides which
+-- (`verdict`). Conversely, commands that are all drawn are passed, a step for each (`passed`). A printed text is read back (`good-reads`). Assumes nothing.
 use Prim.Native.Nat.{ℕ, zero, suc, _+_, _-_, _≤_, _<_}
 use mathlib.Core.Path.{_≡_, refl, sym, ap, _∙_, subst}
 use mathlib.Core.Bool.{Bool, true, false, cond}
@@ -35,7 +35,7 @@ unfolding printed
 printed-long [] = le-refl 0
 printed-long (c ∷ cs) = omega (arith, printed-long cs, command-some c, length-append (commandLines c) (printed cs))
 
--- ---- one step: the place, the line and the drawing behind a command
+-- ---- one step: the place, the line and the drawing after a command
 abbrev placeBehind : ℕ → TextCommand → ℕ
 placeBehind at c = at + length (commandLines c)
 
@@ -88,7 +88,7 @@ pub data Verdict (left : List ℕ) (line : ℕ) (o : Outcome) : Progress → Typ
       → left ≡ printed cs ++ rest → (Good rest → ⊥) → LongestBeginning Good rest beginning
       → l ≡ line + newlines (printed cs) + newlines beginning → Verdict left line o (stopped BadText l)
 
--- of one more command before it
+-- the same with one more command before it
 one-more : (c : TextCommand) (line : ℕ) (o : Outcome) (left : List ℕ) (r : Progress) → ProperCommand c → with c o .answer ≡ Done
     → Verdict left (lineBehind line c) (with c o) r → Verdict (commandLines c ++ left) line o r
 unfolding printed callsIn replayOf
@@ -103,7 +103,7 @@ one-more c line o left r p d (faulty-at cs rest beginning l P e g L m) =
     g L (m ∙ ap (λ (k : ℕ). k + newlines beginning) (lines-behind line c cs))
 
 module _ (text : List ℕ) where
-  -- with as many steps as there are bytes left, and one
+  -- with one step more than there are bytes left
   abbrev Ends : ℕ → Type 0
   Ends n = (at line : ℕ) (o : Outcome) → length (drop at text) < n → Verdict (drop at text) line o (stepsOf n text (going at line o))
 
@@ -138,7 +138,7 @@ module _ (text : List ℕ) where
   unfolding readOf
   verdict first = ends (length text + 1) 0 1 first (omega arith)
 
-  -- ---- commands that are all drawn are passed, a step for each; at is the place behind them
+  -- ---- commands that are all drawn are passed, a step for each; at is the place after them
   pub record Behind (cs : List TextCommand) (rest : List ℕ) (n line : ℕ) (o : Outcome) (r : Progress) : Type 0 where
     pub at : ℕ
     pub there : drop at text ≡ rest

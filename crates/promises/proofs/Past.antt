@@ -48,7 +48,7 @@ module _ {A : Type 0} where
       more : (n m j : ℕ) → n ≤ m → m ≤ j → n ≤ j
       more n m j h l = omega arith
 
-  -- new entries stand before the rest of the old ones
+  -- new entries come before the rest of the old ones
   pub past-over : (n : ℕ) (old new : List A) → length new ≡ n → n ≤ length old → Past n old (over new old)
   unfolding over
   past-over n old new e h =
@@ -82,7 +82,7 @@ past-three n v old new P =
     third : (n : ℕ) → 3 * n + 2 < 3 * (n + 1)
     third n = omega arith
 
--- ---- a quad behind the last, and a spline that is opened or joined
+-- ---- a quad after the last, and a spline that is opened or joined
 up : (n : ℕ) → n ≤ n + 1
 up n = omega arith
 
@@ -125,7 +125,7 @@ put-spline-past n m edit s₀ s h k P =
     more : (j : ℕ) → m ≤ j → n ≤ j
     more j l = omega arith
 
-    -- the flag that goes is that of the spline before
+    -- the flag that is cleared is that of the spline before
     cleared : (b : Bool) → Past n (s₀ .contour) (s .contour) → Past m (s₀ .contour) (clearFlag b (s .contour) (edit .at))
     cleared true Q = past-set n m (edit .at - 1) (flagByteOf false) (s₀ .contour) (s .contour) h (below (edit .at) k) Q
     cleared false Q = record { as-long = Q .as-long; entries = λ i d l. Q .entries i d (more i l) }

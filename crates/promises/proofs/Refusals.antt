@@ -1,4 +1,4 @@
--- A run is refused exactly at its first refused primitive, and the test for 3 tells its faults. Assumes nothing.
+-- A run is refused exactly at its first refused primitive, and the test for 3 fails exactly on its faults. Assumes nothing.
 use Prim.Native.Nat.{ℕ, zero, suc, _+_, _-_, _≤_, _<_, suc-le-suc}
 use mathlib.Core.Path.{_≡_, refl, sym, ap, ap₂, _∙_, subst}
 use mathlib.Core.Logic.{_⊎_, inl, inr, _≢_, _↔_}

@@ -1,4 +1,4 @@
--- What one primitive answers: the answer of a push, by the tests that it makes, and that it refuses exactly with the causes that the rules give. Assumes nothing.
+-- What one primitive answers: the answer of a push, by the tests that it makes; and it refuses exactly for the causes that the rules give. Assumes nothing.
 use Prim.Native.Nat.{ℕ, _+_, _≤_, _<_}
 use mathlib.Core.Path.{_≡_, refl, sym, ap, ap₂, _∙_, subst}
 use mathlib.Core.Logic.{_⊎_, inl, inr, _≢_}

@@ -29,7 +29,7 @@ use Rattle.listing.specs.Writing.{Listing, listed, listedAs}
 use Rattle.listing.specs.Program.{listingOf}
 use Rattle.promises.specs.Settled.{Settles, ValueSettled, ResultAndKeptSettled, ColumnsSettled, QuadsSettled, SplinesSettled, OutputSettled, DrawnSettled, TablesSettled, DeliveredSettled, FlattenSettled, ReplySettled, FlatReplySettled, ListingSettled, Lists, ListingLists, PairSettled, TwoPointsSettled, ThreePointsSettled, HasStopped, has-stopped, ReadSettled}
 
--- a form settles where its parts can be told from what it puts together
+-- a form settles an outcome if the outcome's parts can be found again in what the form puts together
 told : {A D : Type 0} (form : A → D) (back : D → A) → ((a : A) → back (form a) ≡ a) → Settles form
 told form back same d parts parts' h k = sym (same parts) ∙ ap back (h ∙ sym k) ∙ same parts'
 
@@ -145,7 +145,7 @@ read-same (Progressing.Going state at line) c = refl
 read-same (Progressing.Finished state) c = refl
 read-same (Progressing.Stopped a line) c = refl
 
--- what the columns hold, or where none are told, others
+-- what the columns hold; or other columns, if the result says nothing of them
 columns-back : Columns → Progress → Columns
 columns-back c (going at line o) = o .columns
 columns-back c (finished o) = o .columns

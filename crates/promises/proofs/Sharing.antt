@@ -1,4 +1,4 @@
--- Demand 3d. From equal words come equal pieces, and a piece tells its Start, its number of steps, their size and its flag. Assumes nothing.
+-- Demand 3d. Equal words have equal pieces, and a piece determines its Start, its number of steps, their size and its flag. Assumes nothing.
 use mathlib.Core.Path.{_≡_, refl, sym, ap, ap₂, _∙_, subst}
 use mathlib.Core.Logic.{_↔_}
 use mathlib.Core.Bool.{Bool, true, false, cond}
@@ -20,7 +20,7 @@ use Rattle.promises.proofs.Flattened.{worldOf, finishedOf, Passed, pass
 use Rattle.promises.proofs.Decoding.{job-pieces}
 use Rattle.promises.proofs.Contours.{flag-last, piece-flag}
 
--- ---- what a piece tells
+-- ---- what a piece determines
 abbrev startIn : List PointCommand → Bool
 startIn [] = false
 startIn (Start i ∷ rest) = true

@@ -59,7 +59,7 @@ spline-steps P q s k c h =
     start false = tt
 
 module _ (setting : Setting) (caps : Capacities) (w : World) (S : Sound caps w) (points : ℕ) (o : Output) where
-  -- what is left of the run's tables and the walk
+  -- the tables that the run leaves, and the walk
   abbrev left : Flattening
   left = flattening (flattened Done (w .state .splines) (w .state .quads) points) (w .quads) (w .splines) o
 

@@ -1,4 +1,4 @@
--- Tests that tell a fault: a test fails exactly if the fault is there. Laws for numbers, floats, lists and tests joined by "and"; and a ladder of tests, of which the
+-- A test tells a fault if it fails exactly when the fault is there. Laws for numbers, floats, lists and tests joined by "and"; and a ladder of tests, of which the
 -- first that fails gives the answer. Assumes nothing.
 use Prim.Native.Nat.{ℕ, zero, suc, _+_, _*_, _≤_, _<_}
 use mathlib.Core.Path.{_≡_, refl, sym, ap, ap₂, _∙_, subst}
@@ -23,7 +23,7 @@ Tells b X = (b ≡ false → X) × (X → b ≡ false)
 pub tells-as : (b : Bool) (X Y : Type 0) → (X → Y) → (Y → X) → Tells b X → Tells b Y
 tells-as b X Y f g t = (λ e. f (t .0 e), λ y. t .1 (g y))
 
--- where the test passes there is no fault
+-- if the test holds there is no fault
 pub passes : (b : Bool) (X : Type 0) → Tells b X → b ≡ true → X → ⊥
 passes b X t e x = true≢false (sym e ∙ t .1 x)
 

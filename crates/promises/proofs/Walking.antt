@@ -81,7 +81,7 @@ module _ (q : QuadTable) (s : SplineTable) where
   pieces-count setting (suc n) k cursor =
       ap length (cut-spline k cursor (walkFrom setting q s n (k + 1) (cursorAfter q s k cursor))) ∙ ap suc (pieces-count setting n (k + 1) (cursorAfter q s k cursor))
 
-  -- piece i is spline k + i's, with a cursor for which holds what is true at first and kept by each spline
+  -- piece i has the items of spline k, and some cursor at which `inv` holds
   pub record Piece (inv : ℕ → ℕ → Type 0) (pieces : List (List Item)) (i k : ℕ) : Type 0 where
     pub cursor : ℕ
     pub is : getD pieces i [] ≡ splineItemsOf q s k cursor

@@ -28,7 +28,7 @@ use Rattle.rounding.proofs.Distances.{far-of, of-level, same-value}
 use Rattle.rounding.proofs.Grid.{leading, on-grid}
 use Rattle.rounding.proofs.Closest.{closest-near, closest-tie}
 
--- ---- over whole numbers: n / b, of which `drop p n b` digits go
+-- ---- over whole numbers: n / b, of which `drop p n b` digits are dropped
 module _ (p n b : ℕ) (P : 0 < p) (B : 0 < b) where
   unfoldable pub R : ℕ
   R = kept p n b * 2 ^ drop p n b

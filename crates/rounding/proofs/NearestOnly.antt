@@ -1,4 +1,4 @@
--- There is one nearest value: any two of a format that are nearest to a fraction, ties to even, are equal, and are one float but for the sign of a zero.
+-- There is one nearest value: any two of a format that are nearest to a fraction, ties to even, are equal, and are one float except for the sign of a zero.
 -- Between two that are not neighbours lies a nearer one; and of two neighbours one is not even. Assumes nothing.
 use mathlib.Core.Path.{_≡_, refl, sym, ap, _∙_, subst}
 use mathlib.Core.Logic.{_⊎_, inl, inr}

@@ -98,8 +98,8 @@ module _ (f : Format) (s : Bool) (N y k : ℕ) where
       (zero-of-mul (N % 2 ^ (y + k)) (2 ^ suc (low f)) (pow-pos (suc (low f))))
       (λ e. ap (λ (x : ℕ). x * 2 ^ suc (low f)) e ∙ zero-mul (2 ^ suc (low f))))
 
--- ---- two numbers N and M that lie strictly between the same two multiples of 2 ^ t round alike, where a half of the last digit that stays is a multiple of
--- 2 ^ t how many digits of N go: there is a k as `round-pow` asks
+-- ---- numbers N and M strictly between the same two multiples of 2 ^ t round alike, if half of the last digit that stays is a multiple of 2 ^ t.
+-- First k, the number of digits of N that are dropped: there is one as `round-pow` requires
 pub level : (p N y : ℕ) → (k : ℕ) × (N / 2 ^ (y + k) < 2 ^ suc p) × ((k ≡ 0) ⊎ (2 ^ p ≤ N / 2 ^ (y + k)))
 level p N y =
     let w = N / 2 ^ y in

@@ -163,7 +163,7 @@ alike-from t e N M h = elim h [
       ]
 ]
 
--- the two stand alike to e * 2 ^ t
+-- the two compare alike with e * 2 ^ t
 under : (t e N M : ℕ) → Alike t N M → N < e * 2 ^ t → M < e * 2 ^ t
 under t e N M h l = elim h [
   | inl p ↦ subst (λ (x : ℕ). x < e * 2 ^ t) p l
@@ -254,13 +254,13 @@ sum-comm f s a t b c = go s t (ltb a b) (ltb b a) (ltb→lt a b) (nltb→le a b)
     go false true false true A B C D = refl
     go false true false false A B C D = ap (λ (x : ℕ). round f false x c) (ap₂ (λ (x y : ℕ). x - y) (level (B tt) (D tt)) (sym (level (B tt) (D tt))))
 
--- ---- a multiple of 2 ^ a lies strictly between two multiples of 2 ^ t only where t is the larger
+-- ---- a multiple of 2 ^ a can lie strictly between two neighbouring multiples of 2 ^ t only if t is larger than a
 pub deep : (p a t j : ℕ) → p % 2 ^ a ≡ 0 → Between (2 ^ t) j p → a < t
 deep p a t j e h =
     lt-of-not-le (λ (g : t ≤ a). lt-irrefl 0
     (subst (λ (x : ℕ). 0 < x) e (subst (λ (x : ℕ). 0 < p % 2 ^ x) (add-sub-of-le g) (coarser p t (a - t) (between-mod (2 ^ t) j p h)))))
 
--- ---- a sum of which one part, N, is x * 2 ^ z but for what was lost below 2 ^ z, and the other is B * 2 ^ z for an even B
+-- ---- a sum of two parts: N, which is x * 2 ^ z except for what was lost below 2 ^ z, and B * 2 ^ z for an even B
 even-half : (B w W : ℕ) → B % 2 ≡ 0 → W ≡ 2 * w → B / 2 * W ≡ B * w
 even-half B w W e h = ap (λ (x : ℕ). B / 2 * x) h ∙ mul-left-comm (B / 2) 2 w ∙ sym (mul-assoc 2 (B / 2) w) ∙ ap (λ (x : ℕ). x * w) (whole B e)
   where

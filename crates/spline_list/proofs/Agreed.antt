@@ -1,4 +1,4 @@
--- What `fill` and `spread` have in common: what is known of the lengths where rows go, and the contracts of the three functions that both call before and
+-- What `fill` and `spread` have in common: what is known of the lengths if rows are copied, and the contracts of the three functions that both call before and
 -- after their loop, each with what its triple binds and what a call of it is given.
 -- Assumes `Given`.
 use mathlib.Core.Path.{_≡_, refl}
@@ -86,7 +86,7 @@ equal ys t n e =
       contour-has = leb-true n (length (t .contour)) (h .6);
     }
 
--- a row that goes is below n, and the lengths agree
+-- a row that is copied is below n, and the lengths agree
 pub goes-on : (agreed : Bool) (n i : ℕ) → i < countOf agreed n → (agreed ≡ true) × (i < n)
 goes-on true n i h = (refl, h)
 goes-on false n i h = absurd (not-suc-le-zero h)

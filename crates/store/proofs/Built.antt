@@ -66,7 +66,7 @@ module _ (st : StoreState) (c : Columns) (a : Accepted Build st c) where
   unfolding writesOf closed stateAfter written putPoints putCommands unclosedOf
   was-closed e = rw (e, add-zero) (λ h k. not-false (sameOf (lastOf st c) (openOf st c)) e)
 
-  -- where it was not, the open point now stands at both places
+  -- if it was not closed, the open point is now at both places
   abbrev after : Columns
   after = putCommand (putPoint c (st .points) (storedPointOf c (st .opening))) (st .commands) lineCommand
 

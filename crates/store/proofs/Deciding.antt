@@ -1,4 +1,4 @@
--- What the tests of a call come to: each refusal, and the writes of an accepted call. Assumes nothing.
+-- What the tests of a call give: each refusal, and the writes of an accepted call. Assumes nothing.
 use Prim.Native.Nat.{_+_, _≤_}
 use native.Mathlib.Omega.{arith}
 use native.Mathlib.Nat.{le-refl, le-trans, le-of-eq}
@@ -21,7 +21,7 @@ use Rattle.store.specs.Plan.{writesBy, Fitting, Decided}
 use Rattle.store.proofs.Tests.{and-left, and-right}
 use Rattle.store.proofs.Usable.{Counted, usable-counts}
 
--- ---- no call writes from behind the last point on with a gap
+-- ---- no call leaves a gap after the last point
 moved-at : (st : StoreState) (c : Columns) (p : Point) (again unclosed : Bool) → moved st c p again unclosed .at ≤ st .points
 unfolding moved
 moved-at st c p true unclosed = omega arith

@@ -1,4 +1,4 @@
--- The writes of an accepted call keep a store as flattening's test for 3 asks. Assumes nothing.
+-- The writes of an accepted call keep a store in the state that flattening's test for 3 requires. Assumes nothing.
 use Prim.Native.Nat.{ℕ, _+_, _≤_, _<_}
 use native.Mathlib.Omega.{arith}
 use native.Mathlib.Nat.{le-refl}
@@ -62,7 +62,7 @@ tail-ok ok v vs e = and-right (ok v) (every ok vs) e
 abbrev Coordinates : List Float → Type 0
 Coordinates l = every coordinateOkOf l ≡ true
 
--- a point at the head of the coordinates of a call, and what stands behind it
+-- a point at the head of the coordinates of a call, and what comes after it
 first-point : (p : Point) (l : List Float) → Coordinates (p .x ∷ p .y ∷ l) → Ok (p .x) × Ok (p .y)
 first-point p l e = (head-ok coordinateOkOf (p .x) (p .y ∷ l) e, head-ok coordinateOkOf (p .y) l (tail-ok coordinateOkOf (p .x) (p .y ∷ l) e))
 

@@ -1,4 +1,4 @@
--- A store that passes flattening's test for 3, in facts. Assumes nothing.
+-- What is known of a store in which flattening's test for 3 finds no fault. Assumes nothing.
 use Prim.Native.Nat.{ℕ, _-_, _≤_, _<_}
 use native.Mathlib.Omega.{arith}
 use mathlib.Core.Path.{_≡_, subst}

@@ -1,4 +1,4 @@
--- Tests joined by `&&`, and a list of numbers that all pass one. Assumes nothing.
+-- Tests joined by `&&`, and one test that every number of a list passes. Assumes nothing.
 use Prim.Native.Nat.{ℕ, _+_, _-_, _≤_}
 use native.Mathlib.Omega.{arith}
 use mathlib.Core.Path.{_≡_, refl, sym, ap, _∙_}
@@ -52,7 +52,7 @@ every-append ok (v ∷ l) m = ap (λ (b : Bool). ok v && b) (every-append ok l m
 pub joined : (ok : Float → Bool) (l m : List Float) {a b : Bool} → a ≡ every ok l → b ≡ every ok m → (a && b) ≡ every ok (l ++ m)
 joined ok l m p q = rw (p, q) (sym (every-append ok l m))
 
--- a sum that may not fit a word, tested by what is left
+-- a sum that may not fit a word, tested by the room that is left
 pub fit-test : (j k m : ℕ) → j ≤ m → leb k (m - j) ≡ leb (j + k) m
 fit-test j k m h = go (leb k (m - j)) refl
   where

@@ -1,4 +1,4 @@
--- What a usable store tells, in numbers. Assumes nothing.
+-- What is known of the counts and lengths of a usable store. Assumes nothing.
 use Prim.Native.Nat.{ℕ, _≤_, _<_}
 use native.Mathlib.Omega.{arith}
 use mathlib.Core.Path.{_≡_, sym, ap, _∙_}

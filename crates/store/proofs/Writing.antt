@@ -1,4 +1,4 @@
--- What the functions that write the columns make of them. Assumes nothing.
+-- What the columns hold after the functions that write them. Assumes nothing.
 use Prim.Native.Nat.{ℕ, _+_, _≤_, _<_}
 use native.Mathlib.Omega.{arith}
 use mathlib.Core.Path.{_≡_, sym, ap, _∙_}

@@ -1,4 +1,4 @@
--- The loop over the pieces of a cubic: what is left to run gives what the whole gives. Assumes nothing.
+-- The loop over the pieces of a cubic. Its invariant: running what is left gives what running the whole gives. Assumes nothing.
 use mathlib.Core.Path.{_≡_, refl, sym, ap, _∙_}
 use mathlib.Core.Bool.{Bool, true, false, true≢false, _&&_}
 use mathlib.Core.List.{List, [], _∷_}

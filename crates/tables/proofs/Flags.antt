@@ -1,5 +1,5 @@
--- The flags at every moment of a run: a spline is flagged exactly if it is the last one yet, or as many splines as up to it were there when a Move came.
--- `ended m` says that m splines were there at a Move. While a mark waits the last spline is such a one; else it is not. Assumes nothing.
+-- The flags at every moment of a run: a spline is flagged exactly if it is the last one so far, or was the last one when a Move came.
+-- `ended m` says that m splines were there at a Move. The last spline was the last one at a Move exactly while a mark waits. Assumes nothing.
 use mathlib.Core.Path.{_≡_, refl, sym, ap, ap₂, _∙_, subst, subst₂}
 use mathlib.Core.Logic.{_⊎_, inl, inr, _≢_}
 use mathlib.Core.List.{List, [], _∷_}
@@ -32,7 +32,7 @@ use Rattle.tables.proofs.Sound.{Sound, sound-push, sound-run, last-is, 
 abbrev pub flagAt : SplineTable → ℕ → Bool
 flagAt s j = splineAt s j .contour
 
--- as many splines as up to j are there in all, or were when a Move came
+-- spline j is the last one so far, or was when a Move came
 abbrev pub Closes : (ℕ → Type 0) → ℕ → ℕ → Type 0
 Closes ended n j = (suc j ≡ n) ⊎ ended (suc j)
 
@@ -133,7 +133,7 @@ module _ (caps : Capacities) (E : ℕ → Type 0) (w : World) (S : Sound caps w)
       old j l (inl e) = absurd (not-next j (w .state .splines) l (e ∙ next))
       old j l (inr e) = unset j l e
 
-  -- "The mark moves to the new spline": where one waits the last spline keeps its flag, and else it goes
+  -- "The mark moves to the new spline": if one waits, the last spline keeps its flag; otherwise the flag is cleared
   opened : (edit : SplineEdit) (q' : QuadTable) (m : Bool) → w .state .mark ≡ m → edit .at ≡ w .state .splines → edit .row .contour ≡ true → edit .clears ≡ not m → edit .next .splines ≡ suc (w .state .splines) → edit .next .mark ≡ false
       → w .state .splines < caps .splines → Flagged E (world (edit .next) q' (putSpline (w .splines) edit))
   opened edit q' m mark at row clears next done room =

@@ -1,4 +1,4 @@
--- The Moves that a run meets are those of the command list, and splines only become more. Assumes nothing.
+-- The Moves that a run meets are those of the command list, and the number of splines never falls. Assumes nothing.
 use mathlib.Core.Path.{_≡_, refl, sym, ap, ap₂, _∙_, subst}
 use mathlib.Core.Logic.{_⊎_, inl, inr}
 use mathlib.Core.List.{List, [], _∷_, _++_, append-assoc}
@@ -36,7 +36,7 @@ module _ (setting : Setting) (caps : Capacities) where
       go true e = e
       go false e = sym (ap (λ (v : World). isDone (v .state .answer)) (Runs.run-append setting caps ps qs w ∙ Runs.run-stop setting caps qs (runOf setting caps ps w) e)) ∙ h
 
-  -- ---- splines only become more
+  -- ---- the number of splines never falls
   push-grows : (w : World) {b : Bool} {w' : World} → Pushed caps w b w' → w .state .splines ≤ w' .state .splines
   unfolding refusedOf markedOf applyOf splineEditOf
   push-grows w (kept answer) = le-refl (w .state .splines)

@@ -1,4 +1,4 @@
--- Past the end of a column nothing is written: three numbers at 3 * i change nothing where i is past it. Assumes nothing.
+-- Past the end of a column nothing is written: three numbers at 3 * i change nothing if i is past its threes. Assumes nothing.
 use mathlib.Core.Path.{_≡_}
 use mathlib.Core.List.{List}
 use Prim.Native.Nat.{ℕ, _+_, _*_, _≤_}

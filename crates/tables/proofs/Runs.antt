@@ -1,4 +1,4 @@
--- What an edit, a primitive and a list of primitives make of the tables: the laws by which runs are put together. Assumes nothing.
+-- What an edit, a primitive and a list of primitives do to the tables: the laws by which runs are put together. Assumes nothing.
 use mathlib.Core.Path.{_≡_, refl}
 use mathlib.Core.Bool.{true, false, cond}
 use mathlib.Core.List.{List, [], _∷_, _++_}

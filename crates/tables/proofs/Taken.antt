@@ -1,5 +1,5 @@
--- The loop over the commands of a store: what is left to run gives what the whole gives. A point past every column is not there, so that the number of points used
--- up may stop there. Assumes nothing.
+-- The loop over the commands of a store. Its invariant: running what is left gives what running the whole gives. There is no point past every column, so the number of
+-- points used up may stop there. Assumes nothing.
 use mathlib.Core.Path.{_≡_, refl, sym, ap, _∙_}
 use mathlib.Core.Bool.{Bool, true, false, _&&_, cond}
 use mathlib.Core.List.{List, [], _∷_, _++_}
@@ -92,7 +92,7 @@ advanced-near k j hk h = go (ltb j (2 ^ 62)) refl
     go true e = let l = ltb-true j (2 ^ 62) e in omega arith
     go false e = h
 
--- ---- the commands decide no point
+-- ---- a point does not depend on the commands
 points-alone : (c : Columns) (k j : ℕ) → commandPrimitivesOf (columns (c .x) (c .y) (c .weight) []) k j ≡ commandPrimitivesOf c k j
 unfolding commandPrimitivesOf storedPointOf cubicFrom
 points-alone c zero j = refl
@@ -129,7 +129,7 @@ module _ (i n : ℕ) (going : Bool) (t : (ltb i n && going) ≡ true) where
   pub counted : n < 2 ^ 64 → i + 1 < 2 ^ 64
   counted h = let k = before-end in omega arith
 
--- the invariant: commands i to n are left, behind j points
+-- the invariant: commands i to n are left, after j points
 pub record Taking (setting : Setting) (caps : Capacities) (c : Columns) (n : ℕ) (w₀ w : World) (i j : ℕ) (going : Bool) : Type 0 where
   pub same : runOf setting caps (primitivesFrom c (take n (c .commands)) 0) w₀ ≡ runOf setting caps (primitivesFrom c (drop i (take n (c .commands))) j) w
   pub near : j < 2 ^ 62 + 256

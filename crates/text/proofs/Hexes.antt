@@ -16,7 +16,7 @@ use Rattle.text.specs.Bytes.{partAt}
 use Rattle.text.specs.Hex.{hexDigitOf, hexValueOf, allHex, hexNumber, hexStandsAt, hexNumberAt, hexAtOf, hexDigits, hexOf}
 use Rattle.text.proofs.Standing.{both-true}
 
--- k more digits, behind those whose number is n
+-- k more digits, after those whose number is n
 unfoldable pub digitsIn : List ℕ → ℕ → ℕ → HexAt
 digitsIn rest k n = cond (eqb (length (take k rest)) k && allHex (take k rest)) (Number (hexNumber n (take k rest))) Wrong
 

@@ -1,5 +1,5 @@
--- Shapes of texts: a list of classes of bytes, each one byte or any hex digit. The longest beginning of a text that fits a shape; it can be completed
--- to the whole shape, and its newlines are those of the shape's whole lines that stand. Assumes nothing.
+-- Shapes of texts: a list of classes of bytes, each one byte or any hex digit. The longest beginning of a text that fits a shape: it can be completed
+-- to the whole shape, and it has a newline for each of the shape's lines that is whole. Assumes nothing.
 use mathlib.Core.Path.{_≡_, refl, sym, ap, _∙_}
 use mathlib.Core.Bool.{Bool, true, false, not, _&&_, cond}
 use mathlib.Core.List.{List, [], _∷_, _++_, map}
@@ -14,7 +14,7 @@ use Rattle.text.specs.Places.{newlines}
 use Rattle.text.proofs.Standing.{both-true}
 use Rattle.text.proofs.Hexes.{DigitsOf, digits-of, digits-hex, hex-digits-length}
 
--- ---- lists one behind another
+-- ---- lists one after another
 module _ {A : Type 0} where
   -- of two beginnings of a list one begins the other
   pub data Overlap (xs ys zs ws : List A) : Type 0 where
@@ -196,7 +196,7 @@ unfolding newlines
 plain-newlines [] [] h none = refl
 plain-newlines (k ∷ p) (b ∷ s) h (more e f) = rw (plain-first k p b h e) (plain-newlines p s (plain-rest k p h) f)
 
--- a line stands whole; or the beginning that fits has no newline
+-- a line is whole; or the beginning that fits has no newline
 pub data LineAt (p q : List Class) (s : List ℕ) : Type 0 where
   whole : (line rest : List ℕ) → s ≡ line ++ (0x0a ∷ rest) → Fits p line → LineAt p q s
   part : newlines (fit (p ++ (byte 0x0a ∷ q)) s) ≡ 0 → LineAt p q s

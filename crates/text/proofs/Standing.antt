@@ -1,4 +1,4 @@
--- Laws of what stands at a place: a fixed string stands there if its first byte does and the rest stands behind it; what stands lies inside the text. Assumes nothing.
+-- Laws of `standsAt`: the text has a fixed string at a place if it has its first byte there and the rest after it; the string then lies inside the text. Assumes nothing.
 use mathlib.Core.Path.{_≡_, refl, sym, ap, _∙_}
 use mathlib.Core.Bool.{Bool, true, false, _&&_, and-true, and-assoc}
 use mathlib.Core.List.{List, [], _∷_, _++_}
@@ -66,14 +66,14 @@ pub byte-past : (text : List ℕ) (at b : ℕ) → length text ≤ at → stands
 unfolding standsAt partAt sameBytes
 byte-past text at b h = rw (past text at h)
 
--- a fixed string that has a byte and stands is inside the text
+-- a fixed string of at least one byte that the text has at a place lies inside the text
 pub stands-inside : (text : List ℕ) (at : ℕ) (fixed : List ℕ) → 0 < length fixed → standsAt text at fixed ≡ true → at + length fixed ≤ length text
 unfolding standsAt partAt
 stands-inside text at fixed some h =
     let e : length (take (length fixed) (drop at text)) ≡ length fixed = same-length (take (length fixed) (drop at text)) fixed h in
     omega (arith, simp (length-take, length-drop) at e)
 
--- ---- a fixed string stands where what is left of the text begins with it
+-- ---- the text has a fixed string at a place if the text from there on begins with it
 same-bytes : (xs ys : List ℕ) → sameBytes xs ys ≡ true → xs ≡ ys
 unfolding sameBytes
 same-bytes [] [] h = refl

@@ -1,4 +1,4 @@
--- Laws of a run of stores: one run behind another is one run; the last store may be made first. Assumes nothing.
+-- Laws of a run of stores: one run after another is one run; the last store may be made first. Assumes nothing.
 use mathlib.Core.Path.{_≡_, refl, sym, ap, _∙_}
 use mathlib.Core.List.{List, [], _∷_, _++_}
 use Prim.Native.Nat.{ℕ, zero, suc, _+_, _≤_, _<_}

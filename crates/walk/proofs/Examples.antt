@@ -1,4 +1,4 @@
--- The walk over tables written out, by computation: where no Start stands, where the cursor goes, and that every contour has its steps. Assumes nothing.
+-- The walk over tables written out, by computation: where no Start is written, where the cursor goes, and that every contour has its steps. Assumes nothing.
 use Prim.Native.Nat.{ℕ}
 use mathlib.Core.Path.{_≡_, refl}
 use mathlib.Core.Bool.{true, false}

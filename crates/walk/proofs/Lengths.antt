@@ -79,7 +79,7 @@ pub walk-length : (setting : Setting) (q : QuadTable) (s : SplineTable) (n : ℕ
 unfolding walkOf walkLengthOf
 walk-length setting q s n = walk-from-length setting q s n 0 0
 
--- ---- the loop that counts: what is left comes to what the whole comes to
+-- ---- the loop that counts: what is counted and what is left add up to the whole
 pub record Counted (s : SplineTable) (n total : ℕ) (last : SplineRow) (k left : ℕ) : Type 0 where
   pub within : k + left ≡ n
   pub small : total ≤ 65538 * k

@@ -1,4 +1,4 @@
--- `columns::read_f32` meets its contract: past the end `getD` gives what stands for nothing. Assumes nothing.
+-- `columns::read_f32` meets its contract: past the end `getD` gives the default, a NaN. Assumes nothing.
 use mathlib.Core.Path.{sym}
 use lib.Ieee.{nan, div, ofBits}
 use Rattle.columns.proofs.Past.{getD-past}

@@ -1,4 +1,4 @@
--- `columns::read_u8` meets its contract: past the end `getD` gives what stands for nothing. Assumes nothing.
+-- `columns::read_u8` meets its contract: past the end `getD` gives the default, 0. Assumes nothing.
 use mathlib.Core.Path.{sym}
 use Rattle.columns.proofs.Past.{getD-past}
 use borrow.Author.Needs.{needs}

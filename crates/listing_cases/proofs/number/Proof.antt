@@ -1,4 +1,4 @@
--- `listing_cases::number` meets its contract: it is cut to the most. Assumes nothing.
+-- `listing_cases::number` meets its contract: the number is at most the limit. Assumes nothing.
 use Prim.Native.Nat.{_≤_, _-_}
 use native.Mathlib.Omega.{arith}
 use borrow.Author.Needs.{needs}

@@ -1,5 +1,5 @@
--- `spline_list::fill` meets its contract: a walk of its MIR, by hand, with a loop. The borrow of the list is opened once, before the loop, and closed once,
--- after it. A turn calls `row_at` with copies of the columns, and stores the record that it returns.
+-- `spline_list::fill` meets its contract: its MIR is walked by hand, with a loop. The borrow of the list is opened once, before the loop, and closed once,
+-- after it. An iteration calls `row_at` with copies of the columns, and stores the record that it returns.
 -- All that the proof knows of the functions that are called is that they meet their contracts.
 -- Assumes nothing.
 use mathlib.Core.Path.{_≡_, refl, sym, _∙_, ap, subst}
@@ -140,7 +140,7 @@ module _ {M : Type 1} (𝓤 : URA M) (H : Heap 𝓤) (A : Atoms 𝓤) (W : Given
   abbrev agreed : Bool
   agreed = equalOf ys k n
 
-  -- how many rows go
+  -- how many rows are copied
   abbrev m : ℕ
   m = countOf agreed n
 
@@ -197,7 +197,7 @@ module _ {M : Type 1} (𝓤 : URA M) (H : Heap 𝓤) (A : Atoms 𝓤) (W : Given
   goes : (i : ℕ) → ent 𝓤 (sep 𝓤 (A .lft κ′ q′) (sem 𝓤 H A (With i))) (RowAt 𝓤 H A mem run .pre (to-row i))
   goes i = qed W (‵ (flft κ′ q′) ∷ ‵ (With i) ∷ []) ∵ nothing ! $ move ! (1 ∷ 0 ∷ []) $ join ! $ join ! $ frame ! $ done !
 
-  -- what is had once i rows are stored and the borrow is closed
+  -- what holds once i rows are stored and the borrow is closed
   abbrev Left : ℕ → Copied → Val → List (Item 𝓤)
   Left i r w =
       ‵ (fobs γ (codedHoleys R .code (heres R (fills k i ys)))) ∷ ‵ (fbor κ (Held R (length (fills k i ys)) b o γ)) ∷ ‵ (flft κ q) ∷ ‵ (flft κ′ q′) ∷
@@ -221,7 +221,7 @@ module _ {M : Type 1} (𝓤 : URA M) (H : Heap 𝓤) (A : Atoms 𝓤) (W : Given
         (word, l₁₁) ∷ (word, l₁₂) ∷ (word, l₁₃) ∷ (word, l₁₄) ∷ (word, l₁₅) ∷ (word, l₁₆) ∷ (word, l₁₇) ∷ (word, l₁₈) ∷ (tyBool, l₁₉) ∷ (T′.mir, l₂₀) ∷
         (word, l₂₁) ∷ (tyPtr, l₂₂) ∷ []
 
-    -- what is had once the lengths are read
+    -- what holds once the lengths are read
     abbrev Begun : List (Item 𝓤)
     Begun =
         ‵ (froom tyPtr l₂₂ 0) ∷ ‵ (fdies tyPtr l₂₂)
@@ -294,7 +294,7 @@ module _ {M : Type 1} (𝓤 : URA M) (H : Heap 𝓤) (A : Atoms 𝓤) (W : Given
         ∷ ‵ (fat fullShare records l₁ 0 (sliceVal (b, o) (length ys))) ∷ ‵ (fdies records l₁)
         ∷ ‵ (froom C′.mir l₀ 0) ∷ ‵ (fdies C′.mir l₀) ∷ []
 
-    -- a turn's postcondition: it ends nearer to m, or the loop is left and the rest of the body runs
+    -- an iteration's postcondition: it ends nearer to m, or the loop is left and the rest of the body runs
     abbrev Turned : Upto → Out → SProp 𝓤
     Turned i =
         afterTurn 𝓤 H (Below 𝓤 H A Nearer At i) (afterBlock 𝓤 H (afterSeq 𝓤 H (Wp 𝓤 H (𝓣 .C) (𝓣 .Λ) En body.t-12 (atReturn 𝓤 H En Post))

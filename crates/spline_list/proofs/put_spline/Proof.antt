@@ -1,4 +1,4 @@
--- `spline_list::put_spline` meets its contract: a walk of its MIR, by hand. The borrow is opened, the record at i is taken out of the row and
+-- `spline_list::put_spline` meets its contract: its MIR is walked by hand. The borrow is opened, the record at i is taken out of the row and
 -- stored to, and the borrow is closed.
 -- Assumes nothing.
 use mathlib.Core.Path.{_≡_, refl, sym, ap, subst}

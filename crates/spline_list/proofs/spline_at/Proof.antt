@@ -1,4 +1,4 @@
--- `spline_list::spline_at` meets its contract: a walk of its MIR, by hand. The place of `list[i]` is 24 i past the slice's pointer, and the
+-- `spline_list::spline_at` meets its contract: its MIR is walked by hand. The place of `list[i]` is 24 i past the slice's pointer, and the
 -- record is read there whole; the answer is made by a call in either case, and all that the proof knows of those is that they meet their contracts.
 -- Assumes nothing.
 use mathlib.Core.Path.{_≡_, refl, sym, _∙_, ap}

@@ -1,5 +1,5 @@
--- `spline_list::spread` meets its contract: a walk of its MIR, by hand, with a loop. The borrows of the columns are opened and the list is looked into once,
--- before the loop, and all are closed once, after it. A turn reads a record and stores its numbers, one to each column.
+-- `spline_list::spread` meets its contract: its MIR is walked by hand, with a loop. The borrows of the columns and of the list are opened once,
+-- before the loop, and all are closed once, after it. An iteration reads a record and stores its numbers, one to each column.
 -- All that the proof knows of the functions that are called is that they meet their contracts.
 -- Assumes nothing.
 use mathlib.Core.Path.{_≡_, refl, sym, _∙_, ap, subst}
@@ -153,7 +153,7 @@ module _ {M : Type 1} (𝓤 : URA M) (H : Heap 𝓤) (A : Atoms 𝓤) (W : Given
   abbrev agreed : Bool
   agreed = equalOf ys k n
 
-  -- how many rows go
+  -- how many rows are copied
   abbrev m : ℕ
   m = countOf agreed n
 
@@ -216,7 +216,7 @@ module _ {M : Type 1} (𝓤 : URA M) (H : Heap 𝓤) (A : Atoms 𝓤) (W : Given
   goes-flag : (v : Spline) → ent 𝓤 (emp 𝓤) (FlagByte 𝓤 H A mem run .pre (to-flag v))
   goes-flag v = qed W [] ∵ nothing ! $ owned ! bool (Is bool) (bool-makes 𝓤 H A W) (v .contour) _ refl $ fjoin ! $ nothing ! $ join ! $ frame ! $ done !
 
-  -- what is had once i records are stored and the borrows are closed
+  -- what holds once i records are stored and the borrows are closed
   abbrev Left : ℕ → Copied → Val → List (Item 𝓤)
   Left i r w =
       ‵ (flft κ₁ q₁)
@@ -270,7 +270,7 @@ module _ {M : Type 1} (𝓤 : URA M) (H : Heap 𝓤) (A : Atoms 𝓤) (W : Given
         (T′.mir, l₁₂) ∷ (word, l₁₃) ∷ (word, l₁₄) ∷ (word, l₁₅) ∷ (word, l₁₆) ∷ (word, l₁₇) ∷ (word, l₁₈) ∷ (word, l₁₉) ∷ (tyBool, l₂₀) ∷ (word, l₂₁) ∷
         (tyPtr, l₂₂) ∷ (T′.mir, l₂₃) ∷ (tyPtr, l₂₄) ∷ (tyPtr, l₂₅) ∷ (tyPtr, l₂₆) ∷ (tyPtr, l₂₇) ∷ (tyPtr, l₂₈) ∷ (byte, l₂₉) ∷ (tyPtr, l₃₀) ∷ []
 
-    -- what is had once the lengths are read
+    -- what holds once the lengths are read
     abbrev Begun : List (Item 𝓤)
     Begun =
         ‵ (froom tyPtr l₃₀ 0) ∷ ‵ (fdies tyPtr l₃₀)
@@ -371,7 +371,7 @@ module _ {M : Type 1} (𝓤 : URA M) (H : Heap 𝓤) (A : Atoms 𝓤) (W : Given
         ∷ ‵ (fat fullShare records l₁ 0 (only (slice-vals x₁))) ∷ ‵ (fdies records l₁)
         ∷ ‵ (froom C′.mir l₀ 0) ∷ ‵ (fdies C′.mir l₀) ∷ []
 
-    -- a turn's postcondition: it ends nearer to m, or the loop is left and the rest of the body runs
+    -- an iteration's postcondition: it ends nearer to m, or the loop is left and the rest of the body runs
     abbrev Turned : Upto → Out → SProp 𝓤
     Turned i =
         afterTurn 𝓤 H (Below 𝓤 H A Nearer At i) (afterBlock 𝓤 H (afterSeq 𝓤 H (Wp 𝓤 H (𝓣 .C) (𝓣 .Λ) En body.t-12 (atReturn 𝓤 H En Post))

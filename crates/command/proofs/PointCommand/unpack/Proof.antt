@@ -1,4 +1,4 @@
--- `command::PointCommand::unpack` meets its contract: its masks keep the fields by which the definition goes. Assumes nothing.
+-- `command::PointCommand::unpack` meets its contract: its masks keep the fields that the definition reads. Assumes nothing.
 use mathlib.Core.Path.{sym, subst}
 use mathlib.Core.Bool.{Bool, not}
 use native.Mathlib.Omega.{arith}

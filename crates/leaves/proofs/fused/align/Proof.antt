@@ -1,4 +1,4 @@
--- `leaves::fused::align` meets its contract. What `jam` loses stands so low that it only says which way to round. Assumes nothing.
+-- `leaves::fused::align` meets its contract. What `jam` loses is so small that it only decides which way to round. Assumes nothing.
 use mathlib.Core.Path.{_≡_, refl, sym, ap, _∙_, subst}
 use mathlib.Core.Logic.{_⊎_, inl, inr, ⊎-elim}
 use mathlib.Core.Bool.{Bool}
@@ -24,7 +24,7 @@ scaled d a z N x e h =
     suc-out : (d a : ℕ) → suc d + a ≡ suc (d + a)
     suc-out d a = omega arith
 
--- in the sum of x * 2 ^ z and B * 2 ^ z the x stands for N * 2 ^ a
+-- in the sum of x * 2 ^ z and B * 2 ^ z, x * 2 ^ z may replace N * 2 ^ a
 module _ (s t : Bool) (N a B z x k : ℕ) (l : a ≤ z) (zeros : N % 2 ^ k ≡ 0) (even : B % 2 ≡ 0) (h : Alike (suc (z - a)) N (x * 2 ^ (z - a))) where
   there : z - a + a ≡ z
   there = omega (arith, l)

@@ -47,7 +47,7 @@ grouped x y i j K = simp (mul-assoc, mul-comm, mul-left-comm, pow-add)
 moved : (x j K L M : ℕ) → K * L ≡ M → x * K * (2 ^ j * L) ≡ x * 2 ^ j * M
 moved x j K L M e = simp (mul-assoc, mul-comm, mul-left-comm) (simp (mul-assoc, mul-comm, mul-left-comm) at (ap (λ (n : ℕ). x * 2 ^ j * n) e))
 
--- ---- what `align` asks
+-- ---- what `align` requires
 module _ (x y i j : ℕ) (X : x < 16777216) (Y : y < 16777216) (I : i ≤ 254) (J : j ≤ 254) (lx : (i ≡ 0) ⊎ (8388608 ≤ x)) (ly : (j ≡ 0) ⊎ (8388608 ≤ y)) where
   big : 0 < x * y → (i + j ≡ 0) ⊎ (8388608 ≤ x * y)
   big h = elim lx [

@@ -13,7 +13,7 @@ use Rattle.leaves.proofs.Shifts.{back-is}
 use Rattle.leaves.proofs.parts.jam.Statement.{statement}
 use Rattle.leaves.proofs.parts.jam.Tie as tie
 
--- ---- x beside the odd number 2 * j + 1 of 2 ^ d
+-- ---- x and the odd multiple (2 * j + 1) * 2 ^ d
 beside : (x w W j m P Q R : ℕ) → P ≡ j * w → Q ≡ 2 * P → R ≡ 2 * P + w → W ≡ 2 * w → 0 < w → 2 * P < x → x < 2 * P + 2 * w
     → ((Q < x) × (x < Q + W)) × ((Q < R) × (R < Q + W))
 beside x w W j m P Q R p q r e h l u = omega arith

@@ -23,7 +23,7 @@ zeroth s m z y e =
     sym (round-at binary32 s m z z y 0 y (ap (λ (x : ℕ). x + z) (add-zero y)) (subst (λ (x : ℕ). x < 2 ^ 25) (sym q) (pow-pos 25)) (inl refl)
     ∙ ap (λ (x : ℕ). units binary32 s x 0) (ap (λ (x : ℕ). halve x (m * 2 ^ z % 2 ^ y)) q ∙ halve-even 0 (m * 2 ^ z % 2 ^ y)))
 
--- w is the m * 2 ^ l that the code has, which wraps nothing
+-- w is the m * 2 ^ l that the code computes, which does not wrap
 module _ (m l : ℕ) (L : m * 2 ^ l < 2 ^ 62) where
   same : m * 2 ^ l % 2 ^ 64 ≡ m * 2 ^ l
   same = mod-eq-of-lt (lt-of-lt-of-le L (lit≤ tt))

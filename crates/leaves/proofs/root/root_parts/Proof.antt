@@ -62,7 +62,7 @@ module _ (w p r : ℕ) (lo : 8388608 ≤ w) (hi : w < 16777216) (v : IsNear (w *
       even : (p e l : ℕ) → p ≡ e + 126 - l → l < 24 → l + (23 + p % 2 + (p / 2 + p / 2)) ≡ e + 149
       even p e l q h = omega arith
 
--- w as the code has it wraps nothing
+-- w as the code computes it does not wrap
 module _ (m l : ℕ) (lo : 2 ^ 23 ≤ m * 2 ^ l) (hi : m * 2 ^ l < 2 ^ 24) where
   same : m * 2 ^ l % 2 ^ 64 ≡ m * 2 ^ l
   same = mod-eq-of-lt (lt-of-lt-of-le hi (lit≤ tt))

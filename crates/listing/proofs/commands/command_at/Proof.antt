@@ -1,4 +1,4 @@
--- `listing::command_at` meets its contract: the end of the text, no op line, or the command of the first that stands. Assumes nothing.
+-- `listing::command_at` meets its contract: the end of the text, no op line, or the command of the first op line that matches. Assumes nothing.
 use mathlib.Core.Path.{_≡_, refl, sym, ap, _∙_}
 use borrow.Author.Tests.{le-leb, lt-leb}
 use Rattle.listing.specs.Reading.{ops, commandAt}

@@ -1,4 +1,4 @@
--- `listing::command_from` meets its contract: the fields stand behind the op line. Assumes nothing.
+-- `listing::command_from` meets its contract: the fields come after the op line. Assumes nothing.
 use mathlib.Core.Path.{_≡_, refl, sym, ap, _∙_}
 use mathlib.Core.Bool.{true}
 use mathlib.Core.List.{List}

@@ -1,4 +1,4 @@
--- `listing::rat_cubic_fields` meets its contract: three points, and the two weights behind them. Assumes nothing.
+-- `listing::rat_cubic_fields` meets its contract: three points, and the two weights after them. Assumes nothing.
 use mathlib.Core.Path.{refl, sym, _∙_}
 use mathlib.Core.List.{[], _∷_}
 use native.Mathlib.Omega.{arith}

@@ -1,4 +1,4 @@
--- `listing::rat_quad_fields` meets its contract: two points, and the weight behind them. Assumes nothing.
+-- `listing::rat_quad_fields` meets its contract: two points, and the weight after them. Assumes nothing.
 use mathlib.Core.Path.{refl, sym, _∙_}
 use mathlib.Core.List.{[], _∷_}
 use Rattle.text.specs.Bytes.{bytes}

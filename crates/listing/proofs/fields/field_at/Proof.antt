@@ -1,4 +1,4 @@
--- `listing::field_at` meets its contract: the first part of a field that is missing refuses it. Assumes nothing.
+-- `listing::field_at` meets its contract: a field is refused at its first missing part. Assumes nothing.
 use mathlib.Core.Path.{_≡_, refl, sym, ap, _∙_}
 use mathlib.Core.Bool.{Bool, true, false}
 use mathlib.Core.List.{List, [], _∷_}
@@ -20,7 +20,7 @@ use borrow.Author.Needs.{needs}
 use Rattle.listing.proofs.fields.field_at.Statement.{statement}
 use Rattle.listing.proofs.fields.field_at.Tie as tie
 
--- the line end's place, eight behind the digits
+-- the line end's place, eight after the digits' start
 line-end : (text : List ℕ) (at n : ℕ) (b : Bool) → standsAt text (at + n + 1 + 8) (0x0a ∷ []) ≡ b → standsAt text (at + n + 9) (0x0a ∷ []) ≡ b
 line-end text at n b h = let p : at + n + 9 ≡ at + n + 1 + 8 = omega arith in ap (λ (m : ℕ). standsAt text m (0x0a ∷ [])) p ∙ h
 

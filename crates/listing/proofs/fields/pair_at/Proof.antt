@@ -1,4 +1,4 @@
--- `listing::pair_at` meets its contract: one field, then the other behind it. Assumes nothing.
+-- `listing::pair_at` meets its contract: one field, then the other after it. Assumes nothing.
 use mathlib.Core.Path.{_≡_, refl, sym, ap, _∙_}
 use native.Mathlib.Omega.{arith}
 use Rattle.listing.proofs.FieldLaws.{field-inside, first-off, second-off, both-on}

@@ -1,4 +1,4 @@
--- `listing::three_points_at` meets its contract: two points, and one behind them. Assumes nothing.
+-- `listing::three_points_at` meets its contract: two points, and one after them. Assumes nothing.
 use mathlib.Core.Path.{refl}
 use Rattle.listing.proofs.PointLaws.{pair-seen, two-seen, placed-behind, three-first-off, three-second-off, three-on}
 use borrow.Author.Needs.{needs}

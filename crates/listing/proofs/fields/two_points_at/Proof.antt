@@ -1,4 +1,4 @@
--- `listing::two_points_at` meets its contract: one point, and one behind it. Assumes nothing.
+-- `listing::two_points_at` meets its contract: one point, and one after it. Assumes nothing.
 use native.Mathlib.Omega.{arith}
 use Rattle.listing.proofs.PointLaws.{pair-seen, placed-behind, two-first-off, two-second-off, two-on}
 use borrow.Author.Needs.{needs}

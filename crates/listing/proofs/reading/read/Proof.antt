@@ -1,4 +1,4 @@
--- `listing::read` meets its contract: the steps left give what all of them do, and there are more left than bytes. Assumes nothing.
+-- `listing::read` meets its contract: the steps that are left give what all of them give, and more steps than bytes are left. Assumes nothing.
 use mathlib.Core.Path.{_≡_, refl, sym, ap, _∙_}
 use mathlib.Core.List.{List}
 use Prim.Native.Nat.{ℕ, _+_, _-_, _≤_, _<_}

@@ -1,4 +1,4 @@
--- `listing::put_head` meets its contract: three lines, one behind another. Assumes nothing.
+-- `listing::put_head` meets its contract: three lines, one after another. Assumes nothing.
 use native.Mathlib.Omega.{arith}
 use Rattle.text.specs.Bytes.{bytes}
 use Rattle.text.specs.Decimal.{decimalOf}

@@ -1,4 +1,4 @@
--- `listing::put_points` meets its contract: what is left of the points, written behind those that are. Assumes nothing.
+-- `listing::put_points` meets its contract: the points that are left, written after those already written. Assumes nothing.
 use mathlib.Core.Path.{_≡_, refl, sym, ap, _∙_}
 use mathlib.Core.List.{List}
 use Prim.Native.Nat.{ℕ, _+_, _-_, _*_, _≤_, _<_}

@@ -1,4 +1,4 @@
--- `point::curve::lessened` meets its contract: where the tests pass the product is the fused operation. Assumes nothing.
+-- `point::curve::lessened` meets its contract: if the tests hold, the product is the fused operation. Assumes nothing.
 use borrow.Author.Needs.{needs}
 use Rattle.point.proofs.Exact.{product-fused}
 use Rattle.point.proofs.curve.lessened.Statement.{statement}

@@ -1,4 +1,4 @@
--- `point::curve::quad_weight` meets its contract: where the tests pass each lerp gives 1. Assumes nothing.
+-- `point::curve::quad_weight` meets its contract: if the tests hold, each lerp gives 1. Assumes nothing.
 use borrow.Author.Needs.{needs}
 use Rattle.point.proofs.Ones.{quad-ones}
 use Rattle.point.proofs.curve.quad_weight.Statement.{statement}

@@ -1,4 +1,4 @@
--- `point::curve::quarter_plus` meets its contract: where the tests pass the product is exact. Assumes nothing.
+-- `point::curve::quarter_plus` meets its contract: if the tests hold, the product is exact. Assumes nothing.
 use borrow.Author.Needs.{needs}
 use Rattle.point.proofs.Quarter.{quarter-fused}
 use Rattle.point.proofs.curve.quarter_plus.Statement.{statement}

@@ -1,4 +1,4 @@
--- `point::direction::approx_atan2` meets its contract: each leaf is the definition's, and so is what stands where the arms of each test meet. Assumes nothing.
+-- `point::direction::approx_atan2` meets its contract: each leaf is the definition's, and so is the value where the arms of each test meet. Assumes nothing.
 use mathlib.Core.Path.{_≡_, refl}
 use mathlib.Core.Logic.{⊎-elim}
 use mathlib.Core.Bool.{cond}

@@ -1,4 +1,4 @@
--- `store::whole::drawable` meets its contract: a usable store has all that the loops ask, and their results joined are the definition. Assumes nothing.
+-- `store::whole::drawable` meets its contract: a usable store has all that the loops require, and their results joined are the definition. Assumes nothing.
 use native.Mathlib.Omega.{arith}
 use mathlib.Core.Path.{sym, _∙_}
 use borrow.Author.Needs.{needs}

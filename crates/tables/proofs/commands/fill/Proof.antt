@@ -1,4 +1,4 @@
--- `tables::commands::fill` meets its contract: each turn runs one command more. Assumes nothing.
+-- `tables::commands::fill` meets its contract: each iteration runs one command more. Assumes nothing.
 use mathlib.Core.Path.{refl}
 use Prim.Native.Nat.{ℕ, _+_, _-_, _^_, _<_}
 use native.Mathlib.Omega.{arith}
@@ -103,7 +103,7 @@ same-length-15 c = c .before .loop .inv .splines .p2y
 same-length-16 : tie.Need-same-length-16 Inv-loop μ-loop
 same-length-16 c = c .before .loop .inv .splines .contour
 
--- The tables at entry are named: to find them takes five gigabytes.
+-- The tables at entry are written out, since the prover needs five gigabytes to find them.
 returns : tie.Need-returns Inv-loop μ-loop
 returns c =
     let a = c .before .before .before .before .before .before .before .before .before .before .before .before .before .before .before .before .before .before .before .before .before .before .before .before .before .before .before .before .before .before .before .before .before .before .before .before .before .before .before .before .before .args in

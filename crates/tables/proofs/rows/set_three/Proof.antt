@@ -1,4 +1,4 @@
--- `tables::rows::set_three` meets its contract: past the length `set` changes nothing, at 3 * i and behind it too. Assumes nothing.
+-- `tables::rows::set_three` meets its contract: past the length `set` changes nothing, neither at 3 * i nor after it. Assumes nothing.
 use mathlib.Core.Path.{sym}
 use Rattle.tables.proofs.Past.{three-out}
 use borrow.Author.Needs.{needs}

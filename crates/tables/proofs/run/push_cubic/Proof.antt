@@ -1,4 +1,4 @@
--- `tables::run::push_cubic` meets its contract: each turn runs one piece more. Assumes nothing.
+-- `tables::run::push_cubic` meets its contract: each iteration runs one piece more. Assumes nothing.
 use Prim.Native.Nat.{_+_, _-_}
 use Rattle.tables.specs.Tables.{quadTable, splineTable}
 use Rattle.tables.specs.Run.{world}

@@ -1,4 +1,4 @@
--- `text::byte_stands_at` meets its contract: past the end no byte stands. Assumes nothing.
+-- `text::byte_stands_at` meets its contract: past the end there is no byte. Assumes nothing.
 use mathlib.Core.Path.{sym}
 use native.Mathlib.Omega.{arith}
 use Rattle.text.proofs.Standing.{byte-stands, byte-past}

@@ -1,4 +1,4 @@
--- `text::put_bytes` meets its contract: what is left of the bytes, written behind those that are. Assumes nothing.
+-- `text::put_bytes` meets its contract: the bytes that are left, written after those already written. Assumes nothing.
 use mathlib.Core.Path.{_≡_, refl, sym, ap, _∙_}
 use mathlib.Core.List.{List, [], _∷_}
 use Prim.Native.Nat.{ℕ, suc, _+_, _-_, _≤_, _<_}

@@ -1,4 +1,4 @@
--- `text::stands_at` meets its contract: what is left of the fixed string stands behind what was passed. Assumes nothing.
+-- `text::stands_at` meets its contract: the rest of the fixed string comes after what was matched. Assumes nothing.
 use mathlib.Core.Path.{_≡_, refl, sym, ap, _∙_}
 use mathlib.Core.Bool.{Bool, true, false, _&&_}
 use mathlib.Core.List.{List, [], _∷_}
@@ -21,7 +21,7 @@ Inv-loop text at fixed i₀ i = (i ≤ length fixed) × (standsAt text at fixed 
 abbrev μ-loop : tie.MeasureT-loop
 μ-loop text at fixed i₀ i = length fixed - i
 
--- the next byte, and what is left behind it
+-- the next byte, and what is left after it
 next : (text : List ℕ) (at : ℕ) (fixed : List ℕ) (i : ℕ) → i < length fixed → standsAt text (at + i) (drop i fixed) ≡ standsAt text (at + i) (getD fixed i 0 ∷ []) && standsAt text (at + (i + 1)) (drop (i + 1) fixed)
 next text at fixed i h =
     let p : at + i + 1 ≡ at + (i + 1) = omega arith in

@@ -1,4 +1,4 @@
--- `text::hex_at` meets its contract: the digits left, behind those whose number is n. Assumes nothing.
+-- `text::hex_at` meets its contract: the digits that are left come after those whose number is n. Assumes nothing.
 use mathlib.Core.Path.{_≡_, refl, sym, ap, _∙_}
 use mathlib.Core.List.{List}
 use Prim.Native.Nat.{ℕ, _+_, _-_, _*_, _^_, _≤_, _<_}
