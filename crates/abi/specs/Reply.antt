@@ -1,4 +1,4 @@
--- What the door gives: the answer's number in the place of the answer. Assumes nothing.
+-- What the C interface gives back: the answer's number instead of the answer. Assumes nothing.
 use Prim.Native.Nat.{ℕ, zero, suc}
 use Rattle.answer.specs.Number.{numberOf}
 use Rattle.store.specs.declared.StoreState.{StoreState}
@@ -10,7 +10,7 @@ use Rattle.tables.specs.Tables.{QuadTable, SplineTable}
 use Rattle.evaluate.specs.Output.{Output}
 use Rattle.flatten.specs.Flatten.{Flattening}
 
--- of a drawing call: the counts, the open index and the columns as they are then
+-- a drawing call: the answer's number, and the counts, the open index and the columns after the call
 pub record Reply : Type 0 where
   pub answer : ℕ
   pub state : StoreState
@@ -22,7 +22,7 @@ reply answer state c = record { answer = answer; state = state; columns = c }
 unfoldable pub replyOf : Outcome → Reply
 replyOf o = reply (numberOf (o .answer)) (o .state) (o .columns)
 
--- What a flattening by the door gives: the answer's number and the counts, and all that is then held.
+-- a flattening: the answer's number and the counts, and what tables and outputs then hold
 pub record FlatReply : Type 0 where
   pub answer : ℕ
   pub splines : ℕ

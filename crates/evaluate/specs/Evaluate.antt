@@ -18,7 +18,7 @@ use Rattle.tables.specs.Tables.{QuadTable, SplineTable, splineAt}
 use Rattle.walk.specs.Walk.{Item}
 use Rattle.evaluate.specs.declared.StepQuad.{StepQuad}
 
--- a finished point: end says whether it is a flagged End
+-- a finished point; `end` says whether it is that of a flagged End
 pub record Finished : Type 0 where
   pub point : Point
   pub end : Bool

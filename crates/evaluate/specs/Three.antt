@@ -1,4 +1,4 @@
--- The three numbers of a quad in one column. Assumes nothing.
+-- The three numbers of a quad in one column. Scaffolding: only the contract of the private `three_at` names it, and no promise rests on it. Assumes nothing.
 use Prim.Native.Nat.{ℕ, _+_, _*_}
 use mathlib.Core.List.{List}
 use lib.Ieee.{Float, nan}

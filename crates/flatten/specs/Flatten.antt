@@ -1,4 +1,4 @@
--- RULES, Flattening and Answers 11: the whole flattening, from all that is lent to the result and all that is then held. Assumes nothing.
+-- RULES, Flattening and Answers 11: the whole flattening, from all that is lent to the result and what the lent columns then hold. Assumes nothing.
 use Prim.Native.Nat.{ℕ}
 use mathlib.Core.Bool.{Bool, true, false, _&&_}
 use mathlib.Core.List.{List, _++_, map}
@@ -21,7 +21,7 @@ pub use Rattle.evaluate.specs.Output.{Output, output}
 unfoldable pub use Rattle.evaluate.specs.Output.{over, fitsOutput, writeOutput}
 use Rattle.flatten.specs.declared.Flattened.{Flattened}
 
--- what the caller is left with
+-- what the caller gets: the result, and the tables and outputs after the call
 pub record Flattening : Type 0 where
   pub result : Flattened
   pub quads : QuadTable

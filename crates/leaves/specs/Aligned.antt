@@ -1,4 +1,5 @@
--- What `fma` adds after taking the patterns apart: product and addend of three finite values as whole numbers of 2 ^ -311. Assumes nothing.
+-- What `fma` adds after taking the patterns apart: product and addend of three finite values as whole numbers of 2 ^ -311. Scaffolding: only contracts of
+-- private functions in src/fused.rt name it, and no promise rests on it. Assumes nothing.
 use mathlib.Core.Path.{_≡_}
 use mathlib.Core.Logic.{_⊎_}
 use Prim.Native.Nat.{ℕ, _*_, _%_, _^_, _<_, _≤_}

@@ -1,4 +1,5 @@
--- A number below 2 ^ 144 in four limbs of 36 digits, the lowest first. Assumes nothing.
+-- A number below 2 ^ 144 in four limbs of 36 digits, the lowest first. Scaffolding for the sixth root: only contracts of private functions in src/power.rt
+-- name it, and no promise rests on it. Assumes nothing.
 use Prim.Native.Nat.{ℕ, _+_, _*_, _^_, _<_}
 
 pub record Limbs (a b c d : ℕ) : Type 0 where

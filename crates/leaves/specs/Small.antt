@@ -4,7 +4,7 @@ use Prim.Native.Nat.{zero, suc, _+_, _-_, _*_, _/_}
 use mathlib.Core.Bool.{Bool, true, false, not, _&&_, _||_, cond}
 use lib.Ieee.{Float, nan, inf, fin, binary32, up, down, round, lt, eq, isNan}
 
--- the sign of a value that is no NaN, of a zero too
+-- whether a value that is no NaN has a minus sign, a zero too
 unfoldable pub negativeOf : Float → Bool
 negativeOf nan = false
 negativeOf (inf s) = s
@@ -22,7 +22,7 @@ isZero (inf s) = false
 isZero (fin s zero e) = true
 isZero (fin s (suc m) e) = false
 
--- the sign goes, of a zero too
+-- x without its sign, a zero too
 unfoldable pub absOf : Float → Float
 absOf nan = nan
 absOf (inf s) = inf false
@@ -32,7 +32,7 @@ absOf (fin s m e) = fin false m e
 unfoldable pub lessOf : Float → Float → Bool
 lessOf x y = lt x y || (eq x y && (negativeOf x && not (negativeOf y)))
 
--- a NaN gives way to the other
+-- if one is a NaN, the result is the other
 unfoldable pub minOf : Float → Float → Float
 minOf x y = cond (isNan x || lessOf y x) y x
 

@@ -1,5 +1,5 @@
 -- RULES, Numbers 4: square root, IEEE 754's squareRoot: the value of the format nearest to the root. A finite value is a whole number of squares of the
--- format's smallest value, so the division below leaves nothing, and `rooted` goes by whole numbers alone. -0 is its own root. Assumes nothing.
+-- format's smallest value, so the division below leaves no rest, and `rooted` needs whole numbers alone. -0 is its own root. Assumes nothing.
 use mathlib.Core.Path.{_≡_}
 use Prim.Native.Nat.{ℕ, zero, suc, _+_, _*_, _/_, _^_, _≤_, _<_}
 use lib.Dec.{T}

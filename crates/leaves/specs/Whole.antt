@@ -9,6 +9,6 @@ use Rattle.leaves.specs.Single.{f32, zero32}
 abbrev pub limit32 : Float
 limit32 = f32 0x4780_0000
 
--- x is num x / den x. 65,537 tells apart an x that is not from 0 to 65,536, a NaN among them
+-- x is num x / den x; 65,537 marks an x that is not from 0 to 65,536, a NaN too
 unfoldable pub wholeUpOf : Float → ℕ
 wholeUpOf x = cond (le zero32 x && le x limit32) ((num x + den x - 1) / den x) 65537

@@ -1,4 +1,4 @@
--- RULES, The program: reading. Every line has a fixed width, so a place in the text and a line number say how far it is read. Assumes nothing.
+-- RULES, The program: reading. Every line has a fixed width, so a place in the text and its line number are all that reading keeps. Assumes nothing.
 use Prim.Native.Nat.{ℕ, zero, suc, _+_, _≤_}
 use mathlib.Core.Bool.{Bool, true, false, _&&_, cond}
 use mathlib.Core.List.{List, [], _∷_, _++_}
@@ -32,7 +32,7 @@ use Rattle.listing.specs.declared.Progress as Progresses
 use Rattle.listing.specs.declared.Progress.the-variants as Progressing
 use Rattle.listing.specs.Grammar.{opLineOf, keysOf, callOf}
 
--- a place in the text, and its line: every line before it has a byte, so neither number can grow too large
+-- a place in the text and its line number: every line before it has at least a byte, so neither number can grow too large
 pub record Placed (text : List ℕ) (at line : ℕ) : Type 0 where
   pub inside : at ≤ length text
   pub counted : line ≤ at + 1
@@ -51,7 +51,7 @@ fieldAtOf text at key = cond (fieldStandsAt text at key) (Value (fieldValueAt te
 abbrev pub fieldWidth : List ℕ → ℕ
 fieldWidth key = length key + 10
 
--- ---- the fields of a command: all of them, with the place and line behind them; or the line of the first fault
+-- ---- the fields of a command: all of them, with the place and line after them; or the line of the first fault
 pub data Fields : Type 0 where
   read : List Float → ℕ → ℕ → Fields
   wrong : ℕ → Fields
@@ -61,7 +61,7 @@ fieldsFrom text at line values [] = read values at line
 fieldsFrom text at line values (key ∷ keys) =
     cond (fieldStandsAt text at key) (fieldsFrom text (at + fieldWidth key) (line + 1) (values ++ (fieldValueAt text at key ∷ [])) keys) (wrong line)
 
--- what two fields, two points and three points are as fields, with the place and line behind them
+-- two fields, two points and three points as rows of fields, with the place and line after them
 abbrev pub pairFields : Pairs.Pair → ℕ → ℕ → Fields
 pairFields (Pair.Read u v) at line = read (u ∷ v ∷ []) at line
 pairFields (Pair.Wrong line') at line = wrong line'
@@ -74,7 +74,7 @@ abbrev pub threePointsFields : ThreePoints → ℕ → ℕ → Fields
 threePointsFields (Three.Read p1 p2 p3) at line = read (p1 .x ∷ p1 .y ∷ p2 .x ∷ p2 .y ∷ p3 .x ∷ p3 .y ∷ []) at line
 threePointsFields (Three.Wrong line') at line = wrong line'
 
--- ---- one command: its call, with the place and line behind it; a fault's line; or the end of the text
+-- ---- one command: its call, with the place and line after it; a fault's line; or the end of the text
 unfoldable pub withFields : Op → Fields → Command
 withFields op (read values at line) = Drawing (callOf op values) at line
 withFields op (wrong line) = Fault line
@@ -82,7 +82,7 @@ withFields op (wrong line) = Fault line
 unfoldable pub commandFrom : List ℕ → ℕ → ℕ → Op → Command
 commandFrom text at line op = withFields op (fieldsFrom text (at + length (opLineOf op)) (line + 1) [] (keysOf op))
 
--- the first op whose line stands here
+-- the first op whose line is found here
 unfoldable pub tryOps : List ℕ → ℕ → ℕ → List Op → Command
 tryOps text at line [] = Fault line
 tryOps text at line (op ∷ ops) = cond (standsAt text at (opLineOf op)) (commandFrom text at line op) (tryOps text at line ops)
@@ -103,7 +103,7 @@ pub data Progress : Type 0 where
   finished : Outcome → Progress
   stopped : Answer → ℕ → Progress
 
--- what the code's progress is, with what its columns hold
+-- the code's progress, with what its columns hold
 abbrev pub progressOf : Progresses.Progress → Columns → Progress
 progressOf (Progressing.Going state at line) c = going at line (outcome Done state c)
 progressOf (Progressing.Finished state) c = finished (outcome Done state c)
@@ -128,6 +128,6 @@ unfoldable pub stepsOf : ℕ → List ℕ → Progress → Progress
 stepsOf zero text p = p
 stepsOf (suc n) text p = stepsOf n text (stepOf text p)
 
--- "Lines count from 1." There are fewer commands than bytes, so one step more than bytes comes to an end.
+-- "Lines count from 1." There are no more commands than bytes, so one step more than bytes reads the whole text.
 unfoldable pub readOf : List ℕ → Outcome → Progress
 readOf text o = stepsOf (length text + 1) text (going 0 1 o)

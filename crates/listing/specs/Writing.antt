@@ -20,7 +20,7 @@ use Rattle.text.specs.Decimal.{decimalOf}
 use Rattle.listing.specs.declared.Listed.{Listed}
 use Rattle.listing.specs.declared.Listed.the-variants.{Bytes, Short}
 
--- these bytes are written from a place on, and a number is the place behind them
+-- these bytes are written from a place on, and the number that is given back is the place after them
 pub record WrittenAs (text before : List ℕ) (at : ℕ) (after : List ℕ) (behind : ℕ) : Type 0 where
   pub stored : after ≡ sets before at text
   pub next : behind ≡ at + length text

@@ -29,7 +29,7 @@ approxAtan2Of y x =
     let behind = cond (lt x zero32) (pi ⊖ steep) steep in
     cond (lt y zero32) (neg behind) behind
 
--- "Angle is missing below 2^-23, otherwise `approx_atan2`"; a NaN for a length has none either
+-- "Angle is missing below 2^-23, otherwise `approx_atan2`"; it is missing too if the length is a NaN
 unfoldable pub angleOf : Point → Angle
 angleOf d = cond (le (f32 0x3400_0000) (lenOf d)) (Known (approxAtan2Of (d .y) (d .x))) Missing
 

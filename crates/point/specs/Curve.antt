@@ -23,7 +23,7 @@ invCurvatureOf k =
     let c = f32 0x3ec7_ae14 in
     k ⊗ (one32 ⊖ c ⊕ sqrt32 (fma32 (k ⊗ k) (f32 0x3e80_0000) (c ⊗ c)))
 
--- three numbers at t, and four
+-- one coordinate at t: of a quad, from three numbers, and of a cubic, from four
 unfoldable pub quadAtOf : Float → Float → Float → Float → Float
 quadAtOf t a b c = lerpOf t (lerpOf t a b) (lerpOf t b c)
 

@@ -41,7 +41,7 @@ lineAngleOf Knife last (Known a) = Known a
 unfoldable pub sumBefore : Bool → SplineRow → Float
 sumBefore opens last = cond opens zero32 (last .curvature)
 
--- "The mark moves to the new spline. Every primitive sets the spline's end." Where no mark waits the new spline takes the flag of the one before.
+-- "The mark moves to the new spline. Every primitive sets the spline's end." If no mark waits, the new spline takes over the flag of the one before.
 unfoldable pub splineEditOf : Bool → State → SplineRow → Point → Point → Float → ℕ → Angle → SplineEdit
 splineEditOf true st last start end sum quads angle =
     record {

@@ -32,7 +32,7 @@ pub record PiecesAreSplines (f : Flattening) : Type 0 where
 abbrev pub Demand3b : Type 0
 Demand3b = (job : Job) → Accepted job → PiecesAreSplines (flatteningOf job)
 
--- 3c. "and a flag exactly if spline k is its contour's last". Each spline stands in one contour
+-- 3c. "and a flag exactly if spline k is its contour's last". Each spline is in exactly one contour
 pub record FlagsAreLast (job : Job) (k : ℕ) : Type 0 where
   pub a : ℕ
   pub b : ℕ

@@ -1,4 +1,4 @@
--- Examples of our own beside P1 to P12: the splines of a second contour are numbered on, and a gap at 0.0625 and to either side of it. Assumes nothing.
+-- Examples in addition to P1 to P12: the splines of a second contour are numbered on, and a gap at 0.0625 and to either side of it. Assumes nothing.
 use Prim.Native.Nat.{ℕ}
 use mathlib.Core.List.{List, [], _∷_}
 use lib.Ieee.{Float}

@@ -87,7 +87,7 @@ pub data Refuses (setting : Setting) (caps : Capacities) (w : World) : Primitive
   sum-over : (p0 p1 p2 : WeightedPoint) → Curved p0 p1 p2 → w .state .quads < caps .quads → (T (opensAt setting w (legOf p0 p1) p0) → w .state .splines < caps .splines)
       → T (lt limit32 (sumWith setting w p0 p1 p2 (legOf p0 p1))) → Refuses setting caps w (Quad p0 p1 p2) SumTooLarge
 
--- the primitive that stands for a cubic of over 1,024 pieces stands for nothing else: command k, of which j points are used up before
+-- `Excess` is among the primitives of command k exactly if that is a cubic of over 1,024 pieces; j points are used up before it
 abbrev pub ExcessIs : Type 0
 ExcessIs = (c : Columns) (k j : ℕ) → List·Memᴰ Excess (commandPrimitivesOf c k j) ↔ ((cubicCommand ≤ k) × (1024 < cubicPiecesOf (cubicFrom c (j - 1))))
 

@@ -1,5 +1,5 @@
--- RULES, The program: each answer and its line, if and only if what holds of the text. What a good text is, is said by printing it (listing/specs/Printing); all
--- else goes by the calls of its commands on a fresh drawing. When a call is answered so is said in DrawingAnswers, and when a flattening is, in FlattenAnswers.
+-- RULES, The program: each answer and its line, if and only if what holds of the text. A good text is one that the printer of listing/specs/Printing
+-- gives; all else goes by the calls of its commands on a fresh drawing. DrawingAnswers says when a call gives which answer, and FlattenAnswers when a flattening does.
 -- "11 is tested first, then the first fault in text order wins; a command is drawn once its last line is read. Lines count from 1." Assumes nothing.
 use Prim.Native.Nat.{ℕ, _+_, _≤_, _<_}
 use mathlib.Core.Path.{_≡_}
@@ -78,12 +78,12 @@ jobOf commands =
       output = programOutput;
     }
 
--- the final build of what is read is answered so
+-- the final build of what was read gives this answer
 pub record Builds (text : List ℕ) (a : Answer) : Type 0 where
   pub read : ReadWhole text
   pub answer : builtOf (read .good .commands) .answer ≡ a
 
--- it is answered 0, and the flattening so
+-- the build is answered 0, and the flattening gives this answer
 pub record Flattens (text : List ℕ) (a : Answer) : Type 0 where
   pub read : ReadWhole text
   pub built : builtOf (read .good .commands) .answer ≡ Done
@@ -120,7 +120,7 @@ pub record ListingAnswers (text : List ℕ) : Type 0 where
   pub points : Short text → (F : Flattens text Done) → saidOf text .points ≡ pointsIn (flatteningOf (jobOf (F .read .good .commands)))
   -- "On a refusal points is 0 and no point follows."
   pub no-points : saidOf text .answer ≢ Done → saidOf text .points ≡ []
-  -- the output is what is said
+  -- the output is the bytes of what the program says
   pub output : listingOf text ≡ reportOf (saidOf text .answer) (saidOf text .line) (saidOf text .points)
 
 abbrev pub ListingExact : Type 0
@@ -135,6 +135,6 @@ drawAll line (c ∷ cs) o =
 abbrev pub GoodReads : Type 0
 GoodReads = (commands : List TextCommand) (first : Outcome) → Proper commands → readOf (printed commands) first ≡ drawAll 1 commands first
 
--- and no other list is printed so
+-- and no other list of commands prints the same text
 abbrev pub GoodOnce : Type 0
 GoodOnce = (commands others : List TextCommand) → Proper commands → Proper others → printed commands ≡ printed others → commands ≡ others

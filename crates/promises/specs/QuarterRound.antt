@@ -1,4 +1,4 @@
--- The quarter rounds whose chord lies at forty-five degrees, on which version two lost a sign: the words and points are those of the original Rust
+-- Quarter rounds whose chord lies at forty-five degrees, the shape on which an earlier version lost a sign: the words and points are those of the original Rust
 -- (tests/rust/QUARTER-ROUND.md). Assumes nothing.
 use Prim.Native.Nat.{ℕ}
 use mathlib.Core.List.{List, [], _∷_}

@@ -73,7 +73,7 @@ DeliveredSettled = Settles (λ (o : Bool × ℕ × Output). delivery (o .0) (o .
 abbrev pub FlattenSettled : Type 0
 FlattenSettled = Settles (λ (f : Flattened × QuadTable × SplineTable × Output). flattening (f .0) (f .1) (f .2) (f .3))
 
--- ---- by the door for C: the answer's number, then each count beside it
+-- ---- the C interface: the answer's number, then each count beside it
 abbrev pub ReplySettled : Type 0
 ReplySettled = Settles (λ (o : ℕ × ℕ × ℕ × ℕ × Columns). reply (o .0) (stateAt (o .1) (o .2) (o .3)) (o .4))
 
@@ -84,7 +84,7 @@ FlatReplySettled = Settles (λ (f : ℕ × ℕ × ℕ × ℕ × QuadTable × Spl
 abbrev pub ListingSettled : Type 0
 ListingSettled = Settles (λ (l : Listed × List ℕ). listed (l .0) (l .1))
 
--- a text that does not fit is not written; one that does is written, and the output behind it is as it was
+-- a text that does not fit is not written; one that does is written, and the output after it is as it was
 pub record Lists (text given : List ℕ) (r : Listed) (left : List ℕ) : Type 0 where
   pub short : length given < length text → (r ≡ Short) × (left ≡ given)
   pub fits : length text ≤ length given → (r ≡ Bytes (length text)) × (left ≡ text ++ drop (length text) given)

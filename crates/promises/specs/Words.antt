@@ -1,4 +1,4 @@
--- What packed words tell, from the word list and nothing else: its commands, and its pieces, cut after each End. Assumes nothing.
+-- What can be read from a list of packed words and nothing else: its commands, and its pieces, cut after each End. Assumes nothing.
 use Prim.Native.Nat.{ℕ}
 use mathlib.Core.Bool.{Bool, true, false, _||_}
 use mathlib.Core.List.{List, [], _∷_, map}
@@ -16,7 +16,7 @@ isEnd (Start i) = false
 isEnd (Incr size) = false
 isEnd (End i flag) = true
 
--- a list cut after each entry that the test names; what stands after the last one is a piece too
+-- a list cut after each entry that passes the test; what comes after the last cut is a piece too
 abbrev pub behind {ℓ} : {A : Type ℓ} → Bool → A → List (List A) → List (List A)
 behind true a pieces = (a ∷ []) ∷ pieces
 behind false a [] = (a ∷ []) ∷ []

@@ -22,7 +22,7 @@ signedNum (fin s m e) = signed s (m * up e)
 abbrev pub farFrom : Float → ℤ → ℕ → ℕ
 farFrom x E D = natAbs (signedNum x *ℤ pos D -ℤ E *ℤ pos (den x))
 
--- r is a finite value of the format f such that no other lies nearer to E / D; and where another lies as near, r's significand is even, and so its pattern
+-- r is a finite value of the format f such that no other is nearer to E / D; and if another is as near, r's significand is even, and so its pattern
 pub record NearestTo (f : Format) (E : ℤ) (D : ℕ) (r : Float) : Type 0 where
   pub held : T (fits f r)
   pub whole : T (finite r)

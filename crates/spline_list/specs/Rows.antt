@@ -1,5 +1,4 @@
--- RULES, The tables 8: the rows of the columns as records, and whole lists
--- that go from the columns and back. Assumes nothing.
+-- RULES, The tables 8: the rows of the columns as records, and whole lists copied from the columns and back. Assumes nothing.
 use Prim.Native.Nat.{ℕ, zero, suc}
 use mathlib.Core.Bool.{Bool, false, cond, _&&_}
 use mathlib.Core.List.{List}
@@ -34,7 +33,7 @@ putRowOf t i v =
     splineTable (set (t .curvature) i (v .curvature)) (set (t .p0x) i (v .p0 .x)) (set (t .p0y) i (v .p0 .y)) (set (t .p2x) i (v .p2 .x))
     (set (t .p2y) i (v .p2 .y)) (set (t .contour) i (flagByteOf (v .contour)))
 
--- the record at i, or a case of its own past the list
+-- the record at i, or the case `Past` if i is past the list
 abbrev pub splineAtOf : List Spline → ℕ → Found
 splineAtOf ys i = cond (ltb i (length ys)) (At (getD ys i blank)) Past
 
@@ -51,11 +50,11 @@ equalOf ys t n =
 abbrev pub outcomeOf : Bool → Copied
 outcomeOf agreed = cond agreed All Unequal
 
--- how many rows go: all, or none
+-- how many rows are copied: all, or none
 abbrev pub countOf : Bool → ℕ → ℕ
 countOf agreed n = cond agreed n 0
 
--- g 0, g 1, .. are stored to the first n places of a list; the laws of it stand in proofs/Laws.antt
+-- g 0, g 1, .. are stored to the first n places of a list; its laws are in proofs/Laws.antt
 abbrev pub stores : {X : Type 0} → (ℕ → X) → ℕ → List X → List X
 stores g zero xs = xs
 stores g (suc i) xs = set (stores g i xs) i (g i)

@@ -59,7 +59,7 @@ weightsOf (RatQuad p1 p2 w) = w ∷ []
 weightsOf (RatCubic p1 p2 p3 w1 w2) = w1 ∷ w2 ∷ []
 weightsOf Build = []
 
--- ---- what a call writes: points from an index on, and commands behind the last; then the open index
+-- ---- what a call writes: points from an index on, and commands after the last one; then the open index
 pub record Writes : Type 0 where
   pub at : ℕ
   pub points : List WeightedPoint
@@ -69,7 +69,7 @@ pub record Writes : Type 0 where
 abbrev pub writes : ℕ → List WeightedPoint → List ℕ → ℕ → Writes
 writes at points commands opening = record { at = at; points = points; commands = commands; opening = opening }
 
--- behind the last point and the last command
+-- after the last point and the last command
 unfoldable pub appended : StoreState → List WeightedPoint → ℕ → Writes
 appended st points command = writes (st .points) points (command ∷ []) (st .opening)
 

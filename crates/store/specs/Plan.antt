@@ -1,4 +1,5 @@
--- A call that was decided on before anything is written: its points and commands as the code's values hold them, and what is asked of the columns. Assumes nothing.
+-- A call that is decided before anything is written: its points and commands as the code's values hold them, and what is required of the columns. Scaffolding: only
+-- contracts of the store's private functions name it, and no promise rests on it. Assumes nothing.
 use Prim.Native.Nat.{ℕ, _+_, _≤_, _<_}
 use mathlib.Core.Path.{_≡_}
 use mathlib.Core.List.{List, [], _∷_}
@@ -43,12 +44,12 @@ pub record Standing (st : StoreState) (c : Columns) : Type 0 where
   pub room : Room (st .points) c
   pub opening : st .opening < st .points
 
--- what is to be written has room
+-- there is room for what will be written
 pub record Fitting (w : Writes) (st : StoreState) (c : Columns) : Type 0 where
   pub points : Room (w .at + length (w .points)) c
   pub commands : st .commands + length (w .commands) ≤ length (c .commands)
 
--- what a decision comes to, once it is carried out
+-- the outcome of a decision, once it is carried out
 abbrev pub carriedOut : Decision → StoreState → Columns → Outcome
 carriedOut (Refuse answer) st c = outcome answer st c
 carriedOut (Store plan) st c = outcome Done (stateAfter (writesBy plan) st) (written (writesBy plan) st c)

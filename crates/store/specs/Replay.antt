@@ -1,4 +1,4 @@
--- RULES, The store 12: a list of drawing calls on a store. A refused call changes nothing, and the next one is made all the same. Assumes nothing.
+-- RULES, The store 12: a list of drawing calls on a store. A refused call changes nothing, and the next one is still made. Assumes nothing.
 use mathlib.Core.List.{List, [], _∷_}
 use Rattle.store.specs.declared.StoreState.{StoreState}
 use Rattle.store.specs.declared.Call.{Call}

@@ -16,7 +16,7 @@ use Rattle.tables.specs.Run.{World, world, runOf, startState}
 unfoldable pub cubicFrom : Columns → ℕ → Cubic
 cubicFrom c i = record { p0 = storedPointOf c i; p1 = storedPointOf c (i + 1); p2 = storedPointOf c (i + 2); p3 = storedPointOf c (i + 3) }
 
--- of the command k, where j points are used up before it: it starts from the last of them
+-- the primitives of command k, before which j points are used up: it starts from the last of them
 unfoldable pub commandPrimitivesOf : Columns → ℕ → ℕ → List Primitive
 commandPrimitivesOf c zero j = Contour ∷ []
 commandPrimitivesOf c (suc zero) j = Line (storedPointOf c (j - 1)) (storedPointOf c j) ∷ []

@@ -101,7 +101,7 @@ putQuad q i row =
       partial-splines = set (q .partial-splines) i (row .spline);
     }
 
--- the flag of the spline before k goes, where it is cleared
+-- the flag of the spline before k, cleared if the edit clears it
 unfoldable pub clearFlag : Bool → List ℕ → ℕ → List ℕ
 clearFlag true contour k = set contour (k - 1) (flagByteOf false)
 clearFlag false contour k = contour
@@ -128,7 +128,7 @@ splineAt s k =
       contour = isFlagOf (getD (s .contour) k 0);
     }
 
--- what stands for the last spline where there is none yet; a mark waits there, so it decides nothing
+-- the spline that is given as the last one if there is none yet; a mark waits then, so it decides nothing
 abbrev pub noSpline : SplineRow
 noSpline = record { curvature = zero32; p0 = pointAt zero32 zero32; p2 = pointAt zero32 zero32; contour = false }
 

@@ -22,6 +22,6 @@ sameBytes (a ∷ rest) (b ∷ bs) = eqb a b && sameBytes rest bs
 unfoldable pub partAt : List ℕ → ℕ → ℕ → List ℕ
 partAt text at n = take n (drop at text)
 
--- the fixed string stands at this place
+-- the text has the fixed string at this place
 unfoldable pub standsAt : List ℕ → ℕ → List ℕ → Bool
 standsAt text at fixed = sameBytes (partAt text at (length fixed)) fixed

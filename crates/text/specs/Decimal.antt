@@ -4,7 +4,7 @@ use mathlib.Core.Bool.{Bool, true, false}
 use mathlib.Core.List.{List, [], _∷_, _++_}
 use lib.Dec.{ltb}
 
--- the digits of n that has at most k more than one; the Bool says whether it has one
+-- the digits of an n that has at most k + 1 of them; the Bool is `n < 10`, so that there is one digit
 unfoldable pub decimalIn : ℕ → Bool → ℕ → List ℕ
 decimalIn zero one n = (0x30 + n % 10) ∷ []
 decimalIn (suc k) true n = (0x30 + n % 10) ∷ []

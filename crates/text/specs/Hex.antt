@@ -20,12 +20,12 @@ unfoldable pub allHex : List ℕ → Bool
 allHex [] = true
 allHex (b ∷ bs) = ltb (hexValueOf b) 16 && allHex bs
 
--- the number that the digits stand for, after those whose number is n
+-- the number that n becomes when these digits are written after its own
 unfoldable pub hexNumber : ℕ → List ℕ → ℕ
 hexNumber n [] = n
 hexNumber n (b ∷ bs) = hexNumber (16 * n + hexValueOf b) bs
 
--- eight digits stand at a place; their number
+-- the text has eight digits at a place; their number
 unfoldable pub hexStandsAt : List ℕ → ℕ → Bool
 hexStandsAt text at = eqb (length (partAt text at 8)) 8 && allHex (partAt text at 8)
 

@@ -16,7 +16,7 @@ use Rattle.primitives.specs.declared.SplineRow.{SplineRow}
 use Rattle.primitives.specs.Splines.{maxError}
 use Rattle.tables.specs.Tables.{QuadTable, SplineTable, splineAt}
 
--- a Start and an End are no step, and stand with step and quad 0, as in `populate_buffers`
+-- a Start and an End are no step; their items have step and quad 0, as in `populate_buffers`
 pub record Item : Type 0 where
   pub command : PointCommand
   pub step : ℕ
