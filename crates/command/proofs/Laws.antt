@@ -1,4 +1,5 @@
--- Laws of the packed words: unpacking gives back what was packed, packing gives back every word but 7FC00000 to 7FFFFFFF, and only a NaN step has the word 7FC00000. Assumes nothing.
+-- Laws of the packed words: unpacking gives back what was packed, packing gives back every word but 7FC00000 to 7FFFFFFF, and only a NaN step has the word
+-- 7FC00000. Assumes nothing.
 use Prim.Native.Nat.{ℕ, _+_, _/_, _%_, _^_, _<_, _≤_}
 use mathlib.Core.Path.{_≡_, refl, sym, _∙_, ap, subst}
 use mathlib.Core.Logic.{_⊎_, inl, inr}

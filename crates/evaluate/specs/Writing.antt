@@ -1,5 +1,5 @@
--- `deliverOf`, at the end, is what the public `deliver` gives: the walk is written if it fits. All before `Delivery` is scaffolding: the same walk written entry by
--- entry, for the contracts of private functions in src/writing.rt; no promise rests on it. Assumes nothing.
+-- `deliverOf`, at the end, is what the public `deliver` gives: the walk is written if it fits. All before `Delivery` is scaffolding: the same walk written
+-- entry by entry, for the contracts of private functions in src/writing.rt; no promise rests on it. Assumes nothing.
 use Prim.Native.Nat.{ℕ, zero, suc, _+_, _-_}
 use mathlib.Core.Bool.{Bool, true, false, cond}
 use lib.Dec.{eqb}

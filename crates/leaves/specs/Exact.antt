@@ -1,4 +1,5 @@
--- RULES, Numbers 3: the exact x * y + z of three finite values, as the fraction exactNum / exactDen. `FmaLaws` says by it what `fma` must give. Assumes nothing.
+-- RULES, Numbers 3: the exact x * y + z of three finite values, as the fraction exactNum / exactDen. `FmaLaws` says by it what `fma` must give. Assumes
+-- nothing.
 use Prim.Native.Nat.{ℕ, _*_}
 use lib.IntN.{ℤ, pos, _+ℤ_, _*ℤ_}
 use lib.Ieee.{Float}

@@ -1,6 +1,6 @@
 -- RULES, Numbers 11: "r the largest f32 whose exact sixth power is at most q". A finite q is a whole number of sixth powers of the smallest value, 2 ^ -149, so
--- the division below leaves no rest. Its whole sixth root, cut to the 24 digits that an f32 keeps, counts the smallest values of r. `Largest` says what the rule
--- says. The root of a NaN or a negative q is NaN, that of +infinity is +infinity. Assumes nothing.
+-- the division below leaves no rest. Its whole sixth root, cut to the 24 digits that an f32 keeps, counts the smallest values of r. `Largest` says what the
+-- rule says. The root of a NaN or a negative q is NaN, that of +infinity is +infinity. Assumes nothing.
 use Prim.Native.Nat.{zero, suc, _*_, _/_, _^_}
 use mathlib.Core.Bool.{true, false}
 use lib.IntN.{pos}

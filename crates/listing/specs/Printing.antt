@@ -1,5 +1,5 @@
--- RULES, The program 8: a good listing is one that the printer below can print. A command is its op and its numbers as 32-bit patterns, in the order of the op's keys; patterns and not
--- floats, since the bits of every NaN are good text and all NaNs are one float. Assumes nothing.
+-- RULES, The program 8: a good listing is one that the printer below can print. A command is its op and its numbers as 32-bit patterns, in the order of the
+-- op's keys; patterns and not floats, since the bits of every NaN are good text and all NaNs are one float. Assumes nothing.
 use Prim.Native.Nat.{ℕ, _^_, _<_}
 use mathlib.Core.Path.{_≡_}
 use mathlib.Core.List.{List, [], _∷_, _++_, map}

@@ -1,4 +1,5 @@
--- RULES, The store 4, The store 5 and Angles 1: a point and a weighted point by value, their difference, their length, and how a weight is applied. Assumes nothing.
+-- RULES, The store 4, The store 5 and Angles 1: a point and a weighted point by value, their difference, their length, and how a weight is applied. Assumes
+-- nothing.
 use mathlib.Core.Bool.{Bool, _&&_}
 use lib.Ieee.{Float, eq}
 use Rattle.leaves.specs.Single.{_⊕_, _⊖_, _⊗_, one32, recip}

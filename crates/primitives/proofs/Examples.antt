@@ -1,5 +1,5 @@
--- Examples that a tempting mistake would fail, by computation: the cubic's error, the numbers of splines, the distance of 0.0625, the two settings, and what a refused
--- quad leaves. Assumes nothing.
+-- Examples that a tempting mistake would fail, by computation: the cubic's error, the numbers of splines, the distance of 0.0625, the two settings, and what a
+-- refused quad leaves. Assumes nothing.
 use mathlib.Core.Path.{_≡_, refl}
 use mathlib.Core.Bool.{Bool, true, false}
 use Prim.Native.Nat.{ℕ}

@@ -1,6 +1,6 @@
--- Demand 3c. The number of splines never falls from command to command, so the Moves divide the splines: each is in one contour, found from the first Move on. A spline
--- is flagged exactly if, at a Move or at the end, it is the last spline so far (laws of the tables); then it is the last of its contour.
--- Assumes nothing.
+-- Demand 3c. The number of splines never falls from command to command, so the Moves divide the splines: each is in one contour, found from the first Move on.
+-- A spline is flagged exactly if, at a Move or at the end, it is the last spline so far (laws of the tables); then it is the last of its contour. Assumes
+-- nothing.
 use mathlib.Core.Path.{_≡_, refl, sym, ap, ap₂, _∙_, subst}
 use mathlib.Core.Logic.{_⊎_, inl, inr, _≢_, _↔_}
 use mathlib.Core.Bool.{Bool, true, false, _&&_, _||_, cond, true≢false}

@@ -1,6 +1,6 @@
 -- Laws of the quad cursor over sound tables, within one spline whose quads are those from lo to l. It never passes l, since no step p reaches the spline's sum. Started at
--- lo it is, at each step p, on the one quad that p falls on: the first whose sum is p or more. Going on by one is enough, since each sum reaches the next whole number
--- above the one before. Assumes nothing.
+-- lo it is, at each step p, on the one quad that p falls on: the first whose sum is p or more. Going on by one is enough, since each sum reaches the next whole
+-- number above the one before. Assumes nothing.
 use mathlib.Core.Path.{_≡_, refl, sym, ap, ap₂, _∙_, subst, subst₂}
 use mathlib.Core.Logic.{_⊎_, inl, inr}
 use mathlib.Core.Bool.{Bool, true, false, not, cond}

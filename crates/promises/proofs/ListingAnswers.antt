@@ -1,5 +1,5 @@
--- The program's answers are exact, with their lines. A cause fixes how the reading ends, and so what is said (`given-so`). Conversely, every way the reading ends
--- has a cause (`cause`); which cause it is follows from the answers that a call, the build and a flattening can give (`told`). Assumes nothing.
+-- The program's answers are exact, with their lines. A cause fixes how the reading ends, and so what is said (`given-so`). Conversely, every way the reading
+-- ends has a cause (`cause`); which cause it is follows from the answers that a call, the build and a flattening can give (`told`). Assumes nothing.
 use Prim.Native.Nat.{ℕ, _+_, _≤_, _<_}
 use mathlib.Core.Path.{_≡_, refl, sym, ap, ap₂, _∙_, subst, subst₂}
 use mathlib.Core.Logic.{_⊎_, inl, inr, _≢_}

@@ -1,5 +1,5 @@
--- A test tells a fault if it fails exactly when the fault is there. Laws for numbers, floats, lists and tests joined by "and"; and a ladder of tests, of which the
--- first that fails gives the answer. Assumes nothing.
+-- A test tells a fault if it fails exactly when the fault is there. Laws for numbers, floats, lists and tests joined by "and"; and a ladder of tests, of which
+-- the first that fails gives the answer. Assumes nothing.
 use Prim.Native.Nat.{ℕ, zero, suc, _+_, _*_, _≤_, _<_}
 use mathlib.Core.Path.{_≡_, refl, sym, ap, ap₂, _∙_, subst}
 use mathlib.Core.Logic.{_⊎_, inl, inr, _≢_, _↔_}

@@ -1,5 +1,5 @@
--- An accepted drawing is one whose flattening answers 0, in either setting, with any tables and buffers lent. Then its words, walk and tables; and its contours,
--- which are defined by the Moves of the command list, not by flags. Assumes nothing.
+-- An accepted drawing is one whose flattening answers 0, in either setting, with any tables and buffers lent. Then its words, walk and tables; and its
+-- contours, which are defined by the Moves of the command list, not by flags. Assumes nothing.
 use Prim.Native.Nat.{ℕ, suc, _-_, _≤_, _<_}
 use mathlib.Core.Path.{_≡_}
 use mathlib.Core.Logic.{_⊎_, _≢_}

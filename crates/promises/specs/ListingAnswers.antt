@@ -1,6 +1,7 @@
 -- RULES, The program: each answer and its line, if and only if what holds of the text. A good text is one that the printer of listing/specs/Printing
--- gives; all else goes by the calls of its commands on a fresh drawing. DrawingAnswers says when a call gives which answer, and FlattenAnswers when a flattening does.
--- "11 is tested first, then the first fault in text order wins; a command is drawn once its last line is read. Lines count from 1." Assumes nothing.
+-- gives; all else goes by the calls of its commands on a fresh drawing. DrawingAnswers says when a call gives which answer, and FlattenAnswers when a
+-- flattening does. "11 is tested first, then the first fault in text order wins; a command is drawn once its last line is read. Lines count from 1." Assumes
+-- nothing.
 use Prim.Native.Nat.{ℕ, _+_, _≤_, _<_}
 use mathlib.Core.Path.{_≡_}
 use mathlib.Core.Logic.{_⊎_, _≢_, _↔_}

@@ -1,5 +1,5 @@
--- A call that is decided before anything is written: its points and commands as the code's values hold them, and what is required of the columns. Scaffolding: only
--- contracts of the store's private functions name it, and no promise rests on it. Assumes nothing.
+-- A call that is decided before anything is written: its points and commands as the code's values hold them, and what is required of the columns. Scaffolding:
+-- only contracts of the store's private functions name it, and no promise rests on it. Assumes nothing.
 use Prim.Native.Nat.{ℕ, _+_, _≤_, _<_}
 use mathlib.Core.Path.{_≡_}
 use mathlib.Core.List.{List, [], _∷_}

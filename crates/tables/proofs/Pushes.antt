@@ -1,5 +1,5 @@
--- What one primitive does to the tables, in the few forms that laws about a run distinguish: nothing but the state changes, or a spline is opened or joined, with or without
--- a quad whose own curvature is above 1. Assumes nothing.
+-- What one primitive does to the tables, in the few forms that laws about a run distinguish: nothing but the state changes, or a spline is opened or joined,
+-- with or without a quad whose own curvature is above 1. Assumes nothing.
 use mathlib.Core.Path.{_≡_, refl, sym, ap, _∙_, subst}
 use mathlib.Core.Logic.{_⊎_, inl, inr, _≢_}
 use mathlib.Core.Bool.{Bool, true, false, not, _&&_, _||_, cond, true≢false}

@@ -1,7 +1,8 @@
 -- What holds of the tables at every moment of a run, in both settings, whatever the tables held before: the quads up to the count belong to the splines up to the count,
 -- spline by spline and in order, each spline as `Span` says.
--- The plan: `cut j` is the number of quads before spline j. A push keeps every spline but the last one, which is opened or joined; `put` says so once, for a spline t that
--- is either the next one, just opened, or the last. `sound-push` is that for each form of a push, and `sound-run` goes through a list. Assumes nothing.
+-- The plan: `cut j` is the number of quads before spline j. A push keeps every spline but the last one, which is opened or joined; `put` says so once, for a
+-- spline t that is either the next one, just opened, or the last. `sound-push` is that for each form of a push, and `sound-run` goes through a list. Assumes
+-- nothing.
 use mathlib.Core.Path.{_≡_, refl, sym, ap, ap₂, _∙_, subst, subst₂}
 use mathlib.Core.Logic.{_⊎_, inl, inr, _≢_}
 use mathlib.Core.List.{List, [], _∷_}

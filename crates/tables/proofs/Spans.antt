@@ -1,5 +1,5 @@
--- The quads of one spline: they are consecutive and in order, each running sum is above 1 and at most 65,536 and reaches the next whole number above the one before, and
--- the spline's sum is its last quad's. Laws for an empty one, for tables that agree, and for one more quad. Assumes nothing.
+-- The quads of one spline: they are consecutive and in order, each running sum is above 1 and at most 65,536 and reaches the next whole number above the one
+-- before, and the spline's sum is its last quad's. Laws for an empty one, for tables that agree, and for one more quad. Assumes nothing.
 use mathlib.Core.Path.{_≡_, refl, sym, ap, _∙_, subst, subst₂}
 use mathlib.Core.Logic.{_⊎_, inl, inr}
 use Prim.Native.Nat.{ℕ, zero, suc, _+_, _-_, _*_, _≤_, _<_, zero-le}

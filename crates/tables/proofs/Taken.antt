@@ -1,5 +1,5 @@
--- The loop over the commands of a store. Its invariant: running what is left gives what running the whole gives. There is no point past every column, so the number of
--- points used up may stop there. Assumes nothing.
+-- The loop over the commands of a store. Its invariant: running what is left gives what running the whole gives. There is no point past every column, so the
+-- number of points used up may stop there. Assumes nothing.
 use mathlib.Core.Path.{_≡_, refl, sym, ap, _∙_}
 use mathlib.Core.Bool.{Bool, true, false, _&&_, cond}
 use mathlib.Core.List.{List, [], _∷_, _++_}

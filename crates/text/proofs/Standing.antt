@@ -1,4 +1,5 @@
--- Laws of `standsAt`: the text has a fixed string at a place if it has its first byte there and the rest after it; the string then lies inside the text. Assumes nothing.
+-- Laws of `standsAt`: the text has a fixed string at a place if it has its first byte there and the rest after it; the string then lies inside the text.
+-- Assumes nothing.
 use mathlib.Core.Path.{_≡_, refl, sym, ap, _∙_}
 use mathlib.Core.Bool.{Bool, true, false, _&&_, and-true, and-assoc}
 use mathlib.Core.List.{List, [], _∷_, _++_}

@@ -1,4 +1,5 @@
--- `primitives::quads::straight` meets its contract: a float that is not finite is not below infinity, except minus infinity, which is at most 1.0. Assumes nothing.
+-- `primitives::quads::straight` meets its contract: a float that is not finite is not below infinity, except minus infinity, which is at most 1.0. Assumes
+-- nothing.
 use mathlib.Core.Path.{_≡_, refl, ap, _∙_}
 use mathlib.Core.Bool.{true, false, not, _||_}
 use lib.Ieee.{Float, nan, inf, fin, binary32, lt, le, ofBits, nanBits}
