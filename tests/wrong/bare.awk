@@ -1,6 +1,6 @@
 # Prints a function's proof less what it says of the result, for the function without an `ensures`. What it answers for safety and for ending stays.
-# The needs `returns`, which then say nothing, are left to the prover's search. In a walk by hand `says`, which shows the contract's fact at the end,
-# gives way to `quiet`.
+# The needs `returns`, which then say nothing, are left to the prover's search. In a proof by hand `says`, which shows the contract's fact at the end,
+# is replaced by `quiet`.
 
 BEGIN { print "use borrow.Author.Needs.{needs}" }
 /^use borrow.Author.Needs/ { next }

@@ -1,5 +1,5 @@
 # Reads the list of a crate's wrong answers (README.md has the format) and, by the variable mode,
-#   test   says what is wrong with the list: a text that its function has not, or more than once, or a line that is missing
+#   test   says what is wrong with the list: a text that its function does not have, or has more than once, or a line that is missing
 #   apply  puts the wrong answers `which` (first or second) into the crate's copy at `dir`, and prints each changed function as the prover names it
 #   bare   the same, and takes the `ensures` of each changed function away; with the variable `only`, in those functions alone (as the prover names them)
 #   names  prints the functions listed
@@ -29,7 +29,7 @@ function keep(key, line) {
 /^new: / { keep("new", substr($0, 6)); next }
 { fault(count, "a line that says nothing: " $0) }
 
-# Where the head of entry n stands among the lines of its file, and where its body begins and ends: between { and } at the function's own indentation.
+# Where the head of entry n is among the lines of its file, and where its body begins and ends: between { and } at the function's own indentation.
 function find_body(n,    own, type, in_type, indent, i, found) {
     own = name[n]
     type = ""
@@ -74,7 +74,7 @@ function edit(n, p, path,    i, s, body, at, old, rest) {
     for (i = begins + 1; i < ends; i++) { s = line[i]; sub(/^ +/, "", s); body = body s "\n" }
     at = index(body, old)
     rest = substr(body, at + length(old))
-    if (old == "" || !at || index(rest, old)) { fault(n, "the old text of '" p "' does not stand in it exactly once"); return 0 }
+    if (old == "" || !at || index(rest, old)) { fault(n, "the old text of '" p "' does not occur in it exactly once"); return 0 }
     edited = ""
     for (i = 1; i <= begins; i++) if (!(mode == "bare" && i >= heads && line[i] ~ /^ *ensures /)) edited = edited line[i] "\n"
     body = "\n" substr(body, 1, at - 1) text[n, p, "new"] substr(rest, 1, length(rest) - 1)

@@ -1,5 +1,5 @@
 # Prints the public functions of a crate, in the order of its sources: each `pub fn` of src/lib.rt or passed on there, each method of a public type, and each function for C.
-# The first file is src/lib.rt, read twice: its types and what it passes on come first.
+# The first file is src/lib.rt, which is read twice: first for its types and for what it passes on.
 
 FNR == 1 { files++; own = "" }
 files == 1 && /^pub use / { sub(/;$/, "", $3); sub(/.*::/, "", $3); passed[$3] = 1 }
