@@ -1,4 +1,4 @@
-/* Times each leaf against the processor's own instruction, both behind a call, in one run: processor time on random values, the best of many rounds.
+/* Times each leaf against the processor's own instruction, both by a call, in one run: processor time on random values, the best of many rounds.
    bench/leaves.sh builds and runs this. */
 #include <math.h>
 #include <stdint.h>

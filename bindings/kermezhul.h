@@ -2,8 +2,8 @@
  *
  * Link with target/staticlib/libabi.a, which `bindings/build` proves and writes.
  *
- * The caller lends all memory. Each column is a pointer and its length in entries. No pointer may be null, also where the length is 0, and no two columns
- * that are lent to one call may overlap. Apart from that every call is defined on all values: it returns 0, or the number of a refusal.
+ * The caller lends all memory. Each column is a pointer and its length in entries. No pointer may be null, not even if the length is 0, and no two columns or
+ * counts that are lent to one call may overlap. Apart from that every call is defined on all values: it returns 0, or the number of a refusal.
  *
  *   0 done                                            5 a cubic needs over 1,024 pieces
  *   1 a coordinate is NaN or beyond +-65,536          6 the quad table is full
@@ -22,13 +22,13 @@ extern "C" {
 #endif
 
 /* A drawing: columns x, y, weight of one length, and the commands (0 Move, 1 Line, 2 Quad, 3 Cubic) with a length of their own. `points` and `used` say how
- * many of each are in use, `opening` which point opened the contour. A call reads and changes them; a refused call changes nothing, save that a refused
- * `kermezhul_fresh` leaves the three 0. */
+ * many of each are in use, `opening` which point opened the contour. A call reads and changes them; a refused call changes nothing, except that a refused
+ * `kermezhul_fresh` sets the three to 0. */
 #define KERMEZHUL_DRAWING                                                                                                                                \
     float *x, size_t x_len, float *y, size_t y_len, float *weight, size_t weight_len, uint8_t *commands, size_t commands_len, size_t *points, size_t *used, \
         size_t *opening
 
-/* A fresh drawing: a Move at (0,0). The three counts are written and not read: where it is refused they are 0, and the columns stay as they were. Answers 0,
+/* A fresh drawing: a Move at (0,0). The three counts are written and not read: if it is refused they are 0, and the columns stay as they were. Answers 0,
  * 3 (columns of unequal length) or 4 (no room). */
 uint32_t kermezhul_fresh(KERMEZHUL_DRAWING);
 
@@ -40,15 +40,15 @@ uint32_t kermezhul_cubic_to(KERMEZHUL_DRAWING, float x1, float y1, float x2, flo
 /* w, w1 and w2 are the weights of the control points. */
 uint32_t kermezhul_rat_quad_to(KERMEZHUL_DRAWING, float x1, float y1, float x2, float y2, float w);
 uint32_t kermezhul_rat_cubic_to(KERMEZHUL_DRAWING, float x1, float y1, float x2, float y2, float x3, float y3, float w1, float w2);
-/* Closes the contour with a line where it is open. */
+/* Closes the contour with a line if it is open. */
 uint32_t kermezhul_build(KERMEZHUL_DRAWING);
 
-/* Flattens the drawing as it stands, closed or not. setting: 0 for the screen, any other number for the knife. Of the drawing nothing is changed.
+/* Flattens the drawing as it is, closed or not. setting: 0 for the screen, any other number for the knife. Nothing of the drawing is changed.
  *
  * The work tables: quad_x, quad_y and quad_weight take three numbers for each quad, the other columns of the quad table one; the spline table has six
  * columns. A table's capacity is its shortest column. words, out_x, out_y and out_end take one entry for each point; out_end is 1 at a contour's last point.
  *
- * On 0 `splines`, `quads` and `length` say how much is held, and the first `length` words and outputs are written. On 3 nothing is written and all three are
+ * On 0 `splines` and `quads` say how much the tables hold, and the first `length` words and outputs are written. On 3 nothing is written and all three are
  * 0. On 5 to 9 no word and no output is written, `length` is 0, and the tables hold what `splines` and `quads` say. Entries past the counts never change. */
 uint32_t kermezhul_flatten(
     uint32_t setting, size_t points, size_t used, size_t opening,
@@ -62,7 +62,7 @@ uint32_t kermezhul_flatten(
     uint32_t *words, size_t words_len, float *out_x, size_t out_x_len, float *out_y, size_t out_y_len, uint8_t *out_end, size_t out_end_len,
     size_t *splines, size_t *quads, size_t *length);
 
-/* The float leaves, for tests: each is correctly rounded, or as named in the documents. All NaNs count as one. */
+/* The float leaves, for tests and measuring; docs/RULES.md, Numbers, says what each gives. All NaNs count as one. */
 float kermezhul_fma(float a, float b, float c);
 float kermezhul_sqrt(float a);
 /* The largest float whose exact sixth power is at most q. */

@@ -23,7 +23,7 @@ KEYS = {
 }
 
 DRAWINGS = {
-    # the program's example: a point given twice leaves no mark, and the corner behind it is lost in the screen setting
+    # the program's example: a point is given twice, and so the corner at it is lost in the screen setting
     "doubled-point": [("move", 0, 0), ("line", 10, 0), ("line", 10, 0), ("line", 10, 10)],
     # a quarter round from the origin, closed by its chord, which lies at forty-five degrees
     "quarter-round": [("move", 0, 0), ("rquad", 100, 0, 100, 100, HALF)],

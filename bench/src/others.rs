@@ -1,5 +1,5 @@
-//! kurbo and lyon_geom on the same curves, at the accuracy of the original, a sixteenth of a pixel. They round otherwise and number no words, so only their
-//! times and counts of points stand beside ours.
+//! kurbo and lyon_geom on the same curves, at the accuracy of the original, a sixteenth of a pixel. They round differently and write no words, so only their
+//! times and counts of points are printed beside ours.
 
 use super::{black_box, median, seconds, PAIRS};
 use against_rust::call::Call;

@@ -1,7 +1,7 @@
 //! Safe calls into Kermezhul's proved flattener, which turns outlines of lines, quads and cubics into the points that a knife follows.
 //!
 //! The functions here are as thin as those of the C header beside them: the caller lends all memory as slices, and gets 0 or the number of a refusal.
-//! No argument is wrong; what it gives is what the library answers.
+//! Every argument is allowed: a call either does its work or refuses.
 //!
 //! ```no_run
 //! use kermezhul::{Call, Columns, State};
@@ -16,7 +16,7 @@
 //!
 //! `examples/draw.rs` flattens such a drawing.
 
-/// What stands beside a drawing's columns: how many points and commands are in use, and which point opened the contour.
+/// The state beside a drawing's columns: how many points and commands are in use, and which point opened the contour.
 #[derive(Clone, Copy, Debug, Default, PartialEq, Eq)]
 pub struct State {
     pub points: usize,
@@ -24,7 +24,7 @@ pub struct State {
     pub opening: usize,
 }
 
-/// The columns of a drawing. x, y and weight are as long as each other, or the calls answer 3.
+/// The columns of a drawing. x, y and weight must be equally long, or the calls answer 3.
 pub struct Columns<'a> {
     pub x: &'a mut [f32],
     pub y: &'a mut [f32],
@@ -32,7 +32,7 @@ pub struct Columns<'a> {
     pub commands: &'a mut [u8],
 }
 
-/// A drawing call. Coordinates come in pairs; the weights of a rational call stand last.
+/// A drawing call. Coordinates come in pairs; the weights of a rational call come last.
 #[derive(Clone, Copy, Debug, PartialEq)]
 pub enum Call {
     Move(f32, f32),
@@ -41,7 +41,7 @@ pub enum Call {
     Cubic([f32; 6]),
     RatQuad([f32; 4], f32),
     RatCubic([f32; 6], f32, f32),
-    /// Closes the contour with a line where it is open.
+    /// Closes the contour with a line if it is open.
     Build,
 }
 
@@ -141,7 +141,7 @@ mod raw {
 }
 
 impl Columns<'_> {
-    /// A fresh drawing: a Move at (0,0). Answers 0, 3 (columns of unequal length) or 4 (no room); refused, its state has counts and index 0.
+    /// A fresh drawing: a Move at (0,0). Answers 0, 3 (columns of unequal length) or 4 (no room); if it is refused, counts and index are 0.
     pub fn fresh(&mut self) -> (u32, State) {
         let mut st = State::default();
         // SAFETY: the pointers and lengths are those of slices that do not overlap, since each is borrowed mutably
@@ -163,7 +163,7 @@ impl Columns<'_> {
         (answer, st)
     }
 
-    /// One drawing call. It tests 3, 1, 2, 4 in that order; refused, it changes nothing and gives `st` back.
+    /// One drawing call. It tests 3, 1, 2, 4 in that order; if it is refused, it changes nothing and gives `st` back.
     pub fn draw(&mut self, st: State, call: Call) -> (u32, State) {
         let mut st = st;
         macro_rules! call {
@@ -190,7 +190,7 @@ impl Columns<'_> {
     }
 }
 
-/// In the knife setting a line without length keeps the direction before it.
+/// In the knife setting the direction before a line without length is remembered; in the screen setting it is forgotten.
 #[derive(Clone, Copy, Debug, PartialEq, Eq)]
 pub enum Setting {
     Screen,
@@ -229,7 +229,7 @@ pub struct Output<'a> {
     pub end: &'a mut [u8],
 }
 
-/// The answer, and how many splines, quads and points there are. Of the points there are none on a refusal.
+/// The answer, and how many splines, quads and points there are. On a refusal the number of points is 0.
 #[derive(Clone, Copy, Debug, Default, PartialEq, Eq)]
 pub struct Flattened {
     pub answer: u32,
@@ -238,7 +238,7 @@ pub struct Flattened {
     pub points: usize,
 }
 
-/// A drawing's columns, to be read.
+/// A drawing's columns, for reading.
 #[derive(Clone, Copy)]
 pub struct Drawn<'a> {
     pub x: &'a [f32],
@@ -247,7 +247,7 @@ pub struct Drawn<'a> {
     pub commands: &'a [u8],
 }
 
-/// Flattens the drawing as it stands, closed or not. Answers 0, 3 (unusable), 5 (too many pieces), 6 or 7 (a table is full), 8 (a sum is too large) or 9 (the
+/// Flattens the drawing as it is, closed or not. Answers 0, 3 (unusable), 5 (too many pieces), 6 or 7 (a table is full), 8 (a sum is too large) or 9 (the
 /// words or outputs are too short); entries past the counts never change.
 pub fn flatten(setting: Setting, st: State, drawn: Drawn, q: &mut Quads, s: &mut Splines, o: &mut Output) -> Flattened {
     let mut f = Flattened::default();
