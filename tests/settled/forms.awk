@@ -1,9 +1,9 @@
-# Holds the contracts of the public functions to the forms that docs/PROMISES.md assigns to them. Reads, in this order:
+# Compares the contracts of the public functions with the forms that docs/PROMISES.md assigns to them. Reads, in this order:
 #   docs/PROMISES.md          its table of forms: a form, the theorems that settle it, and the functions whose contract has it
 #   promises/proofs/Settled   the theorems
 #   `struct` lines            CRATE TYPE FIELD.., the fields of each struct of the library
 #   `fn` lines                CRATE NAME, and the function's head on one line, from its name to its contract
-# A contract is to be one `ensures`, an equation or a product of equations, each with a definition over the entry alone on its right side. Its form has `…` for each
+# A contract must be one `ensures`, an equation or a product of equations, each with a definition over the entry alone on its right side. Its form has `…` for each
 # right side and `@` for each lent column at exit.
 
 function fault(message) { print "tests/settled: " message; faults++ }
@@ -65,7 +65,7 @@ function closing(s, i,    depth, c) {
     return 0
 }
 
-# Splits at a mark that stands in no bracket.
+# Splits at a mark outside all brackets.
 function split_at(s, mark, parts,    i, n, depth, c, from) {
     n = 0
     from = 1
