@@ -30,7 +30,7 @@ fn main() {
     let read = |name: &str| {
         let file = source.join(name);
         println!("cargo:rerun-if-changed={}", file.display());
-        fs::read_to_string(&file).unwrap_or_else(|e| panic!("{}: {e} (KERMEZHUL_RUST_SOURCE says where docs/src stands)", file.display()))
+        fs::read_to_string(&file).unwrap_or_else(|e| panic!("{}: {e} (KERMEZHUL_RUST_SOURCE names the folder of the original's sources)", file.display()))
     };
     for (name, to) in [("math/point.rs", "point.rs"), ("math/transform.rs", "transform.rs"), ("utils/extend.rs", "extend.rs")] {
         fs::write(out.join(to), read(name)).unwrap();
@@ -47,7 +47,7 @@ fn main() {
     fs::write(out.join("path.rs"), with_probe(&path)).unwrap();
 
     let statement = "self.last_angle = angle;";
-    assert_eq!(path.matches(statement).count(), 1, "`{statement}` stands once, in push_line");
+    assert_eq!(path.matches(statement).count(), 1, "`{statement}` must occur once, in push_line");
     assert!(between(&path, "pub fn push_line(", "{", "pub fn push_quad(").contains(statement));
     let knife = path.replace(statement, "self.last_angle = angle.or(self.last_angle);");
     fs::write(out.join("path_knife.rs"), with_probe(&knife)).unwrap();

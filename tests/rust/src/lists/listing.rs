@@ -80,7 +80,7 @@ fn cases() -> Vec<(&'static str, String)> {
     let s = 65_536.0;
     vec![
         // ---- done
-        ("01's example, the doubled point", doubled()),
+        ("the program's example, the doubled point", doubled()),
         ("no command at all", String::new()),
         ("a square", text(&square)),
         ("out and back", text(&[line(10.0, 0.0), line(4.0, 0.0)])),
@@ -118,7 +118,7 @@ fn cases() -> Vec<(&'static str, String)> {
         ("9: a walk of more than 512", text(&rounds(4, 1.0, s))),
         ("all 512 words", text(&rounds(4, 1.0, 3150.0))),
         ("9: a little more", text(&rounds(4, 1.0, 3200.0))),
-        // ---- 10: faults of the text, with the line where the byte is due
+        // ---- 10: faults of the text, on the line where the wrong or missing byte is due
         ("10: the last line end is missing", doubled().strip_suffix('\n').unwrap().into()),
         ("10: the line end of the op line is missing", "op=move".into()),
         ("10: CR before the line end", doubled().replace('\n', "\r\n")),
@@ -166,8 +166,8 @@ pub fn fixed() -> Listings {
     for (name, text) in cases() {
         let text = encoded(&text);
         let out = program(&text);
-        let told: u8 = name.split([':', ' ']).next().unwrap().parse().unwrap_or(0);
-        assert_eq!(out.lines().next(), Some(format!("answer={told}").as_str()), "{name}");
+        let answer: u8 = name.split([':', ' ']).next().unwrap().parse().unwrap_or(0);
+        assert_eq!(out.lines().next(), Some(format!("answer={answer}").as_str()), "{name}");
         all.given.extend(format!("{:06}\n", text.len()).bytes());
         all.given.extend(text);
         all.due.extend(out.bytes());
@@ -180,7 +180,7 @@ pub fn fixed() -> Listings {
     all
 }
 
-/// 01's example, and what the program shows for it.
+/// The program's example, the doubled point (docs/PROMISES.md, Examples), and what the program must write for it.
 pub fn example() -> (Vec<u8>, Vec<u8>) {
     let text = doubled().into_bytes();
     let out = program(&text).into_bytes();
