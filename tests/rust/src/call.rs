@@ -56,7 +56,7 @@ impl Call {
     }
 }
 
-/// The same drawing again and again gives the same bits: all numbers as bits, for messages.
+/// Calls as text, for messages: each number as its bits, so that a drawing can be made again exactly.
 pub fn written(calls: &[Call]) -> String {
     let mut text = String::new();
     for call in calls {

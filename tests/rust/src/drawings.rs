@@ -23,7 +23,7 @@ pub const KINDS: [&str; 14] = [
     "steps about a tenth of 0.0625",
 ];
 
-/// A kind: those with very many points come an eighth as often as the others.
+/// A random kind: those with very many points come an eighth as often as the others.
 pub fn kind(rng: &mut Rng) -> usize {
     loop {
         let k = rng.below(KINDS.len() as u64) as usize;
@@ -86,7 +86,7 @@ fn weight(rng: &mut Rng) -> f32 {
     }
 }
 
-/// A point of this kind, or one that has to do with the points before.
+/// A point of this kind, or one that is related to the points before.
 fn point(rng: &mut Rng, k: usize, before: &[P]) -> P {
     let last = before[before.len() - 1];
     let near = if k == 6 { 2 } else { 9 };
@@ -151,7 +151,7 @@ fn mixed(rng: &mut Rng, k: usize) -> Vec<Call> {
     calls
 }
 
-/// Lines that turn by about 0.001, or not at all, or back.
+/// Lines that turn by about 0.001, or not at all, or straight back.
 fn turns(rng: &mut Rng) -> Vec<Call> {
     let mut calls = Vec::new();
     let mut at = p(coordinate(rng, 1), coordinate(rng, 1));
@@ -189,7 +189,7 @@ fn turns(rng: &mut Rng) -> Vec<Call> {
     calls
 }
 
-/// Rational cubics with a number of pieces n whose n · (1/n) is below 1, and an end fast enough for a gap about 0.0625.
+/// Rational cubics with a number of pieces n whose n · (1/n) is below 1, and so fast an end that the gap is about 0.0625.
 fn falls_short(rng: &mut Rng) -> Vec<Call> {
     let mut calls = Vec::new();
     let far = |rng: &mut Rng| match rng.below(4) {
@@ -391,7 +391,7 @@ pub fn directed() -> Vec<Vec<Call>> {
         add((1..=n).map(|i| Quad(p(10.0 * i as f32 - 5.0, 0.0), p(10.0 * i as f32, 0.0))).collect());
         add((1..=n).map(|i| if i % 2 == 0 { Line(p(10.0 * i as f32, 0.0)) } else { Quad(p(10.0 * i as f32 - 5.0, 0.0), p(10.0 * i as f32, 0.0)) }).collect());
     }
-    // the cubics of the table of differences
+    // the cubics of docs/DIFFERENCES.md
     for c in DIFFERENT {
         add(vec![Cubic(p(c[0], c[1]), p(c[2], c[3]), p(c[4], c[5]))]);
     }
@@ -471,7 +471,7 @@ fn stray() -> Vec<Vec<Call>> {
                     let mid = p(0.5 * (b.x + turn.x), 0.5 * (b.y + turn.y));
                     out.push(vec![Call::Quad(p(5.0, 0.0), p(10.0, 0.0)), Call::Quad(a, b), Call::Quad(mid, turn), Call::Line(p(0.0, 99.0))]);
                     out.push(vec![Call::Quad(p(5.0, 0.0), p(10.0, 0.0)), Call::Quad(a, b), Call::Line(turn), Call::Quad(p(turn.x, 77.0), p(-5.0, 3.0))]);
-                    // behind the turn straight quads in a row (sums 2, 4, 6), or curved ones: the cursor, which lags, goes on once for each step
+                    // after the turn straight quads in a row (sums 2, 4, 6), or curved ones: the cursor, which lags, goes on once for each step
                     for n in 2..5 {
                         let mut calls = vec![Call::Quad(p(5.0, 0.0), p(10.0, 0.0)), Call::Quad(a, b)];
                         let (dx, dy) = (turn.x - b.x, turn.y - b.y);

@@ -26,7 +26,7 @@ impl Flat {
     }
 }
 
-/// A length about what is needed: enough, one short, none.
+/// A length close to what is needed: enough, one too short, or 0.
 fn length(rng: &mut Rng, needed: usize, all: usize) -> usize {
     match rng.below(200) {
         0 => needed.saturating_sub(1),
@@ -59,7 +59,7 @@ pub fn any_flat(rng: &mut Rng, most: usize) -> Flat {
             }
         },
     };
-    // one thing wrong, now and then
+    // sometimes one thing is wrong
     if rng.one_in(10) && !columns.x.is_empty() && !columns.commands.is_empty() && columns.y.len() == columns.x.len() && columns.weight.len() == columns.x.len() {
         let i = rng.below(columns.x.len() as u64) as usize;
         let bad = rng.pick(&[f32::NAN, f32::INFINITY, 4_194_304.5, 65.0, 0.0, 4_194_304.0, 64.0, 1.0 / 64.0, -4_194_304.0, -1.0]);

@@ -27,7 +27,7 @@ fn lent(c: &mut Columns) -> lib::Columns<'_> {
     lib::Columns { x: &mut c.x, y: &mut c.y, weight: &mut c.weight, commands: &mut c.commands }
 }
 
-/// All bits, NaNs as one.
+/// Compares all bits; NaNs count as one.
 pub fn same_floats(name: &str, ours: &[f32], model: &[f32]) -> Result<(), String> {
     for (i, (a, b)) in crate::against::bits(ours).zip(crate::against::bits(model)).enumerate() {
         if a != b {
@@ -47,7 +47,7 @@ fn same_columns(ours: &Columns, model: &Columns) -> Result<(), String> {
     Ok(())
 }
 
-/// The same call on both, on equal columns. The answer, or what differs.
+/// The same call by the library and the model, on equal columns. Gives the answer, or what differs.
 pub fn call_both(call: Option<&Call>, st: State, ours: &mut Columns, theirs: &mut Columns) -> Result<(u8, State), String> {
     let (a, b) = match call {
         None => (lent(ours).fresh(), model::fresh(theirs)),
@@ -147,7 +147,7 @@ pub fn by_library(f: &mut Flat) -> Flattened {
     Flattened { answer: r.answer as u8, splines: r.splines, quads: r.quads, points: r.points }
 }
 
-/// The same flattening by both, on equal buffers: the answer, or what differs.
+/// The same flattening by both, on equal buffers. Gives the answer, or what differs.
 pub fn flatten_both(lent: &Flat) -> Result<Flattened, String> {
     let (mut ours, mut theirs) = (lent.clone(), lent.clone());
     let (a, b) = (by_library(&mut ours), theirs.by_model());

@@ -1,4 +1,4 @@
-//! The original Rust, compiled as it is, beside an independent model of what is ported from it.
+//! The original Rust, compiled unchanged, beside an independent model of the port.
 
 #![allow(dead_code)]
 
@@ -69,7 +69,7 @@ pub mod rng;
 pub mod seen;
 pub mod wild;
 
-/// A setting of a run: the word at this place, or the variable, or the default.
+/// An option of a run: the argument at this place, or the variable, or the default.
 pub fn number(at: usize, variable: &str, default: u64) -> u64 {
     std::env::args()
         .nth(at)

@@ -1,4 +1,4 @@
-//! Numbers, calls and stores of any kind: NaN patterns, limits, counts and lengths that fit nothing.
+//! Numbers, calls and stores of any kind: NaN patterns, limits, counts and lengths that do not fit each other.
 
 use crate::{
     call::{p, Call},

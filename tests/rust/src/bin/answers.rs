@@ -1,7 +1,7 @@
 //! Writes the lists that programs of the gate replay: what the original, and for whole listings the model, answers. answers/README.md has their layouts.
 //!
 //! answers DIR: each list to its place below DIR; DIR is ../../crates to store them anew.
-//! answers FILE DRAWINGS SEED: any number of random drawings in the form of flatten_cases, both settings by turns, for one large run.
+//! answers FILE DRAWINGS SEED: any number of random drawings in the form of flatten_cases, in both settings alternately, for one large run.
 
 use against_rust::lists;
 use std::{fs, path::Path};

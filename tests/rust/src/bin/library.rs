@@ -103,7 +103,7 @@ fn main() {
         let k = kind(&mut rng);
         let drawing = random(&mut rng, k);
         calls += drawing.len();
-        // often too small a store
+        // the store is often too small
         let room = rng.below(6 + 4 * drawing.len() as u64) as usize;
         t.tell(replay_both(&drawing, room));
         drawings += 1;

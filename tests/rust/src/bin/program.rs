@@ -18,7 +18,7 @@ fn run(binary: &str, input: &[u8]) -> Vec<u8> {
     let mut to = child.stdin.take().unwrap();
     let bytes = input.to_vec();
     let writer = std::thread::spawn(move || {
-        // a program that stops reading at 11 closes its end
+        // a program that answers 11 stops reading, and the pipe is closed at its end
         let _ = to.write_all(&bytes);
     });
     let out = child.wait_with_output().unwrap();
@@ -69,7 +69,7 @@ fn main() {
                         input.pop();
                     }
                     6 => input.push(rng.pick(b"\n\r o")),
-                    // a NaN, an infinity or a large number in the place of a field's first digits
+                    // a NaN, an infinity or a large number instead of a field's first digits
                     _ => {
                         if let Some(e) = input[at..].iter().position(|b| *b == b'=').map(|e| e + at) {
                             if e + 9 <= input.len() && input[e - 1] != b'p' {

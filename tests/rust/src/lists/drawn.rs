@@ -89,7 +89,7 @@ fn drawing(text: &mut String, setting: u32, calls: &[Call], store: &Store, seen:
     }
 }
 
-/// What a drawing must not exceed, so that it fits the rooms of the program and the list stays small.
+/// What a drawing must not exceed, so that it fits the program's columns and the list stays small.
 struct Limits {
     points: usize,
     quads: usize,
@@ -104,7 +104,7 @@ fn fits(calls: &[Call], l: &Limits) -> bool {
     if st.points > l.points {
         return false;
     }
-    // the list has only drawings whose cubics both cut alike
+    // the list has only drawings whose cubics both cut into the same number of pieces
     let pieces = screen::pieces(calls);
     if pieces_of(st, &c, exact_pieces).iter().zip(&pieces).any(|(a, b)| *a != *b as u64) || pieces.iter().sum::<usize>() > l.quads {
         return false;
@@ -113,7 +113,7 @@ fn fits(calls: &[Call], l: &Limits) -> bool {
     [a, b].iter().all(|s| s.words.len() <= l.words && s.tables.x0.len() <= l.quads && s.tables.curvature.len() <= 60)
 }
 
-/// Any number of random drawings within the large limits, both settings by turns.
+/// Any number of random drawings within the large limits, in both settings alternately.
 pub fn many(drawings: u32, seed: u64) -> String {
     let mut rng = Rng(seed);
     let mut text = format!("{drawings:08x}\n");
@@ -156,7 +156,7 @@ pub fn fixed() -> (String, String) {
     };
     let directed = directed();
     for (i, calls) in directed.iter().enumerate() {
-        // the first are the examples; then one in 67, which is odd, so that built ones and others come by turns
+        // the first are the examples; then one in 67, which is odd, so that built ones and others alternate
         consider(calls.clone(), i < 14 || i % 67 == 0, &SMALL, 8);
     }
     for i in 0..6000 {
@@ -190,7 +190,7 @@ pub fn fixed() -> (String, String) {
             tabled += 1;
         }
     }
-    // how many drawings there are stands first
+    // the first number says how many drawings there are
     let counted = |n: u32, text: String| format!("{n:08x}\n{text}");
     let (flatten, tables) = (counted(screens + knives, flatten), counted(tabled, tables));
     println!("{} drawings for flatten_cases, {screens} in the screen setting and {knives} in the knife setting; {tabled} for tables_cases", screens + knives);

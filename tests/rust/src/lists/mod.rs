@@ -20,7 +20,7 @@ fn bits(v: f32) -> u32 {
     crate::model::store::canon(v).to_bits()
 }
 
-/// Each list and the file below crates/ where it is stored. `flattener` has the first listing, 01's example.
+/// Each list and the file below crates/ where it is stored. `flattener` has the first listing, the program's example: the doubled point (docs/PROMISES.md, Examples).
 pub fn all() -> Vec<(&'static str, Vec<u8>)> {
     let (flatten, tables) = drawn::fixed();
     let listing::Listings { given, due } = listing::fixed();

@@ -1,5 +1,5 @@
-//! Drawing calls on columns of a given length, and what is then to be seen, for `store_cases`.
-//! Which calls are refused is decided here, from the document's table; what an accepted call stores is the original's.
+//! Drawing calls on columns of a given length, and what must be seen after each, for `store_cases`.
+//! Which calls are refused is decided here, from the table of docs/RULES.md, Answers; what an accepted call stores is the original's.
 
 use super::{bits, row};
 use crate::{
@@ -23,7 +23,7 @@ fn letter(call: &Call) -> char {
     }
 }
 
-// The same call with one number exchanged: its coordinates come first, then its weights.
+// The same call with one number replaced: its coordinates come first, then its weights.
 fn with(call: &Call, slot: usize, v: f32) -> Call {
     let (mut c, mut w) = (call.coordinates(), call.weights());
     match slot.checked_sub(c.len()) {
@@ -42,7 +42,7 @@ fn with(call: &Call, slot: usize, v: f32) -> Call {
     }
 }
 
-// The columns as the program has them, whole, and what of them is lent. What is written goes to the list.
+// The whole columns as the program has them, and how much of them is lent. All that is written goes to the list.
 struct Case<'a> {
     list: &'a mut String,
     x: Vec<f32>,
@@ -141,7 +141,7 @@ impl Case<'_> {
         }
     }
 
-    // The store as the original takes it. A command that it does not have stands for a Line: it looks at the last one only.
+    // The store as the original takes it. A command that it does not have becomes a Line: it looks at the last command only.
     fn store(&self) -> Store {
         Store {
             x: self.x[..self.points].to_vec(),
@@ -269,7 +269,7 @@ fn each() -> [Call; 7] {
     ]
 }
 
-// Random sequences on ample columns, on columns that just hold them, and one entry short of it.
+// Random sequences on ample columns, on columns that just hold them, and on columns that are one entry too short.
 fn sequences(list: &mut String, r: &mut Random) {
     for _ in 0..40 {
         let calls: Vec<Call> = (0..2 + r.below(6)).map(|_| r.call()).collect();
@@ -363,7 +363,7 @@ fn states(list: &mut String) {
         case.calls(&each());
         case.seen();
     }
-    // a last command that is none, and one before it that is not looked at
+    // a last command that is over 3, and one before it that no call looks at
     for c in [4, 255] {
         let mut case = Case::sized(list, 6, 6);
         case.fresh();

@@ -219,7 +219,7 @@ struct Quad {
 /// How many pieces a cubic gets, before the test for 5: the exact root, or the original's `powf`, to compare the rest where the two differ.
 pub type Pieces = fn(q: f32, mult: f32) -> u64;
 
-/// 0 stands for a number that is none (of a q that no drawing has); it is refused like one over 1,024.
+/// A q without a root, which no drawing has, gives the largest number, which is refused like any over 1,024.
 pub fn exact_pieces(q: f32, mult: f32) -> u64 {
     match sixth_root(q) {
         None => u64::MAX,

@@ -1,5 +1,5 @@
 //! An independent model of the port: written from the rules (the store, the numbered answers, primitives, the walk), in plain Rust, with growing lists in
-//! place of the port's lent columns, and copied to the lent columns at the end. Where the rules cite the original's formulas they stand here too.
+//! place of the port's lent columns, and copied to the lent columns at the end. Where the rules cite the original's formulas, the model has them too.
 //!
 //! Floats are the machine's: IEEE 754 binary32, `mul_add` and `sqrt` rounded once. The sixth root is by whole numbers.
 

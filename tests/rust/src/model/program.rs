@@ -12,7 +12,7 @@ const OPS: [(&str, &[&str]); 6] = [
     ("rcubic", &["x1", "y1", "x2", "y2", "x3", "y3", "w1", "w2"]),
 ];
 
-/// The bytes of the next line without its 0x0A, or none where the input ends before one.
+/// The bytes of the next line without its 0x0A, or none if the input ends before one.
 fn line<'a>(rest: &mut &'a [u8]) -> Option<&'a [u8]> {
     let end = rest.iter().position(|b| *b == b'\n')?;
     let (line, after) = rest.split_at(end);

@@ -47,7 +47,7 @@ pub fn unusable(st: State, c: &Columns) -> bool {
         || c.commands[st.commands - 1] > CUBIC
 }
 
-/// What flattening finds unusable besides.
+/// What flattening finds unusable in addition.
 pub fn undrawable(st: State, c: &Columns) -> bool {
     if unusable(st, c) {
         return true;
@@ -115,7 +115,7 @@ pub fn draw(call: &Call, st: State, c: &mut Columns) -> (u8, State) {
         return (2, st);
     }
 
-    // a move behind a Move puts its point over the last
+    // a move after a Move overwrites the last point
     if let Call::Move(a) = *call {
         if c.commands[st.commands - 1] == MOVE {
             let last = st.points - 1;
