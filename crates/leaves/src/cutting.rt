@@ -4,7 +4,7 @@ use crate::whole;
 ghost use mathlib.Core.Path.{_≡_};
 ghost use Rattle.leaves.specs.Pieces.{piecesOf};
 
-// How many pieces a cubic is cut into: over 1,024 is for the caller to refuse.
+// How many pieces a cubic is cut into; the caller refuses a number over 1,024.
 pub fn pieces(q: f32, w1: f32, w2: f32) -> u32
     ensures { λ r. ⌜ r ≡ piecesOf q w1 w2 ⌝ }
 {

@@ -11,7 +11,7 @@ pub struct Power {
     pub d: u64,
 }
 
-// p * s, limb by limb, the carry going on.
+// p * s, limb by limb, with the carry passed on to the next.
 fn times(p: Power, s: u64) -> Power
     requires { ⌜ Limbs (p .a) (p .b) (p .c) (p .d) ⌝ }
     requires { ⌜ s < 2 ^ 24 ⌝ }

@@ -37,7 +37,7 @@ putRowOf t i v =
 abbrev pub splineAtOf : List Spline → ℕ → Found
 splineAtOf ys i = cond (ltb i (length ys)) (At (getD ys i blank)) Past
 
--- lists of equal length, by their lengths: the list has a record for each of the n splines in use, and no column ends before the nth; what a column has
+-- the list and the columns agree in length: the list has a record for each of the n splines in use, and no column ends before the nth; what a column has
 -- beyond it is capacity
 abbrev pub agreeOf : ℕ → ℕ → ℕ → ℕ → ℕ → ℕ → ℕ → ℕ → Bool
 agreeOf n list curvature p0x p0y p2x p2y contour =

@@ -27,7 +27,7 @@ pub enum Found {
     Past,
 }
 
-// Whether a list and the columns had equal lengths, so that all was copied; where not, nothing was written.
+// Whether a list and the columns had equal lengths, so that all was copied; if not, nothing was written.
 pub enum Copied {
     All,
     Unequal,

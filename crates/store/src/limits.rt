@@ -1,4 +1,4 @@
-// The tests 1 and 2 of what a call is given. A NaN passes neither, since no comparison with it holds.
+// The tests for answers 1 and 2, on what a call is given. A NaN is refused by both, since no comparison with it holds.
 
 ghost use mathlib.Core.Path.{_≡_};
 ghost use mathlib.Core.List.{[], _∷_};

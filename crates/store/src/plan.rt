@@ -206,7 +206,7 @@ fn has_room(x: &[f32], commands: &[u8], st: StoreState, plan: Plan) -> bool
     (points.count() <= x.len() - plan.at) & (marks.count() <= commands.len() - st.commands)
 }
 
-// The tests 3, 1, 2 and 4, in that order.
+// The tests for answers 3, 1, 2 and 4, in that order.
 pub fn decide(
     x: &[f32],
     y: &[f32],

@@ -1,4 +1,4 @@
--- `text::decimal_length` meets its contract: the digits passed, and those of what is left. Assumes nothing.
+-- `text::decimal_length` meets its contract: the digits counted so far, and those of what is left of the number. Assumes nothing.
 use mathlib.Core.Path.{_≡_, refl, sym, ap, _∙_}
 use Prim.Native.Nat.{ℕ, _+_, _/_, _≤_, _<_}
 use native.Mathlib.Omega.{arith}
