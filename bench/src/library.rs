@@ -44,7 +44,7 @@ extern "C" fn own_sqrt(a: f32) -> f32 {
     a.sqrt()
 }
 
-/// Numbers as drawings have them, in nanoseconds for each.
+/// Nanoseconds that f takes for each of the numbers.
 fn each(numbers: &[[f32; 3]], f: impl Fn(f32, f32, f32) -> f32) -> f64 {
     let mut sum = 0u32;
     let t = seconds(20, || {

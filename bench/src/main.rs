@@ -60,7 +60,7 @@ fn now() -> f64 {
     t.seconds as f64 + t.nanoseconds as f64 * 1e-9
 }
 
-/// Seconds of one call of many.
+/// Seconds that one call of f takes, as the mean of many.
 fn seconds(times: usize, mut f: impl FnMut()) -> f64 {
     let start = now();
     for _ in 0..times {

@@ -1,5 +1,5 @@
 -- Which answers can be given: a drawing call gives 0 to 4, and no 3 if the store is usable; the build then gives 0 or 4; a flattening gives 0 or 5 to 9 if the
--- test for 3 finds no fault. A store drawn by these calls alone is usable, and that test finds no fault in it. Assumes nothing.
+-- test for answer 3 finds no fault. A store drawn by these calls alone is usable, and that test finds no fault in it. Assumes nothing.
 use Prim.Native.Nat.{_≤_}
 use mathlib.Core.Path.{_≡_, refl, sym, ap, _∙_, subst}
 use mathlib.Core.Logic.{_⊎_, inl, inr, _≢_}

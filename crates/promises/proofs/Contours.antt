@@ -33,7 +33,7 @@ use Rattle.promises.specs.Demand3.{FlagsAreLast, Demand3c}
 use Rattle.promises.proofs.Flattened.{worldOf, finishedOf, Passed, passed}
 use Rattle.promises.proofs.Decoding.{capsOf, job-sound, job-pieces}
 
--- ---- what the test for 3 gives
+-- ---- what the test for answer 3 gives
 third : (a b c d e f g : Bool) → a && b && c && d && e && f && g ≡ true → T a × T c
 third true true true d e f g h = (tt, tt)
 third true true false d e f g h = absurd (true≢false (sym h))

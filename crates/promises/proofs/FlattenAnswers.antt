@@ -1,5 +1,5 @@
--- The answers of flattening are exact. There are three tests: the test for 3, the run, and the room for the walk. Each fails exactly on its faults, so the
--- answer says which fault there is. Assumes nothing.
+-- The answers of flattening are exact. There are three tests: the test for answer 3, the run, and the room for the walk. Each fails exactly on its faults, so
+-- the answer says which fault there is. Assumes nothing.
 use Prim.Native.Nat.{ℕ, zero, suc, _+_, _-_, _≤_, _<_}
 use mathlib.Core.Path.{_≡_, refl, sym, ap, ap₂, _∙_, subst}
 use mathlib.Core.Logic.{_⊎_, inl, inr, _≢_, _↔_}

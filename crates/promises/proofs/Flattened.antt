@@ -1,4 +1,5 @@
--- Of an accepted drawing: the test for 3 finds no fault, the run ends with Done, and the walk fits; so the words are the walk's, packed. Assumes nothing.
+-- Of an accepted drawing: the test for answer 3 finds no fault, the run ends with Done, and the walk fits; so the words are the walk's, packed. Assumes
+-- nothing.
 use mathlib.Core.Path.{_≡_, refl, sym, ap, ap₂, _∙_, subst}
 use mathlib.Core.Logic.{_⊎_, inl, inr}
 use mathlib.Core.Bool.{Bool, true, false, true≢false}

@@ -1,4 +1,4 @@
--- A run is refused exactly at its first refused primitive, and the test for 3 fails exactly on its faults. Assumes nothing.
+-- A run is refused exactly at its first refused primitive, and the test for answer 3 fails exactly on its faults. Assumes nothing.
 use Prim.Native.Nat.{ℕ, zero, suc, _+_, _-_, _≤_, _<_, suc-le-suc}
 use mathlib.Core.Path.{_≡_, refl, sym, ap, ap₂, _∙_, subst}
 use mathlib.Core.Logic.{_⊎_, inl, inr, _≢_, _↔_}
@@ -99,7 +99,7 @@ module _ (setting : Setting) (caps : Capacities) where
           inr (subst (λ (x : World). RefusedIn setting caps (p ∷ ps) w (x .state .answer)) (sym (run-stays setting caps ps (pushOf setting caps p w) (refuses-not-done r)))
           (record { before = []; primitive = p; after = ps; split = refl; pushed = D; cause = r }))
 
--- ---- the test for 3
+-- ---- the test for answer 3
 tells-then : (a b : Bool) (X Y : Type 0) → Tells a X → (a ≡ true → Tells b Y) → Tells (a && b) (X ⊎ Y)
 tells-then true b X Y s t = tells-and true b X Y s (t refl)
 tells-then false b X Y s t = (λ e. inl (s .0 refl), λ h. refl)

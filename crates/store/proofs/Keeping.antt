@@ -1,4 +1,4 @@
--- The writes of an accepted call keep a store in the state that flattening's test for 3 requires. Assumes nothing.
+-- The writes of an accepted call keep a store in the state that flattening's test for answer 3 requires. Assumes nothing.
 use Prim.Native.Nat.{ℕ, _+_, _≤_, _<_}
 use native.Mathlib.Omega.{arith}
 use native.Mathlib.Nat.{le-refl}

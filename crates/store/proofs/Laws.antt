@@ -1,5 +1,5 @@
--- Laws of the drawing store, over the definitions: what a refusal keeps, that counts never fall, that a build closes, and that flattening's test for 3 finds no
--- fault in what the calls draw. Assumes nothing.
+-- Laws of the drawing store, over the definitions: what a refusal keeps, that counts never fall, that a build closes, and that flattening's test for answer 3
+-- finds no fault in what the calls draw. Assumes nothing.
 use Prim.Native.Nat.{_+_, _≤_, _<_}
 use native.Mathlib.Omega.{arith}
 use native.Mathlib.Nat.{le-refl, le-add-right}
@@ -134,7 +134,7 @@ counts-kept call st c = go (isDone (drawOf call st c .answer)) refl
     go true e = subst (λ (o : Outcome). NoFewer st (o .state)) (sym (accepted call st c e .outcome)) (counted-after call st c)
     go false e = subst (λ (o : Outcome). NoFewer st (o .state)) (sym (refused call st c e)) (le-refl (st .points), le-refl (st .commands))
 
--- ---- flattening's test for 3 finds no fault in what the calls draw
+-- ---- flattening's test for answer 3 finds no fault in what the calls draw
 drawn-sound : (call : Call) (st : StoreState) (c : Columns) → Sound st c → Sound (drawOf call st c .state) (drawOf call st c .columns)
 drawn-sound call st c g = go (isDone (drawOf call st c .answer)) refl
   where

@@ -1,5 +1,5 @@
--- Flattening's test for 3. The invariant of its loops: testing what is left gives what testing the whole gives. The parts joined are the definition. Assumes
--- nothing.
+-- Flattening's test for answer 3. The invariant of its loops: testing what is left gives what testing the whole gives. The parts joined are the definition.
+-- Assumes nothing.
 use Prim.Native.Nat.{ℕ, _+_, _-_, _≤_, _<_}
 use native.Mathlib.Omega.{arith}
 use native.Mathlib.Numerals.{add-one}

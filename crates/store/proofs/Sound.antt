@@ -1,4 +1,4 @@
--- What is known of a store in which flattening's test for 3 finds no fault. Assumes nothing.
+-- What is known of a store in which flattening's test for answer 3 finds no fault. Assumes nothing.
 use Prim.Native.Nat.{ℕ, _-_, _≤_, _<_}
 use native.Mathlib.Omega.{arith}
 use mathlib.Core.Path.{_≡_, subst}

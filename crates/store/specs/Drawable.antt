@@ -1,4 +1,4 @@
--- RULES, Answers 9: flattening's test for 3, over the whole drawing. It looks at the first `count` entries of each column. Assumes nothing.
+-- RULES, Answers 9: flattening's test for answer 3, over the whole drawing. It looks at the first `count` entries of each column. Assumes nothing.
 use Prim.Native.Nat.{ℕ, _+_}
 use mathlib.Core.Bool.{Bool, true, _&&_}
 use mathlib.Core.List.{List, [], _∷_}

@@ -1,4 +1,4 @@
-// Flattening's test for 3, over the whole drawing.
+// Flattening's test for answer 3, over the whole drawing.
 
 ghost use mathlib.Core.Path.{_≡_};
 ghost use Prim.Native.Nat.{ℕ, _≤_};

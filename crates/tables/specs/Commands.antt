@@ -30,6 +30,6 @@ primitivesFrom c (k ∷ ks) j = commandPrimitivesOf c k j ++ primitivesFrom c ks
 unfoldable pub primitivesOf : StoreState → Columns → List Primitive
 primitivesOf st c = primitivesFrom c (take (st .commands) (c .commands)) 0
 
--- the tables of a drawing that passes the test for 3
+-- the tables of a drawing that is not refused with 3
 unfoldable pub tablesOf : Setting → StoreState → Columns → QuadTable → SplineTable → World
 tablesOf setting st c q s = runOf setting (capacitiesOf q s) (primitivesOf st c) (world startState q s)

@@ -111,7 +111,7 @@ impl Case<'_> {
             && self.commands[self.count - 1] <= 3
     }
 
-    // Flattening's test for 3.
+    // Flattening's test for answer 3.
     fn drawable(&self) -> bool {
         if !self.usable() {
             return false;
@@ -446,7 +446,7 @@ fn closing(list: &mut String) {
     }
 }
 
-// Flattening's test for 3, on contents made by hand.
+// Flattening's test for answer 3, on contents made by hand.
 fn drawables(list: &mut String) {
     let mut test = |change: &dyn Fn(&mut Case)| {
         let mut case = Case::sized(list, 8, 5);

@@ -216,7 +216,7 @@ struct Quad {
     spline: usize,
 }
 
-/// How many pieces a cubic gets, before the test for 5: the exact root, or the original's `powf`, to compare the rest where the two differ.
+/// How many pieces a cubic gets, before the test for answer 5: the exact root, or the original's `powf`, to compare the rest where the two differ.
 pub type Pieces = fn(q: f32, mult: f32) -> u64;
 
 /// A q without a root, which no drawing has, gives the largest number, which is refused like any over 1,024.
