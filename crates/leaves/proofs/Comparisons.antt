@@ -159,7 +159,7 @@ rootless (fin s zero e) h k = no (sym (zero-equal s e) ∙ k)
 rootless (fin true (suc m) e) h k = below-zero
 rootless (fin false (suc m) e) h k = no (sym (above-zero m e) ∙ h)
 
--- so a function that gives NaN for each of those gives NaN
+-- so a function that gives NaN for each of those gives NaN for every x without a root
 pub elsewhere : (f : Float → Float) → f nan ≡ nan → f (inf true) ≡ nan → ((m : ℕ) (e : ℤ) → f (fin true (suc m) e) ≡ nan) → (x : Float) → lt plain x ≡ false
     → eq x plain ≡ false → f x ≡ nan
 elsewhere f a b c x h k = go (rootless x h k)

@@ -73,7 +73,7 @@ module _ (nr dr ny dy nx dx R Y A L : ℕ) (r : nr * L ≡ R * dr) (y : ny * L �
   upper : A * L * 4 ≤ (Y + R) * (Y + R) → nx * (2 * W * (2 * W)) ≤ M * M * dx
   upper h = le-of-mul-le-mul-right (le-trans (le-of-eq right) (le-trans (mul-le-mul-right (W * W * dx) h) (le-of-eq (sym left)))) LL
 
-  -- and back, of denominators above 0
+  -- the converses, if the denominators are above 0
   module _ (D : 0 < W * W * dx) where
     pub of-lower : M * M * dx ≤ nx * (2 * W * (2 * W)) → (Y + R) * (Y + R) ≤ A * L * 4
     of-lower h = le-of-mul-le-mul-right (le-trans (le-of-eq (sym left)) (le-trans (mul-le-mul-right (L * L) h) (le-of-eq right))) D

@@ -46,7 +46,7 @@ pub record Said : Type 0 where
 abbrev pub said : Answer → ℕ → List Finished → Said
 said answer line points = record { answer = answer; line = line; points = points }
 
--- and its bytes
+-- the bytes of what the program says
 abbrev pub inBytes : Said → List ℕ
 inBytes s = reportOf (s .answer) (s .line) (s .points)
 

@@ -147,7 +147,7 @@ module _ (job : Job) (P : Passed job) where
       no-room : (i : ℕ) → 0 < i → i < 1 → ⊥
       no-room i g s = omega arith
 
-  -- ---- and in one alone
+  -- ---- each spline is in only one contour
   after : (a b i : ℕ) → Contour job a b → a < i → commandAt job i ≡ moveCommand → b ≤ i
   after a b i C l m = go (decLt i b)
     where
@@ -165,7 +165,7 @@ module _ (job : Job) (P : Passed job) where
   same-order : (a c : ℕ) → (a < c → ⊥) → (c < a → ⊥) → c ≡ a
   same-order a c h k = omega arith
 
-  -- of two contours that begin at one Move, the next Move is one
+  -- two contours that begin at the same Move end at the same next Move
   not-short : (a b d : ℕ) → Contour job a b → Contour job a d → b < d → ⊥
   not-short a b d B D l = elim (B .closes) [ inl e ↦ lt-irrefl b (lt-of-lt-of-le l (le-trans (D .inside) (le-of-eq (sym e)))) | inr m ↦ D .between b (B .order) l m ]
 

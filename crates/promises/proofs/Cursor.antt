@@ -153,7 +153,7 @@ module _ (q : QuadTable) (total : Float) (lo l j m : ℕ) (R : Span q total lo (
       pred : (i : ℕ) → i - 1 ≤ i
       pred i = omega arith
 
-  -- on one quad alone
+  -- a step falls on one quad only
   pub falls-once : (p i i' : ℕ) → Falls p i → Falls p i' → i ≡ i'
   falls-once p i i' F G = equal i i' (not-less p i i' F G) (not-less p i' i G F)
     where

@@ -209,7 +209,7 @@ module _ (text : List ℕ) where
   refused-given s BadText l R h = absurd (not-le-of-lt (lit< tt) h)
   refused-given s InputTooLong l R h = absurd (not-le-of-lt (lit< tt) h)
 
-  -- and a refused flattening 5 to 9
+  -- a refused flattening is 5 to 9
   flat-given : Short text → (a : Answer) → Flattens text a → FiveToNine a → GivenWhen text a 0
   flat-given s Done F h = absurd (not-le-of-lt (lit< tt) (h .0))
   flat-given s BadCoordinate F h = absurd (not-le-of-lt (lit< tt) (h .0))

@@ -49,11 +49,11 @@ module _ (setting : Setting) (caps : Capacities) where
       ∙ next-is (R .primitive) (R .after) v (R .pushed)
       ∙ run-stays setting caps (R .after) (pushOf setting caps (R .primitive) v) (ap isDone (refuses-answer setting caps v (R .cause)) ∙ refuses-not-done (R .cause))
 
-  -- it gives the run's answer
+  -- the refused primitive gives the run's answer
   pub refused-answer : (ps : List Primitive) (w : World) (a : Answer) → RefusedIn setting caps ps w a → runOf setting caps ps w .state .answer ≡ a
   refused-answer ps w a R = ap (λ (x : World). x .state .answer) (refused-run ps w a R) ∙ refuses-answer setting caps (runOf setting caps (R .before) w) (R .cause)
 
-  -- and keeps the counts and the tables
+  -- the refused primitive keeps the counts and the tables
   push-kept : (w : World) {b : Bool} {w' : World} → Pushed caps w b w' → isDone (w .state .answer) ≡ true → isDone (w' .state .answer) ≡ false → w' ≡ world (refusedOf (w .state) (w' .state .answer)) (w .quads) (w .splines)
   unfolding refusedOf markedOf applyOf splineEditOf
   push-kept w (kept answer) d h = refl

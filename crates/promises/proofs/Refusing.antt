@@ -167,7 +167,7 @@ module _ (setting : Setting) (caps : Capacities) (w : World) where
   pub refuses-answer : {p : Primitive} {a : Answer} → Refuses setting caps w p a → pushOf setting caps p w .state .answer ≡ a
   refuses-answer {p} r = push-answer p ∙ cause-answer r
 
-  -- ---- and an answer has its cause
+  -- ---- each refusal has its cause
   line-told : (p0 p1 : WeightedPoint) → (lineAnswer p0 p1 ≡ Done) ⊎ (T (opensAt setting w (legOf p0 p1) p0) × (caps .splines ≤ w .state .splines) × (lineAnswer p0 p1 ≡ SplinesFull))
   unfolding lineAnswer full
   line-told p0 p1 = go (opensAt setting w (legOf p0 p1) p0) (leb (caps .splines) (w .state .splines)) (leb→le (caps .splines) (w .state .splines))

@@ -321,7 +321,7 @@ module _ (setting : Setting) (caps : Capacities) (w : World) (S : Sound caps w) 
     pub no-stray : NoStray setting left
     no-stray = record { has-step = quad-stepped; stays = step-stays }
 
--- ---- of an accepted drawing
+-- ---- 3e and 3f for an accepted drawing
 pub demand3e : Demand3e
 unfolding walked
 demand3e job h k i =

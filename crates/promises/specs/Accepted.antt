@@ -65,7 +65,7 @@ pub record Within (job : Job) (a b k : ℕ) : Type 0 where
   pub from : splinesBefore job a ≤ k
   pub below : k < splinesBefore job b
 
--- and is the last one opened there
+-- spline k is the last one opened in its contour
 pub record ContourLast (job : Job) (k : ℕ) : Type 0 where
   pub a : ℕ
   pub b : ℕ

@@ -136,6 +136,6 @@ drawAll line (c ∷ cs) o =
 abbrev pub GoodReads : Type 0
 GoodReads = (commands : List TextCommand) (first : Outcome) → Proper commands → readOf (printed commands) first ≡ drawAll 1 commands first
 
--- and no other list of commands prints the same text
+-- no other list of commands prints the same text
 abbrev pub GoodOnce : Type 0
 GoodOnce = (commands others : List TextCommand) → Proper commands → Proper others → printed commands ≡ printed others → commands ≡ others

@@ -102,7 +102,7 @@ TwoPointsSettled = (end line : ℕ) → Settles (λ (r : TwoPoints). twoPointsFi
 abbrev pub ThreePointsSettled : Type 0
 ThreePointsSettled = (end line : ℕ) → Settles (λ (r : ThreePoints). threePointsFields r end line)
 
--- ---- and its reading, `progressOf r columns ≡ d`: the result always, and the columns unless it stopped at a fault or a refused command
+-- ---- inside the program: reading, `progressOf r columns ≡ d`. It settles the result, and the columns unless reading stopped at a fault or a refused command
 pub data HasStopped : Progress → Type 0 where
   has-stopped : (a : Answer) (line : ℕ) → HasStopped (stopped a line)
 

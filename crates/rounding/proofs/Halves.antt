@@ -127,7 +127,7 @@ halve-ge h r = go (h % 2) r (h / 2)
     go (suc b) zero q = tie q
     go (suc b) (suc r) q = le-suc q
 
--- ---- by one addition: of D less one, and one more where the whole part is odd, so that a half goes to the even number
+-- ---- rounding by one addition: D less one is added, and one more if the whole part is odd, so that a half goes to the even number
 module _ (w D : ℕ) (P : 0 < D) where
   h : ℕ
   h = w / D

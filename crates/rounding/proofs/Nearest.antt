@@ -127,7 +127,7 @@ module _ (p n b : ℕ) (P : 0 < p) (B : 0 < b) where
       more : (x y : ℕ) → x ≤ n → x ≤ y + n
       more x y h = omega arith
 
-  -- as near from the other side: only 0 can be
+  -- a value of the other sign can be as near only if it is 0
   other-side : (X : ℕ) → gap (R * b) n ≡ X * b + n → (X ≡ 0) × (gap (R * b) n ≡ gap (0 * 2 ^ drop p n b * b) n)
   other-side X g = (
     none X B (first (gap (R * b) n) (X * b) g near-zero),

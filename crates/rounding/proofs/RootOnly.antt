@@ -71,7 +71,7 @@ module _ (f : Format) (c z q k : ℕ) (C : c < 2 ^ prec f) (Z : 0 < z) (K : Lead
   no-middle : c * 2 ^ z ≡ m * m * 2 ^ (k + k) → ⊥
   no-middle e = elim (le-or-lt z (k + k)) [ inl l ↦ few l e | inr l ↦ many l e ]
 
--- ---- so of two nearest values, R = q * 2 ^ k and S = d * 2 ^ i, none is the smaller
+-- ---- so of two nearest values, R = q * 2 ^ k and S = d * 2 ^ i, neither is smaller
 -- no value of the format is nearer than R to the root of n squares of the smallest value
 abbrev pub NearRoot : Format → ℕ → ℕ → Type 0
 NearRoot f n R = (q k : ℕ) → q ≤ 2 ^ prec f → q * 2 ^ k < overflow f → Sides n R (q * 2 ^ k)
@@ -118,7 +118,7 @@ module _ (f : Format) (c j : ℕ) (C : c < 2 ^ prec f) where
         swap : (R S Y : ℕ) → Y ≤ S → Y + R ≤ R + S
         swap R S Y a = omega arith
 
--- ---- of the root of a finite x of the format
+-- ---- the same for the root of a finite x of the format
 module _ (f : Format) (x r r' : Float) where
   abbrev Root : Float → Type 0
   Root v = T (fits f v) × T (finite v) × NearRoot f (worth f x * 2 ^ low f) (worth f v)

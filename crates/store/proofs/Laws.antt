@@ -97,7 +97,7 @@ fresh-refused-keeps c e = go (evenOf c) (eqb (length (c .x)) 0 || eqb (length (c
     go true true e = (refl, refl)
     go true false e = absurd (true≢false e)
 
--- ---- by every call but fresh the counts never fall
+-- ---- no call but fresh lowers a count
 moved-count : (st : StoreState) (c : Columns) (p : Point) (again unclosed : Bool)
     → st .points ≤ moved st c p again unclosed .at + length (moved st c p again unclosed .points)
 unfolding moved

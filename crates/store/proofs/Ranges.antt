@@ -29,7 +29,7 @@ stored-inside : (v : Float) → storedOkOf v ≡ inside 22 v
 unfolding storedOkOf inside ofBits
 stored-inside v = refl
 
--- as `le` compares two of one sign: less, or equal
+-- the test by which `le` compares two positive numbers: less, or equal
 test-le : (a b : ℕ) (x : Bool) → (ltb a b || (eqb a b && x)) ≡ true → a ≤ b
 test-le a b x e = go (ltb a b) refl e
   where
@@ -40,7 +40,7 @@ test-le a b x e = go (ltb a b) refl e
 le-test : (a b : ℕ) → a ≤ b → (ltb a b || (eqb a b && true)) ≡ true
 le-test a b h = elim (eq-or-lt-of-le h) [ inl p ↦ or-right (ltb a b) (and-both (eqb a b) true (eq-eqb a b p) refl) | inr q ↦ rw (lt-ltb a b q) ]
 
--- and of two negative ones
+-- the test by which `le` compares two negative ones
 test-ge : (a b : ℕ) (x : Bool) → (ltb b a || (eqb a b && x)) ≡ true → b ≤ a
 test-ge a b x e = go (ltb b a) refl e
   where

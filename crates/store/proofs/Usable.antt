@@ -54,7 +54,7 @@ module _ (st : StoreState) (c : Columns) where
         opening = ltb-true (st .opening) (st .points) (and-right t₄ _ e);
       }
 
-  -- as the code tests it: no command is read for the lengths
+  -- the same as the code tests it: comparing the lengths needs no commands
   module _ (even : Bool) (h : even ≡ evenOf (columns (c .x) (c .y) (c .weight) [])) where
     tested : countedOf even ≡ countedOf (evenOf c)
     unfolding evenOf

@@ -110,7 +110,7 @@ module _ (setting : Setting) (caps : Capacities) where
   command-no-mark c (suc zero) j = (refl, tt)
   command-no-mark c (suc (suc k)) j = cubic-no-mark (cubicFrom c (j - 1))
 
-  -- ---- and the commands
+  -- ---- the Moves of the command list
   module _ (c : Columns) where
     -- the run of the commands before the i-th
     abbrev pub before : List ℕ → ℕ → World → ℕ → World

@@ -106,7 +106,7 @@ module _ (s c : Float) (S : T (natural s)) (most : num s ≤ 65536 * den s) (B :
       (round-mono binary32 (suc p) 1 (num s * den c + num c * den s) (den s * den c) (zero-lt-suc 0) (mul-pos (den-pos s) (den-pos c))
       (exact-reach p (num s) (den s) (num c) (den c) h (le-of-lt (B .over))))
 
-  -- so it is a number
+  -- so the sum is not NaN
   pub sum-number : s ⊕ c ≡ nan → ⊥
   sum-number e = subst (λ (z : Float). T (above z)) e (above-of-le (whole32 1) (s ⊕ c) (whole-positive 1 (lit≤ tt) (zero-lt-suc 0)) (above-whole 0 zero-le (le-trans (le-of-eq (zero-mul (den s))) zero-le)))
 
@@ -133,7 +133,7 @@ module _ (s c : Float) (S : T (natural s)) (most : num s ≤ 65536 * den s) (B :
         le-trans (le-of-eq (sym (mul-one (num (s ⊕ c)))))
         (values-of-le (s ⊕ c) limit32 (num (s ⊕ c)) (den (s ⊕ c)) 65536 1 sum-real limit-positive (own-value (s ⊕ c) sum-real) limit-value fit)
 
--- on a sum that is above 1 it stays above 1
+-- a sum above 1 stays above 1 when a quad's curvature is added
 pub sum-after : (s c : Float) → Sum s → Bent c → T (le (s ⊕ c) limit32) → Sum (s ⊕ c) × Reaches s (s ⊕ c)
 sum-after s c S B fit =
     let n = positive-natural s (S .real) in

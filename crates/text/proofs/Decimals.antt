@@ -27,7 +27,7 @@ tenth k n h =
     let e : 10 ^ suc (suc k) ≡ 10 ^ suc k * 10 = pow-suc 10 (suc k) in
     omega arith
 
--- with digits enough, one more changes nothing
+-- if the digits are enough, allowing one more changes nothing
 enough : (k n : ℕ) (b : Bool) → ltb n 10 ≡ b → n < 10 ^ suc k → digits k n ≡ digits (suc k) n
 enough zero n b e h = let t : n < 10 = h in few 0 n t ∙ sym (few 1 n t)
 enough (suc k) n true e h = few (suc k) n (ltb-true n 10 e) ∙ sym (few (suc (suc k)) n (ltb-true n 10 e))

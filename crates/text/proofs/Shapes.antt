@@ -16,7 +16,7 @@ use Rattle.text.proofs.Hexes.{DigitsOf, digits-of, digits-hex, hex-digi
 
 -- ---- lists one after another
 module _ {A : Type 0} where
-  -- of two beginnings of a list one begins the other
+  -- of two beginnings of a list, one is a beginning of the other
   pub data Overlap (xs ys zs ws : List A) : Type 0 where
     shorter : (between : List A) → zs ≡ xs ++ between → ys ≡ between ++ ws → Overlap xs ys zs ws
     longer : (between : List A) → xs ≡ zs ++ between → ws ≡ between ++ ys → Overlap xs ys zs ws
@@ -40,7 +40,7 @@ newlines-append (x ∷ a) b = go (eqb x 0x0a) (newlines-append a b)
     go true e = omega arith
     go false e = e
 
--- of two beginnings of a text the longer has no fewer newlines
+-- of two beginnings of a text, the longer has no fewer newlines
 pub newlines-longer : (a b x y : List ℕ) → a ++ x ≡ b ++ y → length a ≤ length b → newlines a ≤ newlines b
 unfolding newlines
 newlines-longer [] b x y h l = omega arith

@@ -17,7 +17,7 @@ both-true true true h = (refl, refl)
 both-true true false h = absurd (let z : _≡_ {A = ℕ} 0 1 = cc in omega arith)
 both-true false b h = absurd (let z : _≡_ {A = ℕ} 0 1 = cc in omega arith)
 
--- ---- of a part of the text, the bytes from the place on
+-- ---- laws over the bytes from a place on
 abbrev begins : List ℕ → List ℕ → Bool
 begins rest fixed = sameBytes (take (length fixed) rest) fixed
 
@@ -33,7 +33,7 @@ same-length [] (b ∷ ys) h = absurd (let z : _≡_ {A = ℕ} 0 1 = cc in omega 
 same-length (a ∷ xs) [] h = absurd (let z : _≡_ {A = ℕ} 0 1 = cc in omega arith)
 same-length (a ∷ xs) (b ∷ ys) h = ap suc (same-length xs ys (both-true (eqb a b) (sameBytes xs ys) h .1))
 
--- ---- of a place in the text
+-- ---- laws over a place in the text
 pub stands-nothing : (text : List ℕ) (at : ℕ) → standsAt text at [] ≡ true
 unfolding standsAt partAt sameBytes
 stands-nothing text at = refl
