@@ -20,7 +20,8 @@ use Rattle.evaluate.specs.declared.Place.{Place}
 use Rattle.evaluate.specs.declared.StepQuad.{StepQuad}
 use Rattle.evaluate.specs.Evaluate.{finished, stepQuadOf, stepPointOf}
 use Rattle.evaluate.specs.Output.{Output, fitsOutput, writeOutput}
-use Rattle.evaluate.specs.Writing.{Written, written, placeAt, writeEntryOf, writeStartOf, writeStepsFrom, writeStepsOf, endPlaceOf, writeSplineOf, writeWalkFrom, writeWalkOf, Delivery, delivery, deliverOf}
+use Rattle.evaluate.specs.Writing.{Written, written, placeAt, writeEntryOf, writeStartOf, writeStepsFrom, writeStepsOf, endPlaceOf, writeSplineOf, writeWalkFrom, writeWalkOf}
+use Rattle.evaluate.specs.Delivery.{Delivery, delivery, deliverOf}
 use Rattle.evaluate.proofs.Entries.{cursor-from-bound, steps-place, spline-written, walk-written}
 
 -- outputs as long as others

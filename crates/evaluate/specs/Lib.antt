@@ -1,4 +1,5 @@
 pub mod Three
 pub mod Evaluate
 pub mod Output
+pub mod Delivery
 pub mod Writing

@@ -1,23 +1,21 @@
--- `deliverOf`, at the end, is what the public `deliver` gives: the walk is written if it fits. All before `Delivery` is scaffolding: the same walk written
--- entry by entry, for the contracts of private functions in src/writing.rt; no promise rests on it. Assumes nothing.
+-- Scaffolding: the walk of `deliverOf` (Delivery) written entry by entry, for the contracts of private functions in src/writing.rt; no promise rests on it.
+-- Assumes nothing.
 use Prim.Native.Nat.{ℕ, zero, suc, _+_, _-_}
-use mathlib.Core.Bool.{Bool, true, false, cond}
+use mathlib.Core.Bool.{false, cond}
 use lib.Dec.{eqb}
 use lib.Ieee.{Float}
-use lib.ListN.{length, set}
+use lib.ListN.{set}
 use Rattle.leaves.specs.Whole.{wholeUpOf}
 use Rattle.command.specs.declared.PointCommand.the-variants.{Start, Incr, End}
 use Rattle.command.specs.Packing.{packOf}
 use Rattle.columns.specs.Flags.{flagByteOf}
-use Rattle.point.specs.declared.Setting.{Setting}
 use Rattle.primitives.specs.declared.SplineRow.{SplineRow}
 use Rattle.tables.specs.Tables.{QuadTable, SplineTable, splineAt}
-use Rattle.walk.specs.Walk.{cursorAt, startsAfterOf, walkOf}
+use Rattle.walk.specs.Walk.{cursorAt, startsAfterOf}
 use Rattle.walk.specs.Length.{stepsOf, sizeOf}
 use Rattle.evaluate.specs.declared.Place.{Place}
-use Rattle.evaluate.specs.declared.Delivered.{Delivered}
 use Rattle.evaluate.specs.Evaluate.{Finished, finished, stepQuadOf, stepPointOf}
-use Rattle.evaluate.specs.Output.{Output, output, fitsOutput, writeOutput}
+use Rattle.evaluate.specs.Output.{Output, output}
 
 -- the outputs, and the place that comes next
 pub record Written : Type 0 where
@@ -70,17 +68,3 @@ writeWalkFrom q s (suc n) k from o =
 
 unfoldable pub writeWalkOf : QuadTable → SplineTable → ℕ → Output → Output
 writeWalkOf q s n o = writeWalkFrom q s n 0 (placeAt 0 0) o
-
--- whether the walk fits and how long it is, with the outputs
-pub record Delivery : Type 0 where
-  pub result : Delivered
-  pub output : Output
-
-abbrev pub delivery : Bool → ℕ → Output → Delivery
-delivery fits points output = record { result = record { fits = fits; points = points }; output = output }
-
--- "9: words or outputs are shorter than the walk": then nothing is written
-unfoldable pub deliverOf : Setting → QuadTable → SplineTable → ℕ → Output → Delivery
-deliverOf setting q s n o =
-    let items = walkOf setting q s n in
-    cond (fitsOutput (length items) o) (delivery true (length items) (writeOutput q s items o)) (delivery false 0 o)

@@ -17,7 +17,7 @@ use Rattle.tables.specs.Run.{World, world}
 use Rattle.tables.specs.Commands.{tablesOf}
 use Rattle.walk.specs.Walk.{Item, walkOf}
 use Rattle.evaluate.specs.Output.{Output, fitsOutput, writeOutput}
-use Rattle.evaluate.specs.Writing.{Delivery, delivery, deliverOf}
+use Rattle.evaluate.specs.Delivery.{Delivery, delivery, deliverOf}
 use Rattle.flatten.specs.declared.Flattened.{Flattened}
 use Rattle.flatten.specs.Flatten.{Flattening, flattened, flattening, walked, tabled, flattenDrawable, flattenOf}
 

@@ -16,7 +16,7 @@ use Rattle.store.specs.Columns.{Columns, columns, stateAt}
 use Rattle.store.specs.Drawing.{outcome}
 use Rattle.tables.specs.Tables.{QuadTable, SplineTable, quadTable, splineTable}
 use Rattle.tables.specs.Run.{world}
-use Rattle.evaluate.specs.Writing.{delivery}
+use Rattle.evaluate.specs.Delivery.{delivery}
 use Rattle.flatten.specs.declared.Flattened.{Flattened}
 use Rattle.flatten.specs.Flatten.{Output, output, flattening}
 use Rattle.listing.specs.declared.Pair as Pairs
