@@ -16,6 +16,7 @@ use lib.Ieee.Exact.{HasValue}
 use lib.Ieee.Nearest.{div-same}
 use lib.Ieee.Scale.{finite, round-same}
 use lib.Ieee.Positive.{num, den, den-pos}
+use mir.Facts.{or-yes}
 use Rattle.rounding.specs.Parts.{sig, place}
 use Rattle.rounding.proofs.Parts.{decode}
 use Rattle.rounding.proofs.Values.{cross}
@@ -187,15 +188,11 @@ limit-is : limit32 ≡ fin false 1 (pos 16)
 unfolding ofBits
 limit-is = refl
 
-or-split : (a b : Bool) → T (a || b) → T a ⊎ T b
-or-split true b t = inl tt
-or-split false b t = inr t
-
 lower : (e : ℤ) (n : ℕ) → T (false || (eqb (0 * down e) (n * 1) && (false || eqb (0 * down e) 0))) → n ≡ 0
 lower e n h = sym (sym (zero-mul (down e)) ∙ eqb→eq (0 * down e) (n * 1) (and-l (eqb (0 * down e) (n * 1)) (false || eqb (0 * down e) 0) h) ∙ mul-one n)
 
 upper : (a b : ℕ) → T (ltb (a * 1) b || (eqb (a * 1) b && (true || eqb (a * 1) 0))) → a ≤ b
-upper a b h = elim (or-split (ltb (a * 1) b) (eqb (a * 1) b && true) h) [
+upper a b h = elim (or-yes (ltb (a * 1) b) (eqb (a * 1) b && true) h) [
   | inl u ↦ subst (λ (x : ℕ). x ≤ b) (mul-one a) (le-of-lt (ltb→lt (a * 1) b u))
   | inr u ↦ subst (λ (x : ℕ). x ≤ b) (mul-one a) (le-of-eq (eqb→eq (a * 1) b (and-l (eqb (a * 1) b) true u)))
 ]

@@ -2,7 +2,7 @@
 -- after their loop, each with what its triple binds and what a call of it is given.
 -- Assumes `Given`.
 use mathlib.Core.Path.{_≡_, refl}
-use mathlib.Core.Bool.{Bool, true, false, cond, _&&_, false≢true}
+use mathlib.Core.Bool.{Bool, true, false, cond, _&&_, and-eq-true-iff}
 use Prim.Native.Nat.{ℕ, suc, _+_, _≤_, _<_, _^_, zero-le}
 use native.Mathlib.Nat.{le-refl, not-suc-le-zero}
 use native.Mathlib.Omega.{arith}
@@ -56,19 +56,15 @@ pub record Rooms (ys : List Spline) (t : SplineTable) : Type 0 where
   pub p2y-room : Room f32 (length (t .p2y))
   pub contour-room : Room u8 (length (t .contour))
 
-both : (a b : Bool) → (a && b) ≡ true → (a ≡ true) × (b ≡ true)
-both true b e = (refl, e)
-both false b e = absurd (false≢true e)
-
 all-true : (a b c d e f g : Bool) → (a && b && c && d && e && f && g) ≡ true
     → (a ≡ true) × (b ≡ true) × (c ≡ true) × (d ≡ true) × (e ≡ true) × (f ≡ true) × (g ≡ true)
 all-true a b c d e f g h =
-    let h6 = both (a && b && c && d && e && f) g h in
-    let h5 = both (a && b && c && d && e) f (h6 .0) in
-    let h4 = both (a && b && c && d) e (h5 .0) in
-    let h3 = both (a && b && c) d (h4 .0) in
-    let h2 = both (a && b) c (h3 .0) in
-    let h1 = both a b (h2 .0) in
+    let h6 = and-eq-true-iff (a && b && c && d && e && f) g .0 h in
+    let h5 = and-eq-true-iff (a && b && c && d && e) f .0 (h6 .0) in
+    let h4 = and-eq-true-iff (a && b && c && d) e .0 (h5 .0) in
+    let h3 = and-eq-true-iff (a && b && c) d .0 (h4 .0) in
+    let h2 = and-eq-true-iff (a && b) c .0 (h3 .0) in
+    let h1 = and-eq-true-iff a b .0 (h2 .0) in
     (h1 .0, h1 .1, h2 .1, h3 .1, h4 .1, h5 .1, h6 .1)
 
 pub equal : (ys : List Spline) (t : SplineTable) (n : ℕ) → equalOf ys t n ≡ true → Equal ys t n

@@ -1,7 +1,7 @@
 -- The way there and back: a list that `spread` wrote to the columns is what `fill` then reads from them, whatever the list that it fills held.
 -- Assumes nothing.
-use mathlib.Core.Path.{_≡_, refl, sym, _∙_, ap}
-use mathlib.Core.Bool.{Bool, true, false, cond}
+use mathlib.Core.Path.{_≡_, sym, _∙_, ap}
+use mathlib.Core.Bool.{Bool, true, cond}
 use Prim.Native.Nat.{ℕ, _≤_, _<_}
 use native.Mathlib.Nat.{le-of-eq}
 use native.Mathlib.Omega.{arith}
@@ -9,17 +9,12 @@ use mathlib.Core.List.{List}
 use lib.Ieee.{nan}
 use lib.ListN.{length, getD}
 use lib.Seq.{ext-getD}
-use Rattle.columns.specs.Flags.{flagByteOf, isFlagOf}
+use Rattle.columns.proofs.Flags.{flag-back}
 use Rattle.tables.specs.Tables.{SplineTable, splineTable}
 use Rattle.spline_list.specs.declared.Spline.{Spline}
 use Rattle.spline_list.specs.Rows.{blank, rowAtOf, equalOf, fills, spreads, fillOf, spreadOf}
 use Rattle.spline_list.proofs.Laws.{stores-length, stores-at, curvature-of, p0x-of, p0y-of, p2x-of, p2y-of, contour-of, puts, puts-length, puts-spreads}
 use Rattle.spline_list.proofs.Agreed.{Equal, equal}
-
-flag-back : (flag : Bool) → isFlagOf (flagByteOf flag) ≡ flag
-unfolding flagByteOf isFlagOf
-flag-back true = refl
-flag-back false = refl
 
 -- the columns once the list is spread
 abbrev written : List Spline → ℕ → SplineTable → SplineTable
