@@ -8,8 +8,8 @@ ghost use lib.ListN.{length};
 ghost use Rattle.store.specs.Columns.{columns, evenOf, usableOf, storedPointOf, putPoint};
 ghost use Rattle.store.specs.Closing.{unclosedOf};
 ghost use Rattle.store.specs.Plan.{Standing, Room};
-use columns::read_f32;
 use crate::StoreState;
+use columns::read_f32;
 use point::Point;
 use point::WeightedPoint;
 

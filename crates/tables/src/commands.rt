@@ -2,7 +2,6 @@
 use crate::capacity::least;
 use crate::capacity::quad_capacity;
 use crate::capacity::spline_capacity;
-use crate::rows::below;
 use crate::run::push;
 use crate::run::push_cubic;
 use answer::Answer;
@@ -14,6 +13,7 @@ use primitives::Capacities;
 use primitives::Cubic;
 use primitives::Primitive;
 use primitives::State;
+use primitives::below;
 use store::CUBIC;
 use store::LINE;
 use store::MOVE;
