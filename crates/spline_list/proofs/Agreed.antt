@@ -29,15 +29,15 @@ use denote.Triple.Entry.{Vals}
 use denote.Triple.Spec.{tripleOf}
 use denote.Triple.Statement.{Contract}
 use Rattle.tables.specs.Tables.{SplineTable}
-use Rattle.spline_list.specs.declared.Spline.{Spline}
+use Rattle.primitives.specs.declared.SplineRow.{SplineRow}
 use Rattle.spline_list.specs.Rows.{equalOf, countOf}
-use Rattle.spline_list.proofs.Spline as T
+use Rattle.primitives.proofs.SplineRow as T
 use Rattle.spline_list.proofs.agree as agree
 use Rattle.spline_list.proofs.count as count
 use Rattle.spline_list.proofs.outcome as outcome
 
 -- the list has n records, and no column ends before n
-pub record Equal (ys : List Spline) (t : SplineTable) (n : ℕ) : Type 0 where
+pub record Equal (ys : List SplineRow) (t : SplineTable) (n : ℕ) : Type 0 where
   pub list-is : n ≡ length ys
   pub curvature-has : n ≤ length (t .curvature)
   pub p0x-has : n ≤ length (t .p0x)
@@ -47,7 +47,7 @@ pub record Equal (ys : List Spline) (t : SplineTable) (n : ℕ) : Type 0 where
   pub contour-has : n ≤ length (t .contour)
 
 -- what is known of the lengths of slices, whatever they are
-pub record Rooms (ys : List Spline) (t : SplineTable) : Type 0 where
+pub record Rooms (ys : List SplineRow) (t : SplineTable) : Type 0 where
   pub list-room : Room T.the-row (length ys)
   pub curvature-room : Room f32 (length (t .curvature))
   pub p0x-room : Room f32 (length (t .p0x))
@@ -67,7 +67,7 @@ all-true a b c d e f g h =
     let h1 = and-eq-true-iff a b .0 (h2 .0) in
     (h1 .0, h1 .1, h2 .1, h3 .1, h4 .1, h5 .1, h6 .1)
 
-pub equal : (ys : List Spline) (t : SplineTable) (n : ℕ) → equalOf ys t n ≡ true → Equal ys t n
+pub equal : (ys : List SplineRow) (t : SplineTable) (n : ℕ) → equalOf ys t n ≡ true → Equal ys t n
 equal ys t n e =
     let h =
     all-true (eqb n (length ys)) (leb n (length (t .curvature))) (leb n (length (t .p0x))) (leb n (length (t .p0y))) (leb n (length (t .p2x)))
@@ -116,7 +116,7 @@ module _ {M : Type 1} (𝓤 : URA M) (H : Heap 𝓤) (A : Atoms 𝓤) (mem : Mem
       let words : Vals agree.signature tt = (word n, (word list, (word curvature, (word p0x, (word p0y, (word p2x, (word p2y, (word contour, tt)))))))) in
       ((tt, tt, tt, (n, (list, (curvature, (p0x, (p0y, (p2x, (p2y, (contour, tt)))))))), words), tt)
 
-  abbrev pub to-agree : List Spline → SplineTable → ℕ → Agree .Ghost
+  abbrev pub to-agree : List SplineRow → SplineTable → ℕ → Agree .Ghost
   to-agree ys t n =
       lengths n (length ys) (length (t .curvature)) (length (t .p0x)) (length (t .p0y)) (length (t .p2x)) (length (t .p2y)) (length (t .contour))
 
@@ -127,7 +127,7 @@ module _ {M : Type 1} (𝓤 : URA M) (H : Heap 𝓤) (A : Atoms 𝓤) (mem : Mem
   to-outcome agreed = ((tt, tt, tt, (agreed, tt), (vbool agreed ∷ [], tt)), tt)
 
   module _ (W : Given 𝓤 H A) where
-    pub goes-agree : (ys : List Spline) (t : SplineTable) (n : ℕ) → Rooms ys t → n < 2 ^ 64 → ent 𝓤 (emp 𝓤) (Agree .pre (to-agree ys t n))
+    pub goes-agree : (ys : List SplineRow) (t : SplineTable) (n : ℕ) → Rooms ys t → n < 2 ^ 64 → ent 𝓤 (emp 𝓤) (Agree .pre (to-agree ys t n))
     goes-agree ys t n rooms small =
         qed W [] ∵ nothing ! $
         owned ! usize (Is usize) (uint-makes 𝓤 H A W w64) (length (t .contour)) _ (refl, rooms .contour-room .0) $ fjoin ! $

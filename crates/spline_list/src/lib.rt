@@ -12,18 +12,11 @@ use columns::put_u8;
 use columns::read_f32;
 use columns::read_u8;
 use point::Point;
-
-// A spline of the table: curvature is its sum.
-pub struct Spline {
-    pub curvature: f32,
-    pub p0: Point,
-    pub p2: Point,
-    pub contour: bool,
-}
+use primitives::SplineRow;
 
 // What stands at an index of a list.
 pub enum Found {
-    At(Spline),
+    At(SplineRow),
     Past,
 }
 
@@ -42,10 +35,10 @@ pub fn row_at<'c>(
     p2y: &'c [f32],
     contour: &'c [u8],
     i: usize,
-) -> Spline
+) -> SplineRow
     ensures { λ r. ⌜ r ≡ rowAtOf (splineTable (now (curvature .entry)) (now (p0x .entry)) (now (p0y .entry)) (now (p2x .entry)) (now (p2y .entry)) (now (contour .entry))) i ⌝ }
 {
-    Spline {
+    SplineRow {
         curvature: read_f32(curvature, i),
         p0: Point {
             x: read_f32(p0x, i),
@@ -68,7 +61,7 @@ pub fn put_row(
     p2y: &mut [f32],
     contour: &mut [u8],
     i: usize,
-    v: Spline,
+    v: SplineRow,
 )
     ensures { λ _. ⌜ splineTable (now (curvature .exit)) (now (p0x .exit)) (now (p0y .exit)) (now (p2x .exit)) (now (p2y .exit)) (now (contour .exit)) ≡ putRowOf (splineTable (now (curvature .entry)) (now (p0x .entry)) (now (p0y .entry)) (now (p2x .entry)) (now (p2y .entry)) (now (contour .entry))) i v ⌝ }
 {
@@ -129,7 +122,7 @@ fn outcome(agreed: bool) -> Copied
 
 // The first n rows of the columns go to a list of n records.
 pub fn fill<'l, 'c>(
-    list: &'l mut [Spline],
+    list: &'l mut [SplineRow],
     curvature: &'c [f32],
     p0x: &'c [f32],
     p0y: &'c [f32],
@@ -161,7 +154,7 @@ pub fn fill<'l, 'c>(
 
 // The way back: the n records of a list go to the first n rows of the columns, and the rows past them stay.
 pub fn spread(
-    list: &[Spline],
+    list: &[SplineRow],
     curvature: &mut [f32],
     p0x: &mut [f32],
     p0y: &mut [f32],
@@ -197,7 +190,7 @@ pub fn spread(
     outcome(agreed)
 }
 
-fn here(v: Spline) -> Found
+fn here(v: SplineRow) -> Found
     ensures { λ r. ⌜ r ≡ Found.At v ⌝ }
 {
     Found::At(v)
@@ -209,7 +202,7 @@ fn nowhere() -> Found
     Found::Past
 }
 
-pub fn spline_at(list: &[Spline], i: usize) -> Found
+pub fn spline_at(list: &[SplineRow], i: usize) -> Found
     ensures { λ r. ⌜ r ≡ splineAtOf (now (list .entry)) i ⌝ }
 {
     if i < list.len() {
@@ -220,7 +213,7 @@ pub fn spline_at(list: &[Spline], i: usize) -> Found
 }
 
 // Whether i is within the list; past it nothing is written.
-pub fn put_spline(list: &mut [Spline], i: usize, v: Spline) -> bool
+pub fn put_spline(list: &mut [SplineRow], i: usize, v: SplineRow) -> bool
     ensures { λ r. ⌜ (r ≡ ltb i (length (now (list .entry)))) × (now (list .exit) ≡ set (now (list .entry)) i v) ⌝ }
 {
     if i < list.len() {

@@ -1,7 +1,7 @@
 # `row_at` is called with 0: after i turns the first i records are the first row.
 s/outcomeOf, fills}/outcomeOf, stores}/
 /^fills-len : /i\
-abbrev fills : SplineTable → ℕ → List Spline → List Spline\
+abbrev fills : SplineTable → ℕ → List SplineRow → List SplineRow\
 fills t n ys = stores (λ (j : ℕ). rowAtOf t 0) n ys\
 
 s/stores-length (rowAtOf k) ys i/stores-length (λ (j : ℕ). rowAtOf k 0) ys i/
