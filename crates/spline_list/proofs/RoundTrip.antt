@@ -10,9 +10,9 @@ use lib.Ieee.{nan}
 use lib.ListN.{length, getD}
 use lib.Seq.{ext-getD}
 use Rattle.columns.proofs.Flags.{flag-back}
-use Rattle.tables.specs.Tables.{SplineTable, splineTable}
+use Rattle.tables.specs.Tables.{SplineTable, splineTable, splineAt}
 use Rattle.primitives.specs.declared.SplineRow.{SplineRow}
-use Rattle.spline_list.specs.Rows.{blank, rowAtOf, equalOf, fills, spreads, fillOf, spreadOf}
+use Rattle.spline_list.specs.Rows.{blank, equalOf, fills, spreads, fillOf, spreadOf}
 use Rattle.spline_list.proofs.Laws.{stores-length, stores-at, curvature-of, p0x-of, p0y-of, p2x-of, p2y-of, contour-of, puts, puts-length, puts-spreads}
 use Rattle.spline_list.proofs.Agreed.{Equal, equal}
 
@@ -26,7 +26,8 @@ module _ (ys : List SplineRow) (t : SplineTable) (n : ℕ) (e : Equal ys t n) wh
   reads : {X : Type 0} (g : SplineRow → X) (xs : List X) (d : X) → n ≤ length xs → (i : ℕ) → i < n → getD (puts g n ys xs) i d ≡ g (getD ys i blank)
   reads g xs d has i less = stores-at (λ (j : ℕ). g (getD ys j blank)) xs d n i less has
 
-  row-back : (i : ℕ) → i < n → rowAtOf (written ys n t) i ≡ getD ys i blank
+  row-back : (i : ℕ) → i < n → splineAt (written ys n t) i ≡ getD ys i blank
+  unfolding splineAt
   row-back i less =
       rw (
         reads curvature-of (t .curvature) nan (e .curvature-has) i less,
@@ -42,10 +43,10 @@ module _ (ys : List SplineRow) (t : SplineTable) (n : ℕ) (e : Equal ys t n) wh
   fills-back zs l = ext-getD blank (fills (written ys n t) n zs) ys (long ∙ sym l ∙ e .list-is) same
     where
       long : length (fills (written ys n t) n zs) ≡ length zs
-      long = stores-length (rowAtOf (written ys n t)) zs n
+      long = stores-length (splineAt (written ys n t)) zs n
 
       same : (i : ℕ) → i < length (fills (written ys n t) n zs) → getD (fills (written ys n t) n zs) i blank ≡ getD ys i blank
-      same i less = stores-at (rowAtOf (written ys n t)) zs blank n i below (le-of-eq l) ∙ row-back i below
+      same i less = stores-at (splineAt (written ys n t)) zs blank n i below (le-of-eq l) ∙ row-back i below
         where
           below : i < n
           below = let h : length (fills (written ys n t) n zs) ≡ length zs = long in omega (arith, h, l, less)

@@ -7,8 +7,8 @@ use lib.Dec.{eqb, leb, ltb}
 use lib.Ieee.{nan}
 use lib.ListN.{length, getD, set}
 use Rattle.point.specs.Point.{pointAt}
-use Rattle.columns.specs.Flags.{flagByteOf, isFlagOf}
-use Rattle.tables.specs.Tables.{SplineTable, splineTable}
+use Rattle.columns.specs.Flags.{flagByteOf}
+use Rattle.tables.specs.Tables.{SplineTable, splineTable, splineAt}
 use Rattle.primitives.specs.declared.SplineRow.{SplineRow}
 use Rattle.spline_list.specs.declared.Found.{Found}
 use Rattle.spline_list.specs.declared.Found.the-variants.{At, Past}
@@ -17,16 +17,6 @@ use Rattle.spline_list.specs.declared.Copied.the-variants.{All, Unequal}
 
 abbrev pub blank : SplineRow
 blank = record { curvature = nan; p0 = pointAt nan nan; p2 = pointAt nan nan; contour = false }
-
--- row i of the columns
-abbrev pub rowAtOf : SplineTable → ℕ → SplineRow
-rowAtOf t i =
-    record {
-      curvature = getD (t .curvature) i nan;
-      p0 = pointAt (getD (t .p0x) i nan) (getD (t .p0y) i nan);
-      p2 = pointAt (getD (t .p2x) i nan) (getD (t .p2y) i nan);
-      contour = isFlagOf (getD (t .contour) i 0);
-    }
 
 -- a record put to row i
 abbrev pub putRowOf : SplineTable → ℕ → SplineRow → SplineTable
@@ -62,7 +52,7 @@ stores g (suc i) xs = set (stores g i xs) i (g i)
 
 -- the first n rows are stored to a list of records
 abbrev pub fills : SplineTable → ℕ → List SplineRow → List SplineRow
-fills t n ys = stores (rowAtOf t) n ys
+fills t n ys = stores (splineAt t) n ys
 
 -- the first n records are put to the rows
 abbrev pub spreads : List SplineRow → ℕ → SplineTable → SplineTable

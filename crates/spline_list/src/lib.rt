@@ -3,15 +3,11 @@
 ghost use mathlib.Core.Path.{_≡_};
 ghost use lib.Dec.{ltb};
 ghost use lib.ListN.{length, set};
-ghost use Rattle.tables.specs.Tables.{splineTable};
-ghost use Rattle.spline_list.specs.Rows.{rowAtOf, putRowOf, splineAtOf, agreeOf, equalOf, countOf, outcomeOf, fillOf, spreadOf};
+ghost use Rattle.tables.specs.Tables.{splineTable, splineAt};
+ghost use Rattle.spline_list.specs.Rows.{putRowOf, splineAtOf, agreeOf, equalOf, countOf, outcomeOf, fillOf, spreadOf};
 use columns::flag_byte;
-use columns::is_flag;
 use columns::put_f32;
 use columns::put_u8;
-use columns::read_f32;
-use columns::read_u8;
-use point::Point;
 use primitives::SplineRow;
 
 // What stands at an index of a list.
@@ -26,7 +22,7 @@ pub enum Copied {
     Unequal,
 }
 
-// Row i of the columns, as a record.
+// Row i of the columns, as a record. The walk of `fill` wants one lifetime for all columns.
 pub fn row_at<'c>(
     curvature: &'c [f32],
     p0x: &'c [f32],
@@ -36,20 +32,9 @@ pub fn row_at<'c>(
     contour: &'c [u8],
     i: usize,
 ) -> SplineRow
-    ensures { λ r. ⌜ r ≡ rowAtOf (splineTable (now (curvature .entry)) (now (p0x .entry)) (now (p0y .entry)) (now (p2x .entry)) (now (p2y .entry)) (now (contour .entry))) i ⌝ }
+    ensures { λ r. ⌜ r ≡ splineAt (splineTable (now (curvature .entry)) (now (p0x .entry)) (now (p0y .entry)) (now (p2x .entry)) (now (p2y .entry)) (now (contour .entry))) i ⌝ }
 {
-    SplineRow {
-        curvature: read_f32(curvature, i),
-        p0: Point {
-            x: read_f32(p0x, i),
-            y: read_f32(p0y, i),
-        },
-        p2: Point {
-            x: read_f32(p2x, i),
-            y: read_f32(p2y, i),
-        },
-        contour: is_flag(read_u8(contour, i)),
-    }
+    tables::spline_at(curvature, p0x, p0y, p2x, p2y, contour, i)
 }
 
 // A record goes to row i of the columns; where a column ends before it, nothing is written there.

@@ -54,10 +54,10 @@ use denote.Triple.Clauses.{Lasts, ensured, lasts}
 use denote.Triple.Table.{entered, cited}
 use denote.Triple.Walked.{says, Stay, Stays, stay-dropped, stay-slice, walkOf, goes-dropped, goes-slice, Walks, ends-at, walked, walk-meets}
 use denote.Exit.{yes}
-use Rattle.tables.specs.Tables.{SplineTable, splineTable}
+use Rattle.tables.specs.Tables.{SplineTable, splineTable, splineAt}
 use Rattle.primitives.specs.declared.SplineRow.{SplineRow}
 use Rattle.spline_list.specs.declared.Copied.{Copied}
-use Rattle.spline_list.specs.Rows.{blank, rowAtOf, equalOf, countOf, outcomeOf, fills}
+use Rattle.spline_list.specs.Rows.{blank, equalOf, countOf, outcomeOf, fills}
 use Rattle.spline_list.proofs.Columns.{front, lend, after}
 use Rattle.spline_list.proofs.Laws.{stores-length}
 use Rattle.spline_list.proofs.Agreed.{Rooms, equal, goes-on, count-small, all-or-none, one-more, Agree, Count, Outcome, to-agree, to-count}
@@ -108,7 +108,7 @@ abbrev stayed : Stays (f.ended .signature .params) (f.ended .kept)
 stayed = (stay-slice (0 ∷ []) tt (plain (λ _. R)), (kept-col, (kept-col, (kept-col, (kept-col, (kept-col, (kept-flags, (kept-number, tt))))))))
 
 fills-len : (k : SplineTable) (i : ℕ) (ys : List SplineRow) → length (fills k i ys) ≡ length ys
-fills-len k i ys = stores-length (rowAtOf k) ys i
+fills-len k i ys = stores-length (splineAt k) ys i
 
 abbrev word : Ty
 word = tyInt w64
@@ -320,8 +320,8 @@ module _ {M : Type 1} (𝓤 : URA M) (H : Heap 𝓤) (A : Atoms 𝓤) (W : Given
         raw (ensured 𝓤 H A row-at.ended (row-at.clauses 𝓤 H A mem run) (κ′, tt) (to-row i .0 .3) tt r)))) (id⊢ 𝓤 _) $
         await ! tt $ pick ! (λ r. split ! $ move ! (1 ∷ []) $
         use1 W (some (λ (zs : Lasts row-at.ended (κ′, tt) (to-row i .0 .3)). ‵ (lasts row-at.ended (κ′, tt) (to-row i .0 .3) zs) ⊛
-        raw (fact 𝓤 (r ≡ rowAtOf k i)))) (id⊢ 𝓤 _) $
-        pick ! (λ zs. split ! $ drop ! $ heard ! (r ≡ rowAtOf k i) (λ e. split ! $ move ! (1 ∷ []) $
+        raw (fact 𝓤 (r ≡ splineAt k i)))) (id⊢ 𝓤 _) $
+        pick ! (λ zs. split ! $ drop ! $ heard ! (r ≡ splineAt k i) (λ e. split ! $ move ! (1 ∷ []) $
         facts ! R (Is R) (shows 𝓤 H A R) r (w ∷ []) (λ is. split ! $
         land ! (from ! (stop !)) (init ! 11 refl (LL.lawful T.the-type T′.the-laws 𝓤 H A W .typed r _ is .0)) $
         rewrite ! 11 (λ (u : Val). ‵ (fat fullShare T′.mir l₂₀ 0 u)) (ap only (LL.tells T.the-type T′.the-laws r _ is) ∙ ap mach e) refl $
@@ -332,9 +332,9 @@ module _ {M : Type 1} (𝓤 : URA M) (H : Heap 𝓤) (A : Atoms 𝓤) (W : Given
         move ! (3 ∷ []) $ elem-out ! R (Is R) (shows 𝓤 H A R) (LL.vals T.the-type T′.the-laws) (LL.tells T.the-type T′.the-laws) fullShare (fills k i ys) i
         blank b o (there less) (λ _.
         assigns ! (of-opd ! (load ! (from ! (stop !)) (look ! 13 refl))) (from ! (hop ! (look ! 9 refl) (stop !)))
-        (store-raw ! 0 refl (LL.lawful T.the-type T′.the-laws 𝓤 H A W .typed (rowAtOf k i) _ (new r w e is) .0)) $
-        move ! (1 ∷ []) $ drop ! $ owned ! R (Is R) (LL.makes T.the-type T′.the-plain 𝓤 H A) (rowAtOf k i) _ (new r w e is) $ move ! (1 ∷ 0 ∷ []) $
-        elem-put ! R fullShare (fills k i ys) i (rowAtOf k i) (mach (rowAtOf k i) ∷ []) b o (there less) $
+        (store-raw ! 0 refl (LL.lawful T.the-type T′.the-laws 𝓤 H A W .typed (splineAt k i) _ (new r w e is) .0)) $
+        move ! (1 ∷ []) $ drop ! $ owned ! R (Is R) (LL.makes T.the-type T′.the-plain 𝓤 H A) (splineAt k i) _ (new r w e is) $ move ! (1 ∷ 0 ∷ []) $
+        elem-put ! R fullShare (fills k i ys) i (splineAt k i) (mach (splineAt k i) ∷ []) b o (there less) $
         assigns-last ! (bin ! (load ! (from ! (stop !)) (look ! 29 refl)) (lit ! tt) (next-fits less)) (from ! (stop !))
         (store ! 29 refl (tt, next-fits less)) $
         forget ! 13 refl $ forget ! 11 refl $ forget ! 9 refl $ forget ! 7 refl $
@@ -393,7 +393,7 @@ module _ {M : Type 1} (𝓤 : URA M) (H : Heap 𝓤) (A : Atoms 𝓤) (W : Given
         nearer : (less : Holds (ltb i m)) → Nearer (next less) t
         nearer less = let h : i < m = less-is less in omega (arith, h)
 
-        new : (r : SplineRow) (w : Val) → r ≡ rowAtOf k i → Is R r (w ∷ []) → Is R (rowAtOf k i) (mach (rowAtOf k i) ∷ [])
+        new : (r : SplineRow) (w : Val) → r ≡ splineAt k i → Is R r (w ∷ []) → Is R (splineAt k i) (mach (splineAt k i) ∷ [])
         new r w e is = subst (λ (v : SplineRow). Is R v (mach v ∷ [])) e (subst (Is R r) (LL.tells T.the-type T′.the-laws r _ is) is)
 
   module _ (𝓣 : Tables 𝓤 H) (known : Triple 𝓤 (𝓣 .C #spline_list·row-at) (RowAt 𝓤 H A mem run))
