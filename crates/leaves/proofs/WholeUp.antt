@@ -3,9 +3,9 @@ use mathlib.Core.Path.{_≡_, refl, sym, ap, ap₂, _∙_, subst}
 use mathlib.Core.Logic.{_⊎_, inl, inr}
 use mathlib.Core.Bool.{Bool, true, false, not, _&&_, _||_, cond}
 use Prim.Native.Nat.{ℕ, zero, suc, _+_, _-_, _*_, _/_, _%_, _^_, _<_, _≤_, zero-le}
-use native.Mathlib.Nat.{zero-mul, mul-one, mul-assoc, mul-comm, mul-right-comm, add-mul, one-mul, mul-le-mul-right, mul-lt-mul-of-pos-right}
-use native.Mathlib.Nat.{le-of-mul-le-mul-right, lt-of-mul-lt-mul-right, eq-of-mul-eq-mul-right, le-trans, le-of-eq, le-of-lt, lt-of-lt-of-le, lt-of-le-of-lt}
-use native.Mathlib.Nat.{lt-of-not-le, lt-irrefl, div-add-mod', mod-lt, div-eq-of-lt, div-eq-of-lt-le, div-one}
+use native.Mathlib.Nat.{zero-mul, mul-one, mul-assoc, mul-comm, mul-right-comm, add-mul, one-mul, mul-le-mul-right, mul-lt-mul-of-pos-right, add-le-add}
+use native.Mathlib.Nat.{le-refl, le-of-mul-le-mul-right, lt-of-mul-lt-mul-right, eq-of-mul-eq-mul-right, le-trans, le-of-eq, le-of-lt, lt-of-lt-of-le}
+use native.Mathlib.Nat.{lt-of-le-of-lt, lt-of-not-le, lt-irrefl, div-add-mod', mod-lt, div-eq-of-lt, div-eq-of-lt-le, div-one}
 use native.Mathlib.Omega.{arith}
 use lib.IntN.{ℤ, pos}
 use lib.Dec.{T, leb, ltb, eqb, ltb→lt, eqb→eq}
@@ -242,11 +242,8 @@ whole-up-le x h k =
     last (wholeUpOf x)
     (lt-of-mul-lt-mul-right (den x)
     (lt-of-lt-of-le (whole-up-least x h k .1)
-    (le-trans (more (num x) (65536 * den x) (den x) (in-range x h k .1))
+    (le-trans (add-le-add (in-range x h k .1) (le-refl (den x)))
     (le-of-eq (sym (add-mul 65536 1 (den x) ∙ ap (λ (y : ℕ). 65536 * den x + y) (one-mul (den x))))))))
   where
-    more : (a b d : ℕ) → a ≤ b → a + d ≤ b + d
-    more a b d h = omega arith
-
     last : (r : ℕ) → r < 65537 → r ≤ 65536
     last r h = omega arith

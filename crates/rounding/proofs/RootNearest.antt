@@ -5,7 +5,7 @@ use mathlib.Core.Logic.{_⊎_, inl, inr}
 use mathlib.Core.Bool.{false}
 use Prim.Native.Nat.{ℕ, zero, suc, _+_, _-_, _*_, _/_, _%_, _^_, _≤_, _<_, compare, Ordering, Ordering·lt, Ordering·eq, Ordering·gt}
 use native.Mathlib.Nat.{mul-assoc, mul-comm, mul-le-mul, mul-le-mul-right, add-mul, one-mul, suc-mul, div-mul-le-self, add-zero, mod-lt, zero-lt-suc}
-use native.Mathlib.Nat.{le-trans, le-of-eq, le-of-lt}
+use native.Mathlib.Nat.{add-le-add, le-refl, le-trans, le-of-eq, le-of-lt}
 use native.Mathlib.Omega.{arith}
 use lib.Ieee.{Format, prec, size, nearest, units}
 use lib.Ieee.Fits.{nearest-le, kept-lt}
@@ -81,10 +81,7 @@ module _ (f : Format) (n : ℕ) where
       let k = size (root 2 n) - prec f in
       let q = root 2 n / 2 ^ k in
       le-trans (mul-le-mul-right (2 ^ k) (nearest-le q (compare (n * 4) ((2 * q + 1) * 2 ^ k * ((2 * q + 1) * 2 ^ k)))))
-      (le-trans (le-of-eq (suc-mul q (2 ^ k))) (more (q * 2 ^ k) (root 2 n) (2 ^ k) (div-mul-le-self (root 2 n) (2 ^ k))))
-    where
-      more : (a b d : ℕ) → a ≤ b → a + d ≤ b + d
-      more a b d h = omega arith
+      (le-trans (le-of-eq (suc-mul q (2 ^ k))) (add-le-add (div-mul-le-self (root 2 n) (2 ^ k)) (le-refl (2 ^ k))))
 
   pub keptRoot-digits : keptRoot ≤ 2 ^ prec f
   unfolding keptRoot

@@ -3,9 +3,8 @@
 -- Assumes `Given`.
 use mathlib.Core.Path.{_≡_, refl}
 use mathlib.Core.Bool.{Bool, true, false, cond, _&&_, and-eq-true-iff}
-use Prim.Native.Nat.{ℕ, suc, _+_, _≤_, _<_, _^_, zero-le}
+use Prim.Native.Nat.{ℕ, _≤_, _<_, _^_, zero-le}
 use native.Mathlib.Nat.{le-refl, not-suc-le-zero}
-use native.Mathlib.Omega.{arith}
 use mathlib.Core.List.{List, [], _∷_}
 use lib.Dec.{eqb, leb}
 use lib.ListN.{length}
@@ -94,9 +93,6 @@ count-small false n = zero-le
 pub all-or-none : {X : Type 0} (g : ℕ → X) (agreed : Bool) (n : ℕ) → g (countOf agreed n) ≡ cond agreed (g n) (g 0)
 all-or-none g true n = refl
 all-or-none g false n = refl
-
-pub one-more : (i : ℕ) → i + 1 ≡ suc i
-one-more i = omega arith
 
 abbrev word : ℕ → List Val
 word x = vint w64 x ∷ []

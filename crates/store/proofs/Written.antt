@@ -11,6 +11,7 @@ use lib.Dec.{leb}
 use lib.Ieee.{Float}
 use borrow.Author.Tests.{leb-true}
 use mathlib.Mathlib.Data.Bool.Basic.{and-elim-left, and-elim-right, and-intro}
+use native.Mathlib.Nat.{zero-add}
 use Rattle.point.specs.declared.WeightedPoint.{WeightedPoint}
 use Rattle.store.specs.declared.StoreState.{StoreState}
 use Rattle.store.specs.Columns.{Columns, columns, usesOf, putPoint, putCommand}
@@ -83,10 +84,7 @@ known-append (k ∷ l) m p q = and-intro (and-elim-left (leb k 3) (knownOf l) p)
 
 pub uses-append : (l m : List ℕ) → totalUsesOf (l ++ m) ≡ totalUsesOf l + totalUsesOf m
 unfolding totalUsesOf
-uses-append [] m = sym (zero-plus (totalUsesOf m))
-  where
-    zero-plus : (n : ℕ) → 0 + n ≡ n
-    zero-plus n = omega arith
+uses-append [] m = sym (zero-add (totalUsesOf m))
 uses-append (k ∷ l) m = regroup (usesOf k) (totalUsesOf l) (totalUsesOf m) (uses-append l m)
   where
     regroup : (a b d : ℕ) {s : ℕ} → s ≡ b + d → a + s ≡ a + b + d

@@ -54,13 +54,14 @@ use denote.Triple.Clauses.{Lasts, ensured, lasts}
 use denote.Triple.Table.{entered, cited}
 use denote.Triple.Walked.{says, Stay, Stays, stay-dropped, stay-slice, walkOf, goes-dropped, goes-slice, Walks, ends-at, walked, walk-meets}
 use denote.Exit.{yes}
+use native.Mathlib.Numerals.{add-one}
 use Rattle.tables.specs.Tables.{SplineTable, splineTable, splineAt}
 use Rattle.primitives.specs.declared.SplineRow.{SplineRow}
 use Rattle.spline_list.specs.declared.Copied.{Copied}
 use Rattle.spline_list.specs.Rows.{blank, equalOf, countOf, outcomeOf, fills}
 use Rattle.spline_list.proofs.Columns.{front, lend, after}
 use Rattle.spline_list.proofs.Laws.{stores-length}
-use Rattle.spline_list.proofs.Agreed.{Rooms, equal, goes-on, count-small, all-or-none, one-more, Agree, Count, Outcome, to-agree, to-count}
+use Rattle.spline_list.proofs.Agreed.{Rooms, equal, goes-on, count-small, all-or-none, Agree, Count, Outcome, to-agree, to-count}
 use Rattle.spline_list.proofs.Agreed.{to-outcome, goes-agree, goes-count, goes-outcome}
 use Rattle.spline_list.proofs.Copied as C
 use Rattle.spline_list.proofs.Copied.Laws as C′
@@ -338,7 +339,7 @@ module _ {M : Type 1} (𝓤 : URA M) (H : Heap 𝓤) (A : Atoms 𝓤) (W : Given
         assigns-last ! (bin ! (load ! (from ! (stop !)) (look ! 29 refl)) (lit ! tt) (next-fits less)) (from ! (stop !))
         (store ! 29 refl (tt, next-fits less)) $
         forget ! 13 refl $ forget ! 11 refl $ forget ! 9 refl $ forget ! 7 refl $
-        rewrite ! 29 (λ (j : ℕ). ‵ (fat fullShare word l₁₁ 0 (vint w64 j))) (one-more i) refl $
+        rewrite ! 29 (λ (j : ℕ). ‵ (fat fullShare word l₁₁ 0 (vint w64 j))) (add-one i) refl $
         keep ! (0 ∷ 4 ∷ 5 ∷ 6 ∷ 3 ∷ 1 ∷ 7 ∷ 8 ∷ 9 ∷ 10 ∷ 11 ∷ 12 ∷ 13 ∷ 14 ∷ 15 ∷ 16 ∷ 17 ∷ 18 ∷ 19 ∷ 20 ∷ 21 ∷ 22 ∷ 23 ∷ 24 ∷ 25 ∷ 26 ∷ 27 ∷ 28 ∷ 29 ∷ 30 ∷
         31 ∷ 32 ∷ 33 ∷ 34 ∷ 35 ∷ 36 ∷ 37 ∷ 38 ∷ 39 ∷ 40 ∷ 41 ∷ 42 ∷ 43 ∷ 44 ∷ 45 ∷ 46 ∷ 47 ∷ 48 ∷ 49 ∷ 50 ∷ 51 ∷ 52 ∷ []) $
         again ! Nearer At t (next less) (nearer less))))))))

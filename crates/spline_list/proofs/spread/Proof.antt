@@ -55,6 +55,7 @@ use denote.Triple.Clauses.{Lasts, ensured, lasts}
 use denote.Triple.Table.{entered, cited}
 use denote.Triple.Walked.{says, Stays, stay-dropped, stay-slice, walkOf, goes-dropped, goes-slice, Walks, ends-at, walked, walk-meets}
 use denote.Exit.{yes}
+use native.Mathlib.Numerals.{add-one}
 use Rattle.tables.specs.Tables.{SplineTable, splineTable}
 use Rattle.columns.proofs.flag_byte as flag-byte
 use Rattle.columns.proofs.flag_byte.Symbol as flag-byte-def
@@ -65,7 +66,7 @@ use Rattle.spline_list.specs.declared.Copied.{Copied}
 use Rattle.spline_list.specs.Rows.{blank, equalOf, countOf, outcomeOf, spreads}
 use Rattle.spline_list.proofs.Columns.{after}
 use Rattle.spline_list.proofs.Laws.{curvature-of, p0x-of, p0y-of, p2x-of, p2y-of, contour-of, puts, puts-length, puts-spreads}
-use Rattle.spline_list.proofs.Agreed.{Equal, Rooms, equal, goes-on, all-or-none, one-more, Agree, Count, Outcome, to-agree, to-count, to-outcome}
+use Rattle.spline_list.proofs.Agreed.{Equal, Rooms, equal, goes-on, all-or-none, Agree, Count, Outcome, to-agree, to-count, to-outcome}
 use Rattle.spline_list.proofs.Agreed.{goes-agree, goes-count, goes-outcome}
 use Rattle.spline_list.proofs.Copied as C
 use Rattle.spline_list.proofs.Copied.Laws as C′
@@ -486,7 +487,7 @@ module _ {M : Type 1} (𝓤 : URA M) (H : Heap 𝓤) (A : Atoms 𝓤) (W : Given
         (store ! 64 refl (tt, next-fits less)) $
         forget ! 62 refl $ forget ! 46 refl $ forget ! 44 refl $ forget ! 42 refl $ forget ! 40 refl $ forget ! 38 refl $ forget ! 36 refl $
         forget ! 34 refl $ forget ! 32 refl $ forget ! 30 refl $ forget ! 28 refl $ forget ! 26 refl $
-        rewrite ! 64 (λ (j : ℕ). ‵ (fat fullShare word l₁₁ 0 (vint w64 j))) (one-more i) refl $
+        rewrite ! 64 (λ (j : ℕ). ‵ (fat fullShare word l₁₁ 0 (vint w64 j))) (add-one i) refl $
         keep ! (6 ∷ 7 ∷ 5 ∷ 8 ∷ 9 ∷ 10 ∷ 4 ∷ 11 ∷ 12 ∷ 13 ∷ 3 ∷ 14 ∷ 15 ∷ 16 ∷ 2 ∷ 17 ∷ 18 ∷ 19 ∷ 1 ∷ 20 ∷ 21 ∷ 22 ∷ 0 ∷ 23 ∷ 24 ∷ 25 ∷ 26 ∷ 27 ∷ 28 ∷ 29 ∷
         30 ∷ 31 ∷ 32 ∷ 33 ∷ 34 ∷ 35 ∷ 36 ∷ 37 ∷ 38 ∷ 39 ∷ 40 ∷ 41 ∷ 42 ∷ 43 ∷ 44 ∷ 45 ∷ 46 ∷ 47 ∷ 48 ∷ 49 ∷ 50 ∷ 51 ∷ 52 ∷ 53 ∷ 54 ∷ 55 ∷ 56 ∷ 57 ∷ 58 ∷ 59
         ∷ 60 ∷ 61 ∷ 62 ∷ 63 ∷ 64 ∷ 65 ∷ 66 ∷ 67 ∷ 68 ∷ 69 ∷ 70 ∷ 71 ∷ 72 ∷ 73 ∷ 74 ∷ 75 ∷ 76 ∷ 77 ∷ 78 ∷ 79 ∷ 80 ∷ 81 ∷ 82 ∷ 83 ∷ 84 ∷ 85 ∷ 86 ∷ 87 ∷ []) $
