@@ -4,34 +4,34 @@ use native.Mathlib.Nat.{add-zero, le-trans, le-refl}
 use native.Mathlib.Numerals.{add-one}
 use native.Mathlib.Omega.{arith}
 use mathlib.Core.Path.{_≡_, refl, sym, _∙_, ap, ap₂, subst}
-use mathlib.Core.Bool.{Bool, true, false, _&&_, cond}
+use mathlib.Core.Bool.{Bool, true, false, _&&_, cond, and-eq-true-iff}
 use mathlib.Core.List.{List, [], _∷_, _++_, map}
 use lib.Dec.{leb, eqb}
 use lib.ListN.{length, drop, set, length-append, length-map}
 use lib.Seq.{sets, sets-eq}
 use lib.Ieee.{Float}
 use borrow.Author.Tests.{leb-true, ne-eqb}
+use Rattle.facts.proofs.Numbers.{shift-one}
 use Rattle.leaves.specs.Whole.{wholeUpOf}
 use Rattle.columns.specs.Flags.{flagByteOf}
 use Rattle.command.specs.declared.PointCommand.the-variants.{Start, Incr, End}
 use Rattle.command.specs.Packing.{packOf}
 use Rattle.point.specs.declared.Setting.{Setting}
 use Rattle.tables.specs.Tables.{QuadTable, SplineTable, splineAt}
-use Rattle.walk.specs.Walk.{Item, item, subdivisionsOf, stepSizeOf, startsAfterOf, startsOf, cursorAtOf, cursorAt, stepsFrom, cursorFrom, cursorAfter, splineItemsOf, walkFrom, walkOf, wordOf, wordsOf}
+use Rattle.walk.specs.Walk.{Item, item, subdivisionsOf, stepSizeOf, startsAfterOf, startsOf, cursorAtOf, cursorAt, stepsFrom, cursorFrom, cursorAfter}
+use Rattle.walk.specs.Walk.{splineItemsOf, walkFrom, walkOf, wordOf, wordsOf}
 use Rattle.walk.specs.Length.{stepsOf, sizeOf}
 use Rattle.walk.proofs.Lengths.{steps-length}
 use Rattle.evaluate.specs.declared.Place.{Place}
 use Rattle.evaluate.specs.Evaluate.{Finished, finished, stepQuadOf, stepPointOf, commandPointOf, itemPointOf, pointsOf}
 use Rattle.evaluate.specs.Output.{Output, output, over, fitsOutput, writeOutput}
-use Rattle.evaluate.specs.Writing.{Written, written, placeAt, writeEntryOf, writeStartOf, writeStepsFrom, writeStepsOf, endPlaceOf, writeSplineOf, writeWalkFrom, writeWalkOf}
+use Rattle.evaluate.specs.Writing.{Written, written, placeAt, writeEntryOf, writeStartOf, writeStepsFrom, writeStepsOf, endPlaceOf, writeSplineOf}
+use Rattle.evaluate.specs.Writing.{writeWalkFrom, writeWalkOf}
 
 -- ---- a list of items, written from an entry on
 unfoldable pub writeItems : QuadTable → SplineTable → ℕ → List Item → Output → Output
 writeItems q s at [] o = o
 writeItems q s at (i ∷ items) o = writeItems q s (at + 1) items (writeEntryOf at (wordOf i) (itemPointOf q s i) o)
-
-next : (a n : ℕ) → a + 1 + n ≡ a + suc n
-next a n = omega arith
 
 items-append : (q : QuadTable) (s : SplineTable) (at : ℕ) (xs ys : List Item) (o : Output)
     → writeItems q s at (xs ++ ys) o ≡ writeItems q s (at + length xs) ys (writeItems q s at xs o)
@@ -39,7 +39,7 @@ unfolding writeItems
 items-append q s at [] ys o = ap (λ (a : ℕ). writeItems q s a ys o) (sym (add-zero at))
 items-append q s at (x ∷ xs) ys o =
     let o' = writeEntryOf at (wordOf x) (itemPointOf q s x) o in
-    items-append q s (at + 1) xs ys o' ∙ ap (λ (a : ℕ). writeItems q s a ys (writeItems q s (at + 1) xs o')) (next at (length xs))
+    items-append q s (at + 1) xs ys o' ∙ ap (λ (a : ℕ). writeItems q s a ys (writeItems q s (at + 1) xs o')) (shift-one at (length xs))
 
 -- ---- the parts of a spline
 pub cursor-from-bound : (q : QuadTable) (n p cursor : ℕ) → cursorFrom q n p cursor ≤ cursor + n
@@ -60,7 +60,7 @@ unfolding writeStepsFrom cursorFrom
 steps-place q size zero p from o = ap (λ (a : ℕ). placeAt a (from .cursor)) (sym (add-zero (from .at)))
 steps-place q size (suc n) p from o =
     let i = cursorAt q p (from .cursor) in
-    steps-place q size n (p + 1) (placeAt (from .at + 1) i) _ ∙ ap (λ (a : ℕ). placeAt a (cursorFrom q n (p + 1) i)) (next (from .at) n)
+    steps-place q size n (p + 1) (placeAt (from .at + 1) i) _ ∙ ap (λ (a : ℕ). placeAt a (cursorFrom q n (p + 1) i)) (shift-one (from .at) n)
 
 steps-output : (q : QuadTable) (s : SplineTable) (size : Float) (n p : ℕ) (from : Place) (o : Output)
     → writeStepsFrom q size n p from o .output ≡ writeItems q s (from .at) (stepsFrom q size n p (from .cursor)) o
@@ -166,10 +166,6 @@ sets-over : {A : Type 0} (new old : List A) → length new ≤ length old → se
 unfolding over
 sets-over new old h = let e : 0 + length new ≡ length new = omega arith in sets-eq new old 0 (omega arith) ∙ ap (λ (k : ℕ). new ++ drop k old) e
 
-both : (a b : Bool) → (a && b) ≡ true → (a ≡ true) × (b ≡ true)
-both true b e = (refl, e)
-both false b e = (e, let z : _≡_ {A = ℕ} 0 1 = cc in absurd (omega arith))
-
 map-over : {A B : Type 0} (f : A → B) (l : List A) (old : List B) (n : ℕ) → length l ≡ n → leb n (length old) ≡ true → sets old 0 (map f l) ≡ over (map f l) old
 map-over f l old n e h = sets-over (map f l) old (subst (λ (m : ℕ). m ≤ length old) (sym (length-map l f ∙ e)) (leb-true n (length old) h))
 
@@ -180,9 +176,9 @@ written-fits q s items o h =
     let n = length items in
     let points = pointsOf q s items in
     let e : length points ≡ n = length-map items (itemPointOf q s) in
-    let a = both (leb n (length (o .words)) && leb n (length (o .x)) && leb n (length (o .y))) (leb n (length (o .end))) h in
-    let b = both (leb n (length (o .words)) && leb n (length (o .x))) (leb n (length (o .y))) (a .0) in
-    let c = both (leb n (length (o .words))) (leb n (length (o .x))) (b .0) in
+    let a = and-eq-true-iff (leb n (length (o .words)) && leb n (length (o .x)) && leb n (length (o .y))) (leb n (length (o .end))) .0 h in
+    let b = and-eq-true-iff (leb n (length (o .words)) && leb n (length (o .x))) (leb n (length (o .y))) .0 (a .0) in
+    let c = and-eq-true-iff (leb n (length (o .words))) (leb n (length (o .x))) .0 (b .0) in
     items-columns q s items o 0
     ∙ rw (
       map-over wordOf items (o .words) n refl (c .0),

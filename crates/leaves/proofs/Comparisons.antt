@@ -1,10 +1,9 @@
 -- A float tested against 0 and infinity, as the square root and the sixth root test it: which floats go to which branch. Assumes nothing.
 use mathlib.Core.Path.{_≡_, refl, sym, ap, ap₂, _∙_, subst}
 use mathlib.Core.Logic.{inl, inr}
-use mathlib.Core.Bool.{Bool, true, false, not, _&&_, _||_, Bool·beq, true≢false}
-use Prim.Native.Nat.{ℕ, zero, suc, _*_, _^_, _<_}
-use native.Mathlib.Nat.{mul-pos, mul-one, zero-mul, zero-lt-suc, eq-zero-or-pos}
-use native.Mathlib.Omega.{arith}
+use mathlib.Core.Bool.{Bool, true, false, not, _&&_, _||_, Bool·beq, true≢false, or-true}
+use Prim.Native.Nat.{ℕ, zero, suc, _*_, _^_, _<_, zero-le}
+use native.Mathlib.Nat.{mul-pos, mul-one, zero-mul, zero-lt-suc, eq-zero-or-pos, lt-of-le-of-lt, ne-of-gt}
 use lib.IntN.{ℤ, pos}
 use lib.Dec.{T, leb, ltb, eqb, eqb→eq}
 use lib.Pow.{pow-pos}
@@ -13,6 +12,8 @@ use lib.Ieee.Fits.{up-pos}
 use lib.Ieee.Exact.{HasValue}
 use lib.Ieee.Scale.{finite}
 use borrow.Author.Tests.{lt-ltb, ltb-true}
+use mathlib.Mathlib.Data.Bool.Basic.{and-elim-left}
+use lib.Ieee.Positive.{first-pos}
 use Rattle.rounding.specs.Parts.{sig, place}
 use Rattle.rounding.proofs.Parts.{decode}
 
@@ -29,9 +30,6 @@ inf-is = refl
 
 pub no : {X : Type 0} → true ≡ false → X
 no e = absurd (true≢false e)
-
-pub none : (a : ℕ) → a ≡ 0 → 0 < a → ⊥
-none a e h = omega arith
 
 pub yes : (b : Bool) → b ≡ true → T b
 yes b e = subst (λ (t : Bool). T t) (sym e) tt
@@ -57,10 +55,7 @@ held x e = subst T (sym e) tt
 
 -- ---- 0 < x by numerators: false if the digits are 0, true for any others
 no-zero : (e : ℤ) → ltb (0 * down e) (0 * up e * 1) ≡ true → ⊥
-no-zero e h = none (0 * up e * 1) (mul-one (0 * up e) ∙ zero-mul (up e)) (lower (0 * down e) (0 * up e * 1) (ltb-true (0 * down e) (0 * up e * 1) h))
-  where
-    lower : (a b : ℕ) → a < b → 0 < b
-    lower a b h = omega arith
+no-zero e h = ne-of-gt (lt-of-le-of-lt zero-le (ltb-true (0 * down e) (0 * up e * 1) h)) (mul-one (0 * up e) ∙ zero-mul (up e))
 
 pub some : (m : ℕ) (e : ℤ) → 0 < suc m * up e * 1
 some m e = subst (λ (x : ℕ). 0 < x) (sym (mul-one (suc m * up e))) (mul-pos (zero-lt-suc m) (up-pos e))
@@ -95,13 +90,10 @@ positive-is (fin false (suc m) e) s A L h v = (m, e, refl, v .1)
 pos-of : (m : ℕ) (e : ℤ) (A : ℕ) → suc m * up e * 2 ^ 149 ≡ A * down e → 0 < A
 pos-of m e A h = elim (eq-zero-or-pos A) [
   | inl z ↦
-      absurd (none (A * down e) (ap (λ (x : ℕ). x * down e) z ∙ zero-mul (down e))
-      (subst (λ (x : ℕ). 0 < x) h (mul-pos (mul-pos (zero-lt-suc m) (up-pos e)) (pow-pos 149))))
+      absurd (ne-of-gt (subst (λ (x : ℕ). 0 < x) h (mul-pos (mul-pos (zero-lt-suc m) (up-pos e)) (pow-pos 149)))
+      (ap (λ (x : ℕ). x * down e) z ∙ zero-mul (down e)))
   | inr p ↦ p
 ]
-
-first-pos : (a b : ℕ) → 0 < a * b → 0 < a
-first-pos a b h = elim (eq-zero-or-pos a) [ inl z ↦ absurd (none (a * b) (ap (λ (x : ℕ). x * b) z ∙ zero-mul b) h) | inr p ↦ p ]
 
 pub bits-value : (x : Float) → T (fits binary32 x) → lt plain x ≡ true → lt x (inf false) ≡ true
     → HasValue x (leb 2147483648 (toBits binary32 x)) (sig binary32 (toBits binary32 x) * 2 ^ place binary32 (toBits binary32 x)) (2 ^ 149)
@@ -122,10 +114,6 @@ only-infinity (inf true) h k = no (sym h)
 only-infinity (inf false) h k = refl
 only-infinity (fin s m e) h k = no k
 
-left-of : (a b : Bool) → (a && b) ≡ true → a ≡ true
-left-of true b h = refl
-left-of false b h = no (sym h)
-
 pub only-zero : (x : Float) → eq x plain ≡ true → (s : Bool) × (e : ℤ) × (x ≡ fin s zero e)
 unfolding eq
 only-zero nan h = no (sym h)
@@ -133,12 +121,8 @@ only-zero (inf s) h = no (sym h)
 only-zero (fin s zero e) h = (s, e, refl)
 only-zero (fin s (suc m) e) h =
     let n = suc m * up e * 1 in
-    absurd (none n (eqb→eq n (0 * down e) (yes (eqb n (0 * down e)) (left-of (eqb n (0 * down e)) (Bool·beq s false || eqb n 0) h)) ∙ zero-mul (down e))
-    (some m e))
-
-or-true : (b : Bool) → (b || true) ≡ true
-or-true true = refl
-or-true false = refl
+    absurd (ne-of-gt (some m e)
+    (eqb→eq n (0 * down e) (yes (eqb n (0 * down e)) (and-elim-left (eqb n (0 * down e)) (Bool·beq s false || eqb n 0) h)) ∙ zero-mul (down e)))
 
 zero-equal : (s : Bool) (e : ℤ) → (eqb (0 * up e * 1) (0 * down e) && (Bool·beq s false || eqb (0 * up e * 1) 0)) ≡ true
 zero-equal s e =

@@ -12,6 +12,7 @@ use lib.Ieee.Fits.{round-is}
 use lib.Ieee.Order.{drop, kept}
 use lib.Ieee.Positive.{den-pos}
 use lib.Ieee.Scale.{finite, round-same}
+use Rattle.facts.proofs.Tests.{like}
 use Rattle.rounding.specs.Nearest.{signed, NearestTo}
 use Rattle.rounding.specs.Sums.{sumSign, sumSize}
 use Rattle.rounding.proofs.Distances.{abs-signed}
@@ -131,10 +132,6 @@ module _ (x y z : Float) (X : T (finite x)) (Y : T (finite y)) (Z : T (finite z)
 one-is : one32 ≡ fin false 1 (pos 0)
 unfolding ofBits
 one-is = refl
-
-like : (s : Bool) → unlike s false ≡ s
-like true = refl
-like false = refl
 
 by-one : (x z : Float) → fma32 x (fin false 1 (pos 0)) z ≡ x ⊕ z
 unfolding fmaOf add mul

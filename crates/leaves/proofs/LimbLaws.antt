@@ -2,7 +2,7 @@
 use mathlib.Core.Path.{_≡_, refl, sym, ap, _∙_}
 use Prim.Native.Nat.{ℕ, suc, _+_, _-_, _*_, _/_, _%_, _^_, _≤_, _<_}
 use native.Mathlib.Nat.{add-mul, mul-right-comm, mul-le-mul, le-of-eq, lt-of-le-of-lt, lt-of-lt-of-le, le-trans, lt-of-mul-lt-mul-right, one-mul, pow-zero}
-use native.Mathlib.Nat.{pow-suc, pow-le-pow-left, pow-le-pow-right}
+use native.Mathlib.Nat.{add-zero, pow-suc, pow-le-pow-left, pow-le-pow-right}
 use native.Mathlib.Omega.{arith}
 use lib.Dec.{leb, eqb, lit≤, lit<}
 use borrow.Author.Tests.{le-leb, lt-leb, eqb-true, eqb-false}
@@ -78,10 +78,7 @@ times-is a b c d s h =
 -- ---- the powers of s
 pub first : (s : ℕ) → whole s 0 0 0 ≡ s ^ 1
 unfolding whole
-first s = only s ∙ sym (pow-suc s 0 ∙ ap (λ (x : ℕ). x * s) (pow-zero s) ∙ one-mul s)
-  where
-    only : (s : ℕ) → s + 0 ≡ s
-    only s = omega arith
+first s = add-zero s ∙ sym (pow-suc s 0 ∙ ap (λ (x : ℕ). x * s) (pow-zero s) ∙ one-mul s)
 
 pub first-limbs : (s : ℕ) → s < 2 ^ 24 → Limbs s 0 0 0
 first-limbs s h = record { a-lt = lt-of-lt-of-le h (lit≤ tt); b-lt = lit< tt; c-lt = lit< tt; d-lt = lit< tt }

@@ -2,7 +2,7 @@
 use mathlib.Core.Path.{_≡_, refl, sym, ap, _∙_, subst}
 use mathlib.Core.Bool.{Bool, true, false, _||_}
 use Prim.Native.Nat.{ℕ, zero, suc, _+_, _-_, _*_, _^_, _≤_, _<_}
-use native.Mathlib.Nat.{mul-one, mul-pos, zero-mul, zero-lt-suc, lt-of-lt-of-le, mul-lt-mul-of-pos-right, eq-of-mul-eq-mul-right}
+use native.Mathlib.Nat.{mul-one, mul-pos, zero-mul, zero-lt-suc, lt-of-lt-of-le, mul-lt-mul-of-pos-right, eq-of-mul-eq-mul-right, ne-of-gt}
 use native.Mathlib.Omega.{arith}
 use lib.Dec.{T, leb, eqb, eqb→eq, lit≤}
 use lib.IntN.{ℤ}
@@ -20,7 +20,7 @@ use Rattle.rounding.proofs.Roots.{power-lt, root-is}
 use Rattle.rounding.proofs.Values.{worth, worth-value, worth-lt}
 use Rattle.leaves.specs.Single.{zero32}
 use Rattle.leaves.specs.Sixth.{sixthRootOf, Largest, nextUp}
-use Rattle.leaves.proofs.Comparisons.{plain, zero-is, above-zero, none}
+use Rattle.leaves.proofs.Comparisons.{plain, zero-is, above-zero}
 use Rattle.leaves.proofs.SixthParts.{root-value}
 
 -- ---- a finite q of 0 or more
@@ -38,9 +38,9 @@ at-zero t e A z = ap (λ (x : ℕ). cutTo binary32 (root 6 (x * 2 ^ 745))) z ∙
 negative : (m : ℕ) (e : ℤ) → T (le plain (fin true (suc m) e)) → ⊥
 unfolding le
 negative m e h =
-    none (suc m * up e * 1) (sym (eqb→eq (0 * down e) (suc m * up e * 1) (and-l (eqb (0 * down e) (suc m * up e * 1)) (false || eqb (0 * down e) 0) h))
+    ne-of-gt (subst (λ (x : ℕ). 0 < x) (sym (mul-one (suc m * up e))) (mul-pos (zero-lt-suc m) (up-pos e)))
+    (sym (eqb→eq (0 * down e) (suc m * up e * 1) (and-l (eqb (0 * down e) (suc m * up e * 1)) (false || eqb (0 * down e) 0) h))
     ∙ zero-mul (down e))
-    (subst (λ (x : ℕ). 0 < x) (sym (mul-one (suc m * up e))) (mul-pos (zero-lt-suc m) (up-pos e)))
 
 positive : (m : ℕ) (e : ℤ) → lt plain (fin false (suc m) e) ≡ true
 unfolding lt

@@ -3,9 +3,9 @@ use mathlib.Core.Path.{_≡_, refl, sym, ap, ap₂, _∙_, subst}
 use mathlib.Core.Logic.{_⊎_, inl, inr}
 use mathlib.Core.Bool.{Bool, true, false, not, _&&_, _||_, cond}
 use Prim.Native.Nat.{ℕ, zero, suc, _+_, _-_, _*_, _/_, _%_, _^_, _<_, _≤_, zero-le}
-use native.Mathlib.Nat.{zero-mul, mul-one, mul-assoc, mul-comm, mul-right-comm, add-mul, one-mul, mul-le-mul-right, mul-lt-mul-of-pos-right}
-use native.Mathlib.Nat.{le-of-mul-le-mul-right, lt-of-mul-lt-mul-right, eq-of-mul-eq-mul-right, le-trans, le-of-eq, le-of-lt, lt-of-lt-of-le, lt-of-le-of-lt}
-use native.Mathlib.Nat.{lt-of-not-le, lt-irrefl, div-add-mod', mod-lt, div-eq-of-lt, div-eq-of-lt-le, div-one}
+use native.Mathlib.Nat.{zero-mul, mul-one, mul-assoc, mul-comm, mul-right-comm, add-mul, one-mul, mul-le-mul-right, mul-lt-mul-of-pos-right, add-le-add}
+use native.Mathlib.Nat.{le-refl, le-of-mul-le-mul-right, lt-of-mul-lt-mul-right, eq-of-mul-eq-mul-right, le-trans, le-of-eq, le-of-lt, lt-of-lt-of-le}
+use native.Mathlib.Nat.{lt-of-le-of-lt, lt-of-not-le, lt-irrefl, div-add-mod', mod-lt, div-eq-of-lt, div-eq-of-lt-le, div-one}
 use native.Mathlib.Omega.{arith}
 use lib.IntN.{ℤ, pos}
 use lib.Dec.{T, leb, ltb, eqb, ltb→lt, eqb→eq}
@@ -16,6 +16,7 @@ use lib.Ieee.Exact.{HasValue}
 use lib.Ieee.Nearest.{div-same}
 use lib.Ieee.Scale.{finite, round-same}
 use lib.Ieee.Positive.{num, den, den-pos}
+use mir.Facts.{or-yes}
 use Rattle.rounding.specs.Parts.{sig, place}
 use Rattle.rounding.proofs.Parts.{decode}
 use Rattle.rounding.proofs.Values.{cross}
@@ -187,15 +188,11 @@ limit-is : limit32 ≡ fin false 1 (pos 16)
 unfolding ofBits
 limit-is = refl
 
-or-split : (a b : Bool) → T (a || b) → T a ⊎ T b
-or-split true b t = inl tt
-or-split false b t = inr t
-
 lower : (e : ℤ) (n : ℕ) → T (false || (eqb (0 * down e) (n * 1) && (false || eqb (0 * down e) 0))) → n ≡ 0
 lower e n h = sym (sym (zero-mul (down e)) ∙ eqb→eq (0 * down e) (n * 1) (and-l (eqb (0 * down e) (n * 1)) (false || eqb (0 * down e) 0) h) ∙ mul-one n)
 
 upper : (a b : ℕ) → T (ltb (a * 1) b || (eqb (a * 1) b && (true || eqb (a * 1) 0))) → a ≤ b
-upper a b h = elim (or-split (ltb (a * 1) b) (eqb (a * 1) b && true) h) [
+upper a b h = elim (or-yes (ltb (a * 1) b) (eqb (a * 1) b && true) h) [
   | inl u ↦ subst (λ (x : ℕ). x ≤ b) (mul-one a) (le-of-lt (ltb→lt (a * 1) b u))
   | inr u ↦ subst (λ (x : ℕ). x ≤ b) (mul-one a) (le-of-eq (eqb→eq (a * 1) b (and-l (eqb (a * 1) b) true u)))
 ]
@@ -245,11 +242,8 @@ whole-up-le x h k =
     last (wholeUpOf x)
     (lt-of-mul-lt-mul-right (den x)
     (lt-of-lt-of-le (whole-up-least x h k .1)
-    (le-trans (more (num x) (65536 * den x) (den x) (in-range x h k .1))
+    (le-trans (add-le-add (in-range x h k .1) (le-refl (den x)))
     (le-of-eq (sym (add-mul 65536 1 (den x) ∙ ap (λ (y : ℕ). 65536 * den x + y) (one-mul (den x))))))))
   where
-    more : (a b d : ℕ) → a ≤ b → a + d ≤ b + d
-    more a b d h = omega arith
-
     last : (r : ℕ) → r < 65537 → r ≤ 65536
     last r h = omega arith

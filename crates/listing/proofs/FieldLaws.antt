@@ -6,6 +6,7 @@ use Prim.Native.Nat.{ℕ, zero, suc, _+_, _≤_, _<_}
 use native.Mathlib.Omega.{arith}
 use lib.Ieee.{Float}
 use lib.ListN.{length}
+use mathlib.Mathlib.Data.Bool.Basic.{and-elim-right}
 use Rattle.leaves.specs.Bits.{floatOf}
 use Rattle.text.specs.declared.HexAt.{HexAt}
 use Rattle.text.specs.declared.HexAt.the-variants as Hex
@@ -32,10 +33,6 @@ value-there false u v h = absurd (let z : _≡_ {A = ℕ} 0 1 = cc in omega arit
 value-missing : (b : Bool) (u : Float) → _≡_ {A = Field} (cond b (Value u) Wrong) Wrong → b ≡ false
 value-missing true u h = absurd (let z : _≡_ {A = ℕ} 0 1 = cc in omega arith)
 value-missing false u h = refl
-
-last-true : (a b : Bool) → a && b ≡ true → b ≡ true
-last-true true b h = h
-last-true false b h = absurd (let z : _≡_ {A = ℕ} 0 1 = cc in omega arith)
 
 module _ (text : List ℕ) (at : ℕ) (key : List ℕ) where
   abbrev keyed : Bool
@@ -81,7 +78,7 @@ module _ (text : List ℕ) (at : ℕ) (key : List ℕ) where
 
   stands-to-end : fieldStandsAt text at key ≡ true → at + length key + 10 ≤ length text
   stands-to-end h =
-      let e : ended ≡ true = last-true (keyed && equals && hexStandsAt text (at + length key + 1)) ended (sym parts ∙ h) in
+      let e : ended ≡ true = and-elim-right (keyed && equals && hexStandsAt text (at + length key + 1)) ended (sym parts ∙ h) in
       omega (arith, stands-inside text (at + length key + 9) (0x0a ∷ []) (omega arith) e)
 
   pub field-inside : (v : Float) → fieldAtOf text at key ≡ Value v → at + length key + 10 ≤ length text

@@ -10,6 +10,7 @@ use lib.Dec.{leb}
 use lib.Ieee.{Float, nan}
 use lib.ListN.{length, drop, getD, length-map}
 use lib.Seq.{drop-drop, getD-drop}
+use Rattle.columns.proofs.Flags.{flag-back}
 use Rattle.columns.specs.Flags.{flagByteOf, isFlagOf}
 use Rattle.answer.specs.Number.{isDone}
 use Rattle.point.specs.declared.Setting.{Setting}
@@ -55,10 +56,6 @@ unfolding flattenOf
 flatten-done setting st c q s o h = drawable-done (drawableOf st c) setting st c q s o h
 
 -- ---- the points from their columns
-flag-back : (b : Bool) → isFlagOf (flagByteOf b) ≡ b
-unfolding flagByteOf isFlagOf
-flag-back true = refl
-flag-back false = refl
 
 module _ {A : Type 0} where
   head-at : (l : List A) (i : ℕ) (d v : A) (rest : List A) → drop i l ≡ v ∷ rest → getD l i d ≡ v

@@ -1,7 +1,7 @@
 -- The shape of a field's line, a row of fields and a command: what is printed fits it, and what fits it is printed; the reader finds a line
 -- exactly where the text has one of its shape. Assumes nothing.
 use mathlib.Core.Path.{_≡_, refl, sym, ap, _∙_}
-use mathlib.Core.Bool.{Bool, true, false, _&&_, cond}
+use mathlib.Core.Bool.{Bool, true, false, _&&_, cond, and-eq-true-iff}
 use mathlib.Core.List.{List, [], _∷_, _++_, map, append-nil, append-assoc}
 use Prim.Native.Nat.{ℕ, suc, _+_, _-_, _^_, _<_}
 use native.Mathlib.Omega.{arith}
@@ -13,9 +13,10 @@ use Rattle.leaves.specs.Bits.{floatOf}
 use Rattle.text.specs.Bytes.{bytes, standsAt}
 use Rattle.text.specs.Hex.{hexOf, hexStandsAt, hexNumberAt}
 use Rattle.text.specs.Places.{newlines}
-use Rattle.text.proofs.Standing.{both-true, stands-split, split-stands, drop-behind}
+use Rattle.text.proofs.Standing.{stands-split, split-stands, drop-behind}
 use Rattle.text.proofs.Hexes.{hex-digits-length, DigitsOf, NumberAt, hex-split, split-hex, split-number}
-use Rattle.text.proofs.Shapes.{Class, byte, admits, Fits, none as fits-none, more as fits-more, digits, fits-append, FitsParts, fits-parts, fits-bytes, bytes-fit, fits-hex, hex-fit, fit, plain, plain-newlines, LineAt, whole, part, line-at, line-newlines, newlines-append}
+use Rattle.text.proofs.Shapes.{Class, byte, admits, Fits, none as fits-none, more as fits-more, digits, fits-append, FitsParts, fits-parts, fits-bytes}
+use Rattle.text.proofs.Shapes.{bytes-fit, fits-hex, hex-fit, fit, plain, plain-newlines, LineAt, whole, part, line-at, line-newlines, newlines-append}
 use Rattle.listing.specs.declared.Op.{Op}
 use Rattle.listing.specs.declared.Op.the-variants.{Move, Line, Quad, RatQuad, Cubic, RatCubic}
 use Rattle.listing.specs.Grammar.{opLineOf, keysOf, quadKeys, cubicKeys}
@@ -57,8 +58,8 @@ module _ (text : List ℕ) (at : ℕ) (key : List ℕ) where
   field-split h =
       let keyed = standsAt text at (key ++ bytes "=") in
       let hexed = hexStandsAt text (at + length key + 1) in
-      let ends = both-true (keyed && hexed) (standsAt text (at + length key + 9) (bytes "\n")) h in
-      let starts = both-true keyed hexed (ends .0) in
+      let ends = and-eq-true-iff (keyed && hexed) (standsAt text (at + length key + 9) (bytes "\n")) .0 h in
+      let starts = and-eq-true-iff keyed hexed .0 (ends .0) in
       let r1 = drop (length (key ++ bytes "=")) (drop at text) in
       let s1 : drop at text ≡ (key ++ bytes "=") ++ r1 = stands-split text at (key ++ bytes "=") (starts .0) in
       let d : NumberAt (drop (at + length key + 1) text) = hex-split text (at + length key + 1) (starts .1) in
@@ -213,7 +214,7 @@ fields-newlines : {keys : List (List ℕ)} {numbers : List ℕ} → Patterns key
 unfolding fieldLines plainKeys newlines
 fields-newlines none h = refl
 fields-newlines (more {key = key} {keys = keys} {n = n} {numbers = numbers} small ps) h =
-    let both = both-true (plain (fieldShape key)) (plainKeys keys) h in
+    let both = and-eq-true-iff (plain (fieldShape key)) (plainKeys keys) .0 h in
     ap newlines (field-text key n (fieldLines keys numbers))
     ∙ newlines-append (fieldText key n) (0x0a ∷ fieldLines keys numbers)
     ∙ omega (arith, plain-newlines (fieldShape key) (fieldText key n) (both .0) (field-fits key n), fields-newlines ps (both .1))
@@ -251,7 +252,7 @@ pub row-at : (text : List ℕ) (at line : ℕ) (values : List Float) (keys : Lis
 unfolding fieldsFrom fieldLines fieldShapes plainKeys
 row-at text at line values [] h = there [] (drop at text) none refl
 row-at text at line values (key ∷ keys) h =
-    let both = both-true (plain (fieldShape key)) (plainKeys keys) h in
+    let both = and-eq-true-iff (plain (fieldShape key)) (plainKeys keys) .0 h in
     go (both .0) (field-at text at key (fieldShapes keys) (both .0))
     (λ (v : Float). row-at text (at + fieldWidth key) (line + 1) (values ++ (v ∷ [])) keys (both .1))
   where

@@ -2,7 +2,6 @@
 use mathlib.Core.Path.{_≡_, refl}
 use mathlib.Core.Bool.{Bool, false, _&&_}
 use Prim.Native.Nat.{ℕ, zero, suc, _*_, _%_, _^_, _<_}
-use native.Mathlib.Omega.{arith}
 use lib.IntN.{ℤ, pos, negsuc}
 use lib.Dec.{T, leb, ltb, eqb, ltb→lt, eqb→eq}
 use lib.Pow.{pow-pos}
@@ -37,9 +36,6 @@ half-is = refl
 pub one-is : one32 ≡ one
 unfolding ofBits
 one-is = refl
-
-pub not-zero : (a : ℕ) → 0 < a → a ≡ 0 → ⊥
-not-zero a l h = omega arith
 
 -- ---- the digits of an f32 are odd, 24 at most, and below 2 ^ 128
 module _ (s : Bool) (m : ℕ) (e : ℤ) (F : T (fits binary32 (fin s (suc m) e))) where

@@ -1,9 +1,9 @@
 -- a - t * a is a * (1 - t). If 1 - t is an f32, the product with it is rounded once too, so the processor's product is the fused operation, except for the sign
 -- of a zero. From 1/2 up to 1 the difference 1 - t is an f32 for each t. Assumes nothing.
 use mathlib.Core.Path.{_≡_, refl, sym, ap, ap₂, _∙_, subst}
-use mathlib.Core.Bool.{Bool, true, false, not, _&&_, _||_, Bool·beq, cond}
+use mathlib.Core.Bool.{Bool, true, false, not, _&&_, _||_, Bool·beq, cond, or-true}
 use Prim.Native.Nat.{ℕ, zero, suc, _+_, _-_, _*_, _/_, _^_, _≤_, _<_}
-use native.Mathlib.Nat.{mul-assoc, mul-comm, mul-left-comm, mul-right-comm, mul-one, one-mul, zero-mul, mul-sub, mul-pos, zero-lt-suc}
+use native.Mathlib.Nat.{mul-assoc, mul-comm, mul-left-comm, mul-right-comm, mul-one, one-mul, zero-mul, mul-sub, mul-pos, zero-lt-suc, ne-of-gt, sub-pos-iff-lt}
 use native.Mathlib.Nat.{mul-le-mul-left, mul-le-mul-right, mul-lt-mul-of-pos-right, lt-of-lt-of-le}
 use native.Mathlib.Nat.{lt-of-le-of-lt, lt-of-not-le, le-of-lt, eq-of-mul-eq-mul-right}
 use native.Mathlib.Omega.{arith}
@@ -16,10 +16,11 @@ use lib.Ieee.Exact.{HasValue, round-exact}
 use lib.Ieee.Fits.{up-pos, down-pos, and-l, and-r, sub-fits}
 use lib.Ieee.Positive.{first-pos, above-of-le, le→cross}
 use lib.Ieee.Scale.{round-same}
+use Rattle.facts.proofs.Tests.{like}
 use Rattle.rounding.proofs.Basics.{less-back}
 use Rattle.leaves.specs.Single.{_⊖_, _⊗_, zero32, half32, one32}
 use Rattle.leaves.specs.Fma.{fma32, fmaOf}
-use Rattle.point.proofs.Digits.{nought, half, one, zero-is, half-is, one-is, not-zero, digits-lt}
+use Rattle.point.proofs.Digits.{nought, half, one, zero-is, half-is, one-is, digits-lt}
 
 -- ---- sums with unlike signs
 plus-minus : (a b c : ℕ) → b ≤ a → sum binary32 false a true b c ≡ round binary32 false (a - b) c
@@ -85,10 +86,6 @@ times-value s o g (fin t n d) R D P v =
     (mul-pos (down-pos g) (down-pos d)) (mul-pos (down-pos g) P)
     (scaled (o * up g) (n * up d) (down g) (down d) R D (v .1))
   where
-    like : (s : Bool) → unlike s false ≡ s
-    like true = refl
-    like false = refl
-
     scaled : (A U G d R D : ℕ) → U * D ≡ R * d → A * U * (G * D) ≡ A * R * (G * d)
     scaled A U G d R D h = simp (mul-assoc, mul-comm, mul-left-comm) (simp (mul-assoc, mul-comm, mul-left-comm) at (ap (λ (y : ℕ). y * (A * G)) h))
 
@@ -148,11 +145,7 @@ Some a = (s : Bool) × (o : ℕ) × (g : ℤ) × (a ≡ fin s o g) × (0 < o * u
 
 zero-equal : (s : Bool) (g : ℤ) → (eqb (0 * up g * 1) (0 * 1 * down g) && (Bool·beq s false || eqb (0 * up g * 1) 0)) ≡ true
 zero-equal s g =
-    ap₂ (λ (a b : ℕ). eqb a b && (Bool·beq s false || eqb a 0)) (mul-one (0 * up g) ∙ zero-mul (up g)) (zero-mul (down g)) ∙ either (Bool·beq s false)
-  where
-    either : (b : Bool) → (b || true) ≡ true
-    either true = refl
-    either false = refl
+    ap₂ (λ (a b : ℕ). eqb a b && (Bool·beq s false || eqb a 0)) (mul-one (0 * up g) ∙ zero-mul (up g)) (zero-mul (down g)) ∙ or-true (Bool·beq s false)
 
 some : (a : Float) → T (ne a nought) → T (eq (sub binary32 a a) nought) → Some a
 unfolding ne eq sub add neg
@@ -201,8 +194,8 @@ equal-value (fin s n d) (fin t m e) A C P v h =
     like : (s t : Bool) → T (Bool·beq s t || eqb (n * up d * down e) 0) → 0 < n * up d * down e → t ≡ s
     like true true h p = refl
     like false false h p = refl
-    like true false h p = absurd (not-zero (n * up d * down e) p (eqb→eq (n * up d * down e) 0 h))
-    like false true h p = absurd (not-zero (n * up d * down e) p (eqb→eq (n * up d * down e) 0 h))
+    like true false h p = absurd (ne-of-gt p (eqb→eq (n * up d * down e) 0 h))
+    like false true h p = absurd (ne-of-gt p (eqb→eq (n * up d * down e) 0 h))
 
 -- N / D is 1 - M / E, so M / E is 1 - N / D
 module _ (N D M E : ℕ) (e : N * E ≡ (E - M) * D) (l : M < E) where
@@ -232,7 +225,7 @@ lower-rest t (n, d, x-is, l, k) h =
     let x = sub binary32 one t in
     let M = n * up d in
     let E = down d in
-    let q = equal-value (sub binary32 one x) t (E - M) E (more M E k) (upper-value x n d (sub-fits binary32 one t) x-is l k) h in
+    let q = equal-value (sub binary32 one x) t (E - M) E (sub-pos-iff-lt .1 k) (upper-value x n d (sub-fits binary32 one t) x-is l k) h in
     let m = q .0 in
     let e = q .1 in (
       m,
@@ -242,9 +235,6 @@ lower-rest t (n, d, x-is, l, k) h =
       subst (λ (y : Float). HasValue y false (down e - m * up e) (down e)) (sym x-is) (refl, swapped (m * up e) (down e) M E (q .3) k),
     )
   where
-    more : (M E : ℕ) → M < E → 0 < E - M
-    more M E k = omega arith
-
     half-pos : (M E : ℕ) → 0 < E → E ≤ M * 2 → 0 < M
     half-pos M E p l = omega arith
 

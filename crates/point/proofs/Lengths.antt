@@ -2,10 +2,10 @@
 -- Assumes nothing.
 use mathlib.Core.Path.{_≡_, refl, sym, ap, ap₂, _∙_, subst}
 use mathlib.Core.Bool.{Bool, true, false, true≢false}
-use Prim.Native.Nat.{ℕ, zero, suc, _+_, _-_, _*_, _^_, _≤_, _<_}
+use Prim.Native.Nat.{ℕ, zero, suc, _+_, _-_, _*_, _^_, _≤_, _<_, zero-le}
 use native.Mathlib.Nat.{mul-assoc, mul-comm, mul-left-comm, mul-right-comm, mul-one, one-mul, mul-pos, zero-lt-suc, mul-le-mul, mul-le-mul-left}
-use native.Mathlib.Nat.{mul-le-mul-right, le-of-mul-le-mul-right, lt-of-mul-lt-mul-right}
-use native.Mathlib.Nat.{mul-lt-mul-of-pos-right, le-trans, le-of-eq, lt-of-lt-of-le, lt-of-le-of-lt, le-of-lt}
+use native.Mathlib.Nat.{lt-of-le-of-lt, not-le-of-lt, mul-le-mul-right, le-of-mul-le-mul-right, lt-of-mul-lt-mul-right, mul-lt-mul-of-pos-right, le-trans}
+use native.Mathlib.Nat.{le-of-eq, lt-of-lt-of-le, lt-of-le-of-lt, le-of-lt}
 use native.Mathlib.Omega.{arith}
 use mathlib.Core.Logic.{inl, inr}
 use lib.IntN.{ℤ, pos, negsuc}
@@ -15,6 +15,7 @@ use lib.Ieee.{Float, nan, inf, fin, binary32, up, down, lt, le, fits, ofBits}
 use lib.Ieee.Fits.{down-pos, add-fits}
 use lib.Ieee.Positive.{num, den, den-pos, positive, above, first-pos, above-of-le, le→cross, cross→le}
 use lib.Ieee.Scale.{finite}
+use Rattle.facts.proofs.Tests.{same}
 use Rattle.rounding.proofs.Basics.{le-or-lt, less-back}
 use Rattle.leaves.specs.Small.{negativeOf}
 use Rattle.leaves.specs.Sqrt.{sqrt32, sqrtOf, NearestRoot}
@@ -25,10 +26,7 @@ use Rattle.point.proofs.Digits.{zero-is, digits-lt}
 
 -- ---- over whole numbers: the root is n / d, and what it is the root of x / e
 square-lt : (a b : ℕ) → a < b → a * a < b * b
-square-lt a b h = lt-of-le-of-lt (mul-le-mul-left a (le-of-lt h)) (mul-lt-mul-of-pos-right h (some a b h))
-  where
-    some : (a b : ℕ) → a < b → 0 < b
-    some a b h = omega arith
+square-lt a b h = lt-of-le-of-lt (mul-le-mul-left a (le-of-lt h)) (mul-lt-mul-of-pos-right h (lt-of-le-of-lt zero-le h))
 
 -- a root below 1 / C that is no farther than 1 / C: so x / e is below the square of 1 / C
 too-low : (n d x e C : ℕ) → 0 < e → n * C < d → x * (2 * (d * C) * (2 * (d * C))) ≤ (n * C + 1 * d) * (n * C + 1 * d) * e → x * (C * C) < e
@@ -93,11 +91,6 @@ below-gap m j k P Q h =
     parts p h = elim (le-or-lt p 24) [ inl l ↦ few (2 ^ p) h (pow-mono l) | inr l ↦ many (2 ^ p) Q (pow-mono (le-of-lt l)) ]
 
 -- ---- floats
-same-test : (a b : Bool) → (T a → T b) → (T b → T a) → a ≡ b
-same-test true true f g = refl
-same-test false false f g = refl
-same-test true false f g = absurd (f tt)
-same-test false true f g = absurd (g tt)
 
 plain-positive : (r : Float) (C : ℕ) → negativeOf r ≡ false → T (finite r) → den r ≤ num r * C → T (positive r)
 unfolding negativeOf
@@ -129,10 +122,7 @@ gap-of : (j k : ℕ) → 2 ^ suc k ≡ 2 ^ suc j * 2 ^ suc j → (m : ℕ) (e : 
     → suc m * up e * (2 ^ suc j * 2 ^ suc j) * 16777216 ≤ down e * 16777215
 gap-of j k sq m (pos i) F g =
     let C = 2 ^ suc j in
-    absurd (no (suc m * 2 ^ i * (C * C)) (mul-pos (mul-pos (zero-lt-suc m) (pow-pos i)) (mul-pos (pow-pos (suc j)) (pow-pos (suc j)))) g)
-  where
-    no : (a : ℕ) → 0 < a → a < 1 → ⊥
-    no a h k = omega arith
+    absurd (not-le-of-lt g (mul-pos (mul-pos (zero-lt-suc m) (pow-pos i)) (mul-pos (pow-pos (suc j)) (pow-pos (suc j)))))
 gap-of j k sq m (negsuc i) F g =
     let is : suc m * 1 * (2 ^ suc j * 2 ^ suc j) ≡ suc m * 2 ^ suc k = ap₂ (λ (a b : ℕ). a * b) (mul-one (suc m)) (sym sq) in
     subst (λ (x : ℕ). x * 16777216 ≤ 2 ^ suc i * 16777215) (sym is)
@@ -200,14 +190,14 @@ root-test j k l w (fin s zero e) F =
     let x = fin s zero e in
     let c = fin false 1 (negsuc j) in
     let d = fin false 1 (negsuc k) in
-    same-test (le d x) (le c x) (λ h. absurd (no-zero s e (above-of-le d x tt h))) (λ h. absurd (no-zero s e (above-of-le c x tt h)))
+    same (le d x) (le c x) (λ h. absurd (no-zero s e (above-of-le d x tt h))) (λ h. absurd (no-zero s e (above-of-le c x tt h)))
 root-test j k l w (fin true (suc m) e) F =
     let x = fin true (suc m) e in
     let d = fin false 1 (negsuc k) in
-    same-test (le d x) false (λ h. absurd (above-of-le d x tt h)) (λ h. absurd h)
+    same (le d x) false (λ h. absurd (above-of-le d x tt h)) (λ h. absurd h)
 root-test j k l w (fin false (suc m) e) F =
     let x = fin false (suc m) e in
-    same-test (le (fin false 1 (negsuc k)) x) (le (fin false 1 (negsuc j)) (sqrt32 x)) (up-to j k l w m e F) (down-to j k l w m e F)
+    same (le (fin false 1 (negsuc k)) x) (le (fin false 1 (negsuc j)) (sqrt32 x)) (up-to j k l w m e F) (down-to j k l w m e F)
 
 -- ---- a length of at least 2 ^ -23, and of at least 2 ^ -4
 short-is : f32 0x3400_0000 ≡ fin false 1 (negsuc 22)

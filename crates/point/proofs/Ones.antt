@@ -2,11 +2,11 @@
 -- added back the exact sum lies within 2 ^ -25 of 1, and both ends round to 1: at the lower the tie goes to the even digits of 1. Assumes nothing.
 use mathlib.Core.Path.{_≡_, refl, sym, ap, ap₂, _∙_, subst}
 use mathlib.Core.Logic.{inl, inr}
-use mathlib.Core.Bool.{Bool, true, false, not, _&&_, _||_, Bool·beq, cond, true≢false}
+use mathlib.Core.Bool.{Bool, true, false, not, _&&_, _||_, Bool·beq, cond, and-eq-true-iff}
 use Prim.Native.Nat.{ℕ, zero, suc, _+_, _-_, _*_, _/_, _%_, _^_, _≤_, _<_}
 use native.Mathlib.Nat.{mul-assoc, mul-comm, mul-left-comm, mul-right-comm, mul-one, one-mul, zero-mul, suc-mul, mul-sub, mul-pos, pow-suc, zero-lt-suc}
-use native.Mathlib.Nat.{mul-le-mul-left, mul-le-mul-right, le-of-mul-le-mul-right, mul-lt-mul-of-pos-right, le-trans, le-of-eq, lt-of-le-of-lt, le-antisymm}
-use native.Mathlib.Nat.{div-add-mod', div-lt-iff-lt-mul, mod-lt}
+use native.Mathlib.Nat.{ne-of-gt, mul-le-mul-left, mul-le-mul-right, le-of-mul-le-mul-right, mul-lt-mul-of-pos-right, le-trans, le-of-eq, lt-of-le-of-lt}
+use native.Mathlib.Nat.{le-antisymm, div-add-mod', div-lt-iff-lt-mul, mod-lt}
 use native.Mathlib.Omega.{arith}
 use borrow.Author.Tests.{le-ltb, lt-ltb}
 use lib.IntN.{ℤ, pos, negsuc}
@@ -28,7 +28,7 @@ use Rattle.leaves.specs.Single.{zero32, one32}
 use Rattle.leaves.specs.Fma.{fma32}
 use Rattle.leaves.proofs.FmaNearest.{fma-one}
 use Rattle.point.specs.Curve.{lerpOf, quadAtOf, cubicAtOf}
-use Rattle.point.proofs.Digits.{nought, one, zero-is, one-is, not-zero, odd-digits}
+use Rattle.point.proofs.Digits.{nought, one, zero-is, one-is, odd-digits}
 
 -- ---- `closest` is off by half a unit at most
 half-off : (n u : ℕ) → 0 < u → gap (closest n u * u) n * 2 ≤ u
@@ -66,7 +66,7 @@ own-one s m (pos (suc k)) S F h = absurd (no (m * 2 ^ k) (mul-assoc m (2 ^ k) 2 
   where
     no : (a : ℕ) → a * 2 ≡ 1 → ⊥
     no a h = omega arith
-own-one s zero (negsuc k) S F h = absurd (not-zero (2 ^ suc k) (pow-pos (suc k)) (sym h ∙ zero-mul 1))
+own-one s zero (negsuc k) S F h = absurd (ne-of-gt (pow-pos (suc k)) (sym h ∙ zero-mul 1))
 own-one s (suc m) (negsuc k) S F h = absurd (no (suc m) (2 ^ k) (sym (mul-one (suc m)) ∙ h ∙ pow-suc 2 k) (odd-digits s m (negsuc k) F))
   where
     no : (n a : ℕ) → n ≡ a * 2 → n % 2 ≡ 1 → ⊥
@@ -79,7 +79,7 @@ equal-one x F h =
   where
     plain : (s : Bool) (a : ℕ) → 0 < a → T (Bool·beq s false || eqb a 0) → s ≡ false
     plain false a l t = refl
-    plain true a l t = absurd (not-zero a l (eqb→eq a 0 t))
+    plain true a l t = absurd (ne-of-gt l (eqb→eq a 0 t))
 
     go : (x : Float) → T (fits binary32 x) → eq x one ≡ true → x ≡ one
     go nan F h = cc
@@ -224,7 +224,7 @@ positive-back m e some under =
 below-zero : (m : ℕ) (e : ℤ) → T (eqb (0 * down e) (suc m * up e * 1) && (false || eqb (0 * down e) 0)) → ⊥
 below-zero m e h =
     let n = suc m * up e * 1 in
-    not-zero n (mul-pos (mul-pos (zero-lt-suc m) (up-pos e)) (pow-pos 0))
+    ne-of-gt (mul-pos (mul-pos (zero-lt-suc m) (up-pos e)) (pow-pos 0))
     (sym (eqb→eq (0 * down e) n (and-l (eqb (0 * down e) n) (false || eqb (0 * down e) 0) h)) ∙ zero-mul (down e))
 
 at-most-one : (m : ℕ) (e : ℤ) → T (le (fin false (suc m) e) one) → suc m * up e ≤ down e
@@ -253,13 +253,9 @@ lerp-ones t h k =
 abbrev within : Float → Bool
 within t = le zero32 t && le t one32
 
-both : (a b : Bool) → a && b ≡ true → (a ≡ true) × (b ≡ true)
-both true b h = (refl, h)
-both false b h = absurd (true≢false (sym h))
-
 within-lerp : (t : Float) → within t ≡ true → lerpOf t one32 one32 ≡ one32
 within-lerp t h =
-    let p = both (le zero32 t) (le t one32) h in
+    let p = and-eq-true-iff (le zero32 t) (le t one32) .0 h in
     lerp-ones t (subst T (sym (p .0)) tt) (subst T (sym (p .1)) tt)
 
 ones-quad : (t : Float) → within t ≡ true → quadAtOf t one32 one32 one32 ≡ one32
@@ -276,9 +272,9 @@ equals-one x F h = equal-one x (subst T (sym F) tt) h
 pub quad-ones : (t a b c : Float) → fits binary32 a ≡ true → fits binary32 b ≡ true → fits binary32 c ≡ true
     → within t && eq a one32 && eq b one32 && eq c one32 ≡ true → one32 ≡ quadAtOf t a b c
 quad-ones t a b c A B C h =
-    let p = both (within t && eq a one32 && eq b one32) (eq c one32) h in
-    let q = both (within t && eq a one32) (eq b one32) (p .0) in
-    let r = both (within t) (eq a one32) (q .0) in
+    let p = and-eq-true-iff (within t && eq a one32 && eq b one32) (eq c one32) .0 h in
+    let q = and-eq-true-iff (within t && eq a one32) (eq b one32) .0 (p .0) in
+    let r = and-eq-true-iff (within t) (eq a one32) .0 (q .0) in
     sym
     (ap₂ (λ (x y : Float). quadAtOf t x y c) (equals-one a A (r .1)) (equals-one b B (q .1))
     ∙ ap (λ (x : Float). quadAtOf t one32 one32 x) (equals-one c C (p .1))
@@ -287,10 +283,10 @@ quad-ones t a b c A B C h =
 pub cubic-ones : (t a b c d : Float) → fits binary32 a ≡ true → fits binary32 b ≡ true → fits binary32 c ≡ true → fits binary32 d ≡ true
     → within t && eq a one32 && eq b one32 && eq c one32 && eq d one32 ≡ true → one32 ≡ cubicAtOf t a b c d
 cubic-ones t a b c d A B C D h =
-    let p = both (within t && eq a one32 && eq b one32 && eq c one32) (eq d one32) h in
-    let q = both (within t && eq a one32 && eq b one32) (eq c one32) (p .0) in
-    let r = both (within t && eq a one32) (eq b one32) (q .0) in
-    let s = both (within t) (eq a one32) (r .0) in
+    let p = and-eq-true-iff (within t && eq a one32 && eq b one32 && eq c one32) (eq d one32) .0 h in
+    let q = and-eq-true-iff (within t && eq a one32 && eq b one32) (eq c one32) .0 (p .0) in
+    let r = and-eq-true-iff (within t && eq a one32) (eq b one32) .0 (q .0) in
+    let s = and-eq-true-iff (within t) (eq a one32) .0 (r .0) in
     sym
     (ap₂ (λ (x y : Float). cubicAtOf t x y c d) (equals-one a A (s .1)) (equals-one b B (r .1))
     ∙ ap₂ (λ (x y : Float). cubicAtOf t one32 one32 x y) (equals-one c C (q .1)) (equals-one d D (p .1))

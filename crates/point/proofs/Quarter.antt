@@ -2,7 +2,7 @@
 use mathlib.Core.Path.{_≡_, refl, sym, ap, _∙_, subst}
 use mathlib.Core.Bool.{Bool, true, false, _&&_}
 use Prim.Native.Nat.{ℕ, zero, suc, _+_, _-_, _*_, _^_, _≤_, _<_}
-use native.Mathlib.Nat.{mul-assoc, mul-comm, mul-left-comm, mul-one, one-mul, mul-pos, mul-lt-mul-of-pos-right, mul-le-mul-left}
+use native.Mathlib.Nat.{mul-assoc, mul-comm, mul-left-comm, mul-one, one-mul, mul-pos, mul-lt-mul-of-pos-right, mul-le-mul-left, mul-mul-mul-comm}
 use native.Mathlib.Nat.{lt-of-lt-of-le, lt-of-le-of-lt}
 use native.Mathlib.Omega.{arith}
 use lib.IntN.{ℤ, pos, negsuc}
@@ -74,13 +74,10 @@ exact-fused m e u o g (fin t n d) v =
     ∙ sum-same binary32 false (n * up d * G) u (o * up g * down d) (down d * G) (N * 1 * G) (o * up g * (D * 4)) (D * 4 * G)
     (mul-pos (down-pos d) (down-pos g)) (mul-pos (mul-pos (down-pos e) (pow-pos 2)) (down-pos g))
     (first (n * up d) N G (D * 4) (down d) (v .1) ∙ ap (λ (x : ℕ). x * G * (down d * G)) (sym (mul-one N)))
-    (second (o * up g) (down d) (D * 4) G)
+    (mul-mul-mul-comm (o * up g) (down d) (D * 4) G)
   where
     first : (P N G E d : ℕ) → P * E ≡ N * d → P * G * (E * G) ≡ N * G * (d * G)
     first P N G E d h = simp (mul-assoc, mul-comm) (simp (mul-assoc, mul-comm, mul-left-comm) at (ap (λ (y : ℕ). y * (G * G)) h))
-
-    second : (C d E G : ℕ) → C * d * (E * G) ≡ C * E * (d * G)
-    second C d E G = simp (mul-assoc, mul-left-comm)
 
 -- ---- by the tests of the code: x from 2 ^ -100 on, and both finite
 tested : (x c : Float) → T (fits binary32 x) → T (le least x) → T (eq (sub binary32 x x) nought) → T (eq (sub binary32 c c) nought)

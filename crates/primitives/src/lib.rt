@@ -12,6 +12,7 @@ pub use planning::plan;
 use point::Angle;
 use point::Point;
 use point::WeightedPoint;
+pub use splines::below;
 
 // How many quads and splines the tables take.
 pub struct Capacities {

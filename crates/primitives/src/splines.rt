@@ -49,7 +49,7 @@ pub fn sum_before(opens: bool, last: SplineRow) -> f32
 }
 
 // The whole number before, and 0 before 0.
-fn below(n: u32) -> u32
+pub fn below(n: usize) -> usize
     ensures { λ r. ⌜ r ≡ n - 1 ⌝ }
 {
     if n == 0 { 0 } else { n - 1 }
@@ -91,6 +91,7 @@ pub fn spline_edit(
             next,
         };
     }
+    let at = below(st.splines as usize) as u32;
     let p0 = last.p0;
     let row = SplineRow {
         curvature: sum,
@@ -107,7 +108,7 @@ pub fn spline_edit(
     };
     SplineEdit {
         clears: false,
-        at: below(st.splines),
+        at,
         row,
         next,
     }

@@ -3,16 +3,18 @@
 -- nothing.
 use mathlib.Core.Path.{_≡_, refl, sym, ap, ap₂, _∙_, subst}
 use mathlib.Core.Logic.{_⊎_, inl, inr, _≢_, _↔_}
-use mathlib.Core.Bool.{Bool, true, false, _&&_, _||_, cond, true≢false}
+use mathlib.Core.Bool.{Bool, true, false, _&&_, cond, true≢false, or-false}
 use mathlib.Core.List.{List, [], _∷_, _++_}
 use Prim.Native.Nat.{ℕ, zero, suc, _+_, _-_, _≤_, _<_, zero-le}
-use native.Mathlib.Nat.{le-trans, le-of-eq, le-refl, le-of-lt, lt-of-lt-of-le, lt-of-le-of-lt, lt-irrefl, eq-or-lt-of-le}
+use native.Mathlib.Nat.{le-trans, le-of-eq, le-refl, le-of-lt, lt-of-lt-of-le, lt-of-le-of-lt, lt-irrefl, eq-or-lt-of-le, add-sub-of-le, add-zero}
+use native.Mathlib.Nat.{le-of-suc-le-suc, lt-suc-self, not-le-of-lt}
 use native.Mathlib.Decide.{ℕ-discrete, decLt}
-use native.Mathlib.Omega.{arith}
+use native.Mathlib.Omega.{arith, by-contra}
 use lib.Dec.{T, leb, ltb, eqb, leb→le, eqb→eq}
 use lib.ListN.{length, getD, take, replicate}
 use lib.Seq.{take-take, getD-take, length-take-le}
 use lib.Ieee.{Float}
+use Rattle.facts.proofs.Numbers.{shift}
 use Rattle.answer.specs.Number.{isDone}
 use Rattle.command.specs.declared.PointCommand.{PointCommand}
 use Rattle.command.specs.declared.PointCommand.the-variants.{Start, Incr, End}
@@ -77,10 +79,7 @@ module _ (job : Job) (P : Passed job) where
   grows : (i j : ℕ) → i ≤ j → splinesBefore job i ≤ splinesBefore job j
   unfolding splinesBefore
   grows i j h =
-      subst (λ (x : ℕ). splinesBefore job i ≤ splinesBefore job x) (join i j h) (before-grows (job .setting) (capsOf job) (job .columns) (job .columns .commands) (startOf job) i (j - i))
-    where
-      join : (i j : ℕ) → i ≤ j → i + (j - i) ≡ j
-      join i j h = omega arith
+      subst (λ (x : ℕ). splinesBefore job i ≤ splinesBefore job x) (add-sub-of-le h) (before-grows (job .setting) (capsOf job) (job .columns) (job .columns .commands) (startOf job) i (j - i))
 
   none-first : splinesBefore job 0 ≡ 0
   unfolding splinesBefore primitivesFrom runOf
@@ -96,19 +95,13 @@ module _ (job : Job) (P : Passed job) where
     a,
     b,
     record {
-      contour = record { order = l; inside = le-of-eq (at b (countOf job) e); opens = m; between = n; closes = inl (at b (countOf job) e) };
+      contour = record { order = l; inside = le-of-eq (sym (add-zero b) ∙ e); opens = m; between = n; closes = inl (sym (add-zero b) ∙ e) };
       from = h;
-      below = lt-of-lt-of-le t (le-of-eq (ap (splinesBefore job) (sym (at b (countOf job) e))));
+      below = lt-of-lt-of-le t (le-of-eq (ap (splinesBefore job) (sym (sym (add-zero b) ∙ e))));
     },
   )
-    where
-      at : (b n : ℕ) → b + 0 ≡ n → b ≡ n
-      at b n e = omega arith
   found k (suc d) b a e l m h n t = go (ℕ-discrete (commandAt job b) moveCommand) (decLt k (splinesBefore job b)) (found k d (suc b))
     where
-      next : (b d n : ℕ) → b + suc d ≡ n → suc b + d ≡ n
-      next b d n e = omega arith
-
       within : (b d n : ℕ) → b + suc d ≡ n → b ≤ n
       within b d n e = omega arith
 
@@ -116,16 +109,7 @@ module _ (job : Job) (P : Passed job) where
       weak a b h = omega arith
 
       split : (P : ℕ → Type 0) (i : ℕ) → i < suc b → (i < b → P i) → P b → P i
-      split P i h f p = elim (eq-or-lt-of-le (below i b h)) [ inl z ↦ subst P (sym z) p | inr z ↦ f z ]
-        where
-          below : (i b : ℕ) → i < suc b → i ≤ b
-          below i b h = omega arith
-
-      less : (x y : ℕ) → (x < y → ⊥) → y ≤ x
-      less x y h = omega arith
-
-      self : (b : ℕ) → b < suc b
-      self b = omega arith
+      split P i h f p = elim (eq-or-lt-of-le (le-of-suc-le-suc h)) [ inl z ↦ subst P (sym z) p | inr z ↦ f z ]
 
       none : (i b : ℕ) → b < i → i < suc b → ⊥
       none i b h g = omega arith
@@ -134,29 +118,23 @@ module _ (job : Job) (P : Passed job) where
           → ((a : ℕ) → suc b + d ≡ (countOf job) → a < suc b → commandAt job a ≡ moveCommand → splinesBefore job a ≤ k → ((i : ℕ) → a < i → i < suc b → commandAt job i ≢ moveCommand) → k < splinesBefore job (countOf job) → (a' : ℕ) × (b' : ℕ) × Within job a' b' k)
           → (a' : ℕ) × (b' : ℕ) × Within job a' b' k
       go (yes z) (yes y) f = (a, b, record { contour = record { order = l; inside = within b d (countOf job) e; opens = m; between = n; closes = inr z }; from = h; below = y })
-      go (yes z) (no y) f = f b (next b d (countOf job) e) (self b) z (less k (splinesBefore job b) y) (λ i g s. absurd (none i b g s)) t
-      go (no z) c f = f a (next b d (countOf job) e) (weak a b l) m h (λ i g s. split (λ (x : ℕ). commandAt job x ≢ moveCommand) i s (λ u. n i g u) z) t
+      go (yes z) (no y) f = f b (shift b d ∙ e) (lt-suc-self b) z (by-contra (splinesBefore job b) k y) (λ i g s. absurd (none i b g s)) t
+      go (no z) c f = f a (shift b d ∙ e) (weak a b l) m h (λ i g s. split (λ (x : ℕ). commandAt job x ≢ moveCommand) i s (λ u. n i g u) z) t
 
   pub contour-of : (k : ℕ) → k < worldOf job .state .splines → (a : ℕ) × (b : ℕ) × Within job a b k
   contour-of k h =
-      found k ((countOf job) - 1) 1 0 (back (countOf job) (some-commands .0)) (le-refl 1) first-move (le-trans (le-of-eq none-first) zero-le) (λ i g s. absurd (no-room i g s)) (lt-of-lt-of-le h (le-of-eq (sym all-last)))
+      found k ((countOf job) - 1) 1 0 (back (countOf job) (some-commands .0)) (le-refl 1) first-move (le-trans (le-of-eq none-first) zero-le) (λ i g s. absurd (not-le-of-lt s g)) (lt-of-lt-of-le h (le-of-eq (sym all-last)))
     where
       back : (n : ℕ) → 1 ≤ n → 1 + (n - 1) ≡ n
       back n h = omega arith
-
-      no-room : (i : ℕ) → 0 < i → i < 1 → ⊥
-      no-room i g s = omega arith
 
   -- ---- each spline is in only one contour
   after : (a b i : ℕ) → Contour job a b → a < i → commandAt job i ≡ moveCommand → b ≤ i
   after a b i C l m = go (decLt i b)
     where
-      less : (x y : ℕ) → (x < y → ⊥) → y ≤ x
-      less x y h = omega arith
-
       go : Dec (i < b) → b ≤ i
       go (yes h) = absurd (C .between i l h m)
-      go (no h) = less i b h
+      go (no h) = by-contra b i h
 
   -- a contour that begins after another's Move has none of its splines
   apart : (a b c d k : ℕ) → Within job a b k → Within job c d k → a < c → ⊥
@@ -200,10 +178,7 @@ module _ (job : Job) (P : Passed job) where
       (move-met (job .setting) (capsOf job) (job .columns) ks 0 (startOf job) i (lt-of-lt-of-le l (le-of-eq (sym (length-take-le (countOf job) (job .columns .commands) (some-commands .1))))) (getD-take (countOf job) (job .columns .commands) i 0 l ∙ m)
       (before-done (job .setting) (capsOf job) (job .columns) ks (startOf job) i (countOf job - i)
       (ap (λ (x : List ℕ). isDone (runOf (job .setting) (capsOf job) (primitivesFrom (job .columns) x 0) (startOf job) .state .answer))
-      (ap (λ (x : ℕ). take x ks) (join i (countOf job) (le-of-lt l)) ∙ take-take (countOf job) (countOf job) (job .columns .commands) (le-refl (countOf job))) ∙ P .done)))
-    where
-      join : (i n : ℕ) → i ≤ n → i + (n - i) ≡ n
-      join i n h = omega arith
+      (ap (λ (x : ℕ). take x ks) (add-sub-of-le (le-of-lt l)) ∙ take-take (countOf job) (countOf job) (job .columns .commands) (le-refl (countOf job))) ∙ P .done)))
 
   -- ---- a flag, and the contour's last
   pub flag-last : (k : ℕ) → k < worldOf job .state .splines → (flagAt (worldOf job .splines) k ≡ true) ↔ ContourLast job k
@@ -259,10 +234,6 @@ piece-flag s k = go (startsOf s k) ∙ steps-no-flag (stepsOf s k) (stepSizeOf s
     go : (b : Bool) → isFlagged (cond b (Start k ∷ []) [] ++ (replicate (stepsOf s k) (Incr (stepSizeOf s k)) ++ (End k (splineAt s k .contour) ∷ []))) ≡ isFlagged (replicate (stepsOf s k) (Incr (stepSizeOf s k)) ++ (End k (splineAt s k .contour) ∷ []))
     go true = refl
     go false = refl
-
-    or-false : (b : Bool) → b || false ≡ b
-    or-false true = refl
-    or-false false = refl
 
 pub demand3c : Demand3c
 unfolding walked

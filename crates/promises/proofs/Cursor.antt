@@ -6,7 +6,8 @@ use mathlib.Core.Logic.{_⊎_, inl, inr}
 use mathlib.Core.Bool.{Bool, true, false, not, cond}
 use mathlib.Core.List.{List, [], _∷_, _++_, List·Memᴰ, List·Memᴰ·head, List·Memᴰ·tail}
 use Prim.Native.Nat.{ℕ, zero, suc, _+_, _-_, _*_, _/_, _%_, _≤_, _<_, zero-le}
-use native.Mathlib.Nat.{le-trans, le-of-eq, le-refl, le-of-lt, lt-of-lt-of-le, lt-of-le-of-lt, lt-irrefl, eq-or-lt-of-le, le-of-suc-le-suc, not-suc-le-zero, zero-lt-suc, mul-le-mul-right, one-mul, zero-mul, suc-mul, div-mul-le-self, div-lt-iff-lt-mul}
+use native.Mathlib.Nat.{le-trans, le-of-eq, le-refl, le-of-lt, lt-of-lt-of-le, lt-of-le-of-lt, lt-irrefl, eq-or-lt-of-le, le-of-suc-le-suc, not-suc-le-zero}
+use native.Mathlib.Nat.{zero-lt-suc, mul-le-mul-right, one-mul, zero-mul, suc-mul, div-mul-le-self, div-lt-iff-lt-mul, add-zero, le-suc, sub-le, suc-inj}
 use native.Mathlib.Numerals.{add-one}
 use native.Mathlib.Decide.{decLt}
 use native.Mathlib.Omega.{arith}
@@ -14,6 +15,7 @@ use lib.Dec.{T, ltb, ltb→lt, nltb→le, lit≤}
 use lib.Ieee.{Float, nan, lt}
 use lib.Ieee.Positive.{num, den, den-pos}
 use lib.ListN.{getD}
+use Rattle.facts.proofs.Numbers.{shift, shift-one}
 use Rattle.leaves.specs.Single.{whole32}
 use Rattle.command.specs.declared.PointCommand.the-variants.{Incr}
 use Rattle.tables.specs.Tables.{QuadTable}
@@ -119,19 +121,10 @@ module _ (q : QuadTable) (total : Float) (lo l j m : ℕ) (R : Span q total lo (
 
   -- a whole number at most a sum is at most the later ones
   carry : (p i d : ℕ) → lo ≤ i → i + d ≤ l → AtMost p (sumAt q i) → AtMost p (sumAt q (i + d))
-  carry p i zero h k a = subst (λ (x : ℕ). AtMost p (sumAt q x)) (plain i) a
-    where
-      plain : (i : ℕ) → i ≡ i + 0
-      plain i = omega arith
+  carry p i zero h k a = subst (λ (x : ℕ). AtMost p (sumAt q x)) (sym (add-zero i)) a
   carry p i (suc d) h k a =
-      subst (λ (x : ℕ). AtMost p (sumAt q x)) (shift i d) (carry p (suc i) d (le-trans h (next i)) (le-trans (le-of-eq (shift i d)) k) (weaker p (sumAt q (suc i)) (reach i h (below i d l k) p a)))
+      subst (λ (x : ℕ). AtMost p (sumAt q x)) (shift i d) (carry p (suc i) d (le-trans h (le-suc i)) (le-trans (le-of-eq (shift i d)) k) (weaker p (sumAt q (suc i)) (reach i h (below i d l k) p a)))
     where
-      shift : (i d : ℕ) → suc i + d ≡ i + suc d
-      shift i d = omega arith
-
-      next : (i : ℕ) → i ≤ suc i
-      next i = omega arith
-
       below : (i d l : ℕ) → i + suc d ≤ l → i < l
       below i d l k = omega arith
 
@@ -139,7 +132,7 @@ module _ (q : QuadTable) (total : Float) (lo l j m : ℕ) (R : Span q total lo (
   not-less p i i' F G h =
       lt-irrefl (num (sumAt q (i' - 1)))
       (lt-of-lt-of-le (G .above (i' - 1) (back i i' h) (le-trans (F .low) (last i i' h)))
-      (subst (λ (x : ℕ). AtMost p (sumAt q x)) (join i i' h) (carry p i (i' - 1 - i) (F .low) (le-trans (le-of-eq (join i i' h)) (le-trans (pred i') (G .high))) (F .upto))))
+      (subst (λ (x : ℕ). AtMost p (sumAt q x)) (join i i' h) (carry p i (i' - 1 - i) (F .low) (le-trans (le-of-eq (join i i' h)) (le-trans (sub-le i' 1) (G .high))) (F .upto))))
     where
       back : (i i' : ℕ) → i < i' → suc (i' - 1) ≡ i'
       back i i' h = omega arith
@@ -149,9 +142,6 @@ module _ (q : QuadTable) (total : Float) (lo l j m : ℕ) (R : Span q total lo (
 
       join : (i i' : ℕ) → i < i' → i + (i' - 1 - i) ≡ i' - 1
       join i i' h = omega arith
-
-      pred : (i : ℕ) → i - 1 ≤ i
-      pred i = omega arith
 
   -- a step falls on one quad only
   pub falls-once : (p i i' : ℕ) → Falls p i → Falls p i' → i ≡ i'
@@ -186,10 +176,7 @@ module _ (q : QuadTable) (total : Float) (lo l j m : ℕ) (R : Span q total lo (
       go : (Below (sumAt q i) (suc p) × (cursorAt q (suc p) i ≡ suc i)) ⊎ (AtMost (suc p) (sumAt q i) × (cursorAt q (suc p) i ≡ i)) → Falls (suc p) (cursorAt q (suc p) i)
       go (inr z) =
           subst (Falls (suc p)) (sym (z .1))
-          (record { low = F .low; high = F .high; upto = z .0; above = λ b e h. lt-of-lt-of-le (F .above b e h) (mul-le-mul-right (den (sumAt q b)) (up p)) })
-        where
-          up : (p : ℕ) → p ≤ suc p
-          up p = omega arith
+          (record { low = F .low; high = F .high; upto = z .0; above = λ b e h. lt-of-lt-of-le (F .above b e h) (mul-le-mul-right (den (sumAt q b)) (le-suc p)) })
       go (inl z) = elim (eq-or-lt-of-le (F .high)) [
         | inl e ↦ absurd (clash (sumAt q l) (suc p) (subst (λ (x : ℕ). Below (sumAt q x) (suc p)) e (z .0)) (le-of-lt (up-below (sumAt q l) m (suc p) U k)))
         | inr g ↦
@@ -198,12 +185,9 @@ module _ (q : QuadTable) (total : Float) (lo l j m : ℕ) (R : Span q total lo (
               low = le-trans (F .low) (le-of-lt (le-refl (suc i)));
               high = g;
               upto = reach i (F .low) g p (F .upto);
-              above = λ b e h. subst (λ (x : ℕ). Below (sumAt q x) (suc p)) (sym (same b i e)) (z .0);
+              above = λ b e h. subst (λ (x : ℕ). Below (sumAt q x) (suc p)) (sym (suc-inj e)) (z .0);
             })
       ]
-        where
-          same : (b i : ℕ) → suc b ≡ suc i → b ≡ i
-          same b i e = omega arith
 
   -- ---- n steps from step p on, at a cursor from which p falls
   ready-next : (n p c : ℕ) → (0 < suc n → Falls p (cursorAt q p c)) → p + suc n ≤ m → 0 < n → Falls (p + 1) (cursorAt q (p + 1) (cursorAt q p c))
@@ -229,12 +213,9 @@ module _ (q : QuadTable) (total : Float) (lo l j m : ℕ) (R : Span q total lo (
   step-at size (suc n) p c F k x h g = elim (eq-or-lt-of-le h) [
     | inl e ↦ subst (StepAt size (stepsFrom q size (suc n) p c)) e (record { quad = cursorAt q p c; falls = F (zero-lt-suc n); member = List·Memᴰ·head refl })
     | inr u ↦
-        let z = step-at size n (p + 1) (cursorAt q p c) (ready-next n p c F k) (shifted p n m k) x (le-trans (le-of-eq (add-one p)) u) (lt-of-lt-of-le g (le-of-eq (sum p n))) in
+        let z = step-at size n (p + 1) (cursorAt q p c) (ready-next n p c F k) (shifted p n m k) x (le-trans (le-of-eq (add-one p)) u) (lt-of-lt-of-le g (le-of-eq (sym (shift-one p n)))) in
         record { quad = z .quad; falls = z .falls; member = List·Memᴰ·tail (z .member) }
   ]
-    where
-      sum : (p n : ℕ) → p + suc n ≡ p + 1 + n
-      sum p n = omega arith
 
   pub steps-inside : (size : Float) (n p c : ℕ) → (0 < n → Falls p (cursorAt q p c)) → p + n ≤ m → All (λ (i : Item). (lo ≤ i .quad) × (i .quad ≤ l)) (stepsFrom q size n p c)
   unfolding stepsFrom
@@ -245,15 +226,9 @@ module _ (q : QuadTable) (total : Float) (lo l j m : ℕ) (R : Span q total lo (
 
   cursor-falls : (n p c : ℕ) → (0 < suc n → Falls p (cursorAt q p c)) → p + suc n ≤ m → Falls (p + n) (cursorFrom q (suc n) p c)
   unfolding cursorFrom
-  cursor-falls zero p c F k = subst (λ (x : ℕ). Falls x (cursorAt q p c)) (plain p) (F (zero-lt-suc 0))
-    where
-      plain : (p : ℕ) → p ≡ p + 0
-      plain p = omega arith
+  cursor-falls zero p c F k = subst (λ (x : ℕ). Falls x (cursorAt q p c)) (sym (add-zero p)) (F (zero-lt-suc 0))
   cursor-falls (suc n) p c F k =
-      subst (λ (x : ℕ). Falls x (cursorFrom q (suc n) (p + 1) (cursorAt q p c))) (sum p n) (cursor-falls n (p + 1) (cursorAt q p c) (λ h. ready-next (suc n) p c F k h) (shifted p (suc n) m k))
-    where
-      sum : (p n : ℕ) → p + 1 + n ≡ p + suc n
-      sum p n = omega arith
+      subst (λ (x : ℕ). Falls x (cursorFrom q (suc n) (p + 1) (cursorAt q p c))) (shift-one p n) (cursor-falls n (p + 1) (cursorAt q p c) (λ h. ready-next (suc n) p c F k h) (shifted p (suc n) m k))
 
   -- ---- where a whole number lies strictly between the last two sums, some step falls on each quad, and the last one on the last
   module _ (spread : (b : ℕ) → suc b ≡ l → lo ≤ b → (p : ℕ) × Below (sumAt q b) p × (p * den (sumAt q l) < num (sumAt q l))) where
@@ -302,31 +277,25 @@ module _ (q : QuadTable) (total : Float) (lo l j m : ℕ) (R : Span q total lo (
         let x = sumAt q b in
         let p = suc (num x / den x) in
         let u : AtMost p (sumAt q (suc b)) = reach b h (le-of-lt k) (num x / den x) (div-mul-le-self (num x) (den x)) in
-        let t : AtMost (suc p) (sumAt q l) = subst (λ (y : ℕ). AtMost (suc p) (sumAt q y)) (join b l k) (carry (suc p) (suc (suc b)) (l - suc (suc b)) (le-trans h (two b)) (le-of-eq (join b l k)) (reach (suc b) (le-trans h (next b)) k p u)) in
+        let t : AtMost (suc p) (sumAt q l) = subst (λ (y : ℕ). AtMost (suc p) (sumAt q y)) (join b l k) (carry (suc p) (suc (suc b)) (l - suc (suc b)) (le-trans h (two b)) (le-of-eq (join b l k)) (reach (suc b) (le-trans h (le-suc b)) k p u)) in
         record {
           step = p;
           least = zero-lt-suc (num x / den x);
           most = below-up (sumAt q l) m p U (strict (sumAt q l) p t);
           falls =
               record {
-                low = le-trans h (next b);
+                low = le-trans h (le-suc b);
                 high = le-of-lt k;
                 upto = u;
-                above = λ c e g. subst (λ (y : ℕ). Below (sumAt q y) p) (sym (same c b e)) (div-lt-iff-lt-mul (den-pos x) .0 (le-refl p));
+                above = λ c e g. subst (λ (y : ℕ). Below (sumAt q y) p) (sym (suc-inj e)) (div-lt-iff-lt-mul (den-pos x) .0 (le-refl p));
               };
         }
       where
         two : (b : ℕ) → b ≤ suc (suc b)
         two b = omega arith
 
-        next : (b : ℕ) → b ≤ suc b
-        next b = omega arith
-
         join : (b l : ℕ) → suc b < l → suc (suc b) + (l - suc (suc b)) ≡ l
         join b l h = omega arith
-
-        same : (c b : ℕ) → suc c ≡ suc b → c ≡ b
-        same c b e = omega arith
 
         strict : (x : Float) (p : ℕ) → AtMost (suc p) x → p * den x < num x
         strict x p h = less (p * den x) (den x) (suc p * den x) (num x) (den-pos x) (suc-mul p (den x)) h

@@ -5,7 +5,7 @@ use mathlib.Core.Logic.{_≢_}
 use mathlib.Core.Bool.{Bool, true, false, true≢false}
 use mathlib.Core.List.{List, [], _∷_, map}
 use Prim.Native.Nat.{ℕ, zero, suc, _+_, _≤_, _<_}
-use native.Mathlib.Nat.{le-of-eq, le-of-suc-le-suc, not-suc-le-zero}
+use native.Mathlib.Nat.{le-of-eq, le-of-suc-le-suc, not-suc-le-zero, zero-add}
 use native.Mathlib.Omega.{arith}
 use lib.Dec.{T}
 use lib.Ieee.{nan, binary32}
@@ -104,9 +104,6 @@ job-pieces job =
           ∙ piece-commands (w .quads) (w .splines) (0 + k) (z .cursor)
           ∙ ap (pieceOf (w .splines)) (zero-add k);
     }
-  where
-    zero-add : (k : ℕ) → 0 + k ≡ k
-    zero-add k = omega arith
 
 pub demand3b : Demand3b
 demand3b job h = subst PiecesAreSplines (sym (passed job h .result)) (job-pieces job)

@@ -1,18 +1,22 @@
 -- The answers of the drawing calls are exact: each of the four tests fails exactly on its fault, and the first that fails gives the answer. Assumes nothing.
 use Prim.Native.Nat.{ℕ, zero, suc, _+_, _-_, _≤_, _<_}
-use mathlib.Core.Path.{_≡_, refl, sym, ap, ap₂, _∙_, subst}
+use mathlib.Core.Path.{_≡_, refl, sym, ap, ap₂, subst}
 use mathlib.Core.Logic.{_⊎_, inl, inr, _≢_, _↔_}
 use mathlib.Core.Bool.{Bool, true, false, not, _&&_, _||_, cond, true≢false}
 use mathlib.Core.List.{List, [], _∷_, List·Memᴰ}
 use native.Mathlib.Nat.{le-trans, le-of-eq, lt-of-lt-of-le, lt-of-le-of-lt}
 use native.Mathlib.Omega.{arith}
-use lib.Dec.{T, lit<, leb, ltb, eqb, leb→le, eqb→eq}
+use lib.Dec.{T, leb, ltb, eqb, leb→le, eqb→eq}
 use lib.Ieee.{Float, nan, ofBits}
 use lib.Ieee.Fits.{eq→eqb}
 use lib.ListN.{length, getD}
+use borrow.Author.Tests.{eqb-false}
+use mathlib.Mathlib.Data.Bool.Basic.{eq-false-of-not-eq-true}
+use Rattle.store.proofs.Laws.{draw-answer, refused-keeps as store-keeps}
+use Rattle.answer.proofs.Laws.{done-is}
 use Rattle.answer.specs.declared.Answer.{Answer}
-use Rattle.answer.specs.declared.Answer.the-variants.{Done, BadCoordinate, BadWeight, Unusable, StoreFull, TooManyPieces, QuadsFull, SplinesFull, SumTooLarge, OutputShort, BadText, InputTooLong}
-use Rattle.answer.specs.Number.{numberOf, isDone}
+use Rattle.answer.specs.declared.Answer.the-variants.{Done, BadCoordinate, BadWeight, Unusable, StoreFull}
+use Rattle.answer.specs.Number.{numberOf}
 use Rattle.leaves.specs.Single.{f32, zero32}
 use Rattle.point.specs.Point.{pointAt, plain}
 use Rattle.store.specs.declared.StoreState.{StoreState}
@@ -20,9 +24,13 @@ use Rattle.store.specs.declared.Call.{Call}
 use Rattle.store.specs.declared.Call.the-variants.{Move, Line, Quad, Cubic, RatQuad, RatCubic, Build}
 use Rattle.store.specs.Columns.{Columns, stateAt, putPoint, putCommand, moveCommand, lastCommandOf, evenOf, usableOf}
 use Rattle.store.specs.Closing.{unclosedOf}
-use Rattle.store.specs.Drawing.{Outcome, outcome, Writes, stateAfter, written, coordinateOkOf, weightOkOf, every, coordinatesOf, weightsOf, appended, closed, moved, writesOf, roomOf, answerOf, drawOf, freshOf}
-use Rattle.promises.specs.DrawingAnswers.{UnusableStore, uneven-y, uneven-weight, no-point, points-over, no-command, commands-over, open-over, last-over, Outside, CoordinateOutside, WeightOutside, newPoints, newCommands, NoRoom, DrawAnswers, DrawingAnswers, RefusedKeeps, Uneven, NoLength, FreshAnswers, FreshAnswer}
-use Rattle.promises.proofs.Telling.{Tells, tells-as, passes, tells-and, tells-leb, tells-ltb, tells-eqb, tells-outside, Some, tells-every, both-hold, neither}
+use Rattle.store.specs.Drawing.{Outcome, outcome, Writes, coordinateOkOf, weightOkOf, every, coordinatesOf, weightsOf, appended, closed, moved, writesOf}
+use Rattle.store.specs.Drawing.{roomOf, answerOf, drawOf, freshOf}
+use Rattle.promises.specs.DrawingAnswers.{UnusableStore, uneven-y, uneven-weight, no-point, points-over, no-command, commands-over, open-over}
+use Rattle.promises.specs.DrawingAnswers.{last-over, Outside, CoordinateOutside, WeightOutside, newPoints, newCommands, NoRoom, DrawAnswers}
+use Rattle.promises.specs.DrawingAnswers.{DrawingAnswers, RefusedKeeps, Uneven, NoLength, FreshAnswers, FreshAnswer}
+use Rattle.promises.proofs.Telling.{Tells, tells-as, passes, tells-and, tells-leb, tells-ltb, tells-eqb, tells-outside, Some, tells-every, both-hold}
+use Rattle.promises.proofs.Telling.{neither}
 
 -- ---- 3
 pub tells-usable : (st : StoreState) (c : Columns) → Tells (usableOf st c) (UnusableStore st c)
@@ -129,20 +137,6 @@ module _ (st : StoreState) (c : Columns) (P : 1 ≤ st .points) where
 pub differ : {a b : Answer} → numberOf a ≢ numberOf b → a ≡ b → ⊥
 differ h e = h (ap numberOf e)
 
-pub done-only : (a : Answer) → isDone a ≡ true → a ≡ Done
-done-only Done h = refl
-done-only BadCoordinate h = absurd (true≢false (sym h))
-done-only BadWeight h = absurd (true≢false (sym h))
-done-only Unusable h = absurd (true≢false (sym h))
-done-only StoreFull h = absurd (true≢false (sym h))
-done-only TooManyPieces h = absurd (true≢false (sym h))
-done-only QuadsFull h = absurd (true≢false (sym h))
-done-only SplinesFull h = absurd (true≢false (sym h))
-done-only SumTooLarge h = absurd (true≢false (sym h))
-done-only OutputShort h = absurd (true≢false (sym h))
-done-only BadText h = absurd (true≢false (sym h))
-done-only InputTooLong h = absurd (true≢false (sym h))
-
 record Ladder (answer : Answer) (U C W R : Type 0) : Type 0 where
   three : (answer ≡ Unusable) ↔ U
   one : (answer ≡ BadCoordinate) ↔ ((¬ U) × C)
@@ -150,56 +144,47 @@ record Ladder (answer : Answer) (U C W R : Type 0) : Type 0 where
   four : (answer ≡ StoreFull) ↔ ((¬ U) × (¬ C) × (¬ W) × R)
   zero : (answer ≡ Done) ↔ ((¬ U) × (¬ C) × (¬ W) × (¬ R))
 
-apart : (m n : ℕ) → (m < n) ⊎ (n < m) → m ≢ n
-apart m n h e = elim h [ inl l ↦ absurd (one m n l e) | inr l ↦ absurd (two m n l e) ]
-  where
-    one : (m n : ℕ) → m < n → m ≡ n → ⊥
-    one m n l e = omega arith
-
-    two : (m n : ℕ) → n < m → m ≡ n → ⊥
-    two m n l e = omega arith
-
 module _ (U C W R : Type 0) where
   ladder : (u c w r : Bool) → Tells u U → Tells c C → Tells w W → (u ≡ true → Tells r R)
       → Ladder (cond (not u) Unusable (cond (not c) BadCoordinate (cond (not w) BadWeight (cond (not r) StoreFull Done)))) U C W R
   ladder false c w r s t v x =
       record {
         three = both-hold refl (s .0 refl);
-        one = neither (differ (apart 3 1 (inr (lit< tt)))) (λ z. z .0 (s .0 refl));
-        two = neither (differ (apart 3 2 (inr (lit< tt)))) (λ z. z .0 (s .0 refl));
-        four = neither (differ (apart 3 4 (inl (lit< tt)))) (λ z. z .0 (s .0 refl));
-        zero = neither (differ (apart 3 0 (inr (lit< tt)))) (λ z. z .0 (s .0 refl));
+        one = neither (differ (eqb-false 3 1 refl)) (λ z. z .0 (s .0 refl));
+        two = neither (differ (eqb-false 3 2 refl)) (λ z. z .0 (s .0 refl));
+        four = neither (differ (eqb-false 3 4 refl)) (λ z. z .0 (s .0 refl));
+        zero = neither (differ (eqb-false 3 0 refl)) (λ z. z .0 (s .0 refl));
       }
   ladder true false w r s t v x =
       record {
-        three = neither (differ (apart 1 3 (inl (lit< tt)))) (passes true U s refl);
+        three = neither (differ (eqb-false 1 3 refl)) (passes true U s refl);
         one = both-hold refl (passes true U s refl, t .0 refl);
-        two = neither (differ (apart 1 2 (inl (lit< tt)))) (λ z. z .1 (t .0 refl));
-        four = neither (differ (apart 1 4 (inl (lit< tt)))) (λ z. z .1 (t .0 refl));
-        zero = neither (differ (apart 1 0 (inr (lit< tt)))) (λ z. z .1 (t .0 refl));
+        two = neither (differ (eqb-false 1 2 refl)) (λ z. z .1 (t .0 refl));
+        four = neither (differ (eqb-false 1 4 refl)) (λ z. z .1 (t .0 refl));
+        zero = neither (differ (eqb-false 1 0 refl)) (λ z. z .1 (t .0 refl));
       }
   ladder true true false r s t v x =
       record {
-        three = neither (differ (apart 2 3 (inl (lit< tt)))) (passes true U s refl);
-        one = neither (differ (apart 2 1 (inr (lit< tt)))) (λ z. passes true C t refl (z .1));
+        three = neither (differ (eqb-false 2 3 refl)) (passes true U s refl);
+        one = neither (differ (eqb-false 2 1 refl)) (λ z. passes true C t refl (z .1));
         two = both-hold refl (passes true U s refl, passes true C t refl, v .0 refl);
-        four = neither (differ (apart 2 4 (inl (lit< tt)))) (λ z. z .2 (v .0 refl));
-        zero = neither (differ (apart 2 0 (inr (lit< tt)))) (λ z. z .2 (v .0 refl));
+        four = neither (differ (eqb-false 2 4 refl)) (λ z. z .2 (v .0 refl));
+        zero = neither (differ (eqb-false 2 0 refl)) (λ z. z .2 (v .0 refl));
       }
   ladder true true true false s t v x =
       record {
-        three = neither (differ (apart 4 3 (inr (lit< tt)))) (passes true U s refl);
-        one = neither (differ (apart 4 1 (inr (lit< tt)))) (λ z. passes true C t refl (z .1));
-        two = neither (differ (apart 4 2 (inr (lit< tt)))) (λ z. passes true W v refl (z .2));
+        three = neither (differ (eqb-false 4 3 refl)) (passes true U s refl);
+        one = neither (differ (eqb-false 4 1 refl)) (λ z. passes true C t refl (z .1));
+        two = neither (differ (eqb-false 4 2 refl)) (λ z. passes true W v refl (z .2));
         four = both-hold refl (passes true U s refl, passes true C t refl, passes true W v refl, x refl .0 refl);
-        zero = neither (differ (apart 4 0 (inr (lit< tt)))) (λ z. z .3 (x refl .0 refl));
+        zero = neither (differ (eqb-false 4 0 refl)) (λ z. z .3 (x refl .0 refl));
       }
   ladder true true true true s t v x =
       record {
-        three = neither (differ (apart 0 3 (inl (lit< tt)))) (passes true U s refl);
-        one = neither (differ (apart 0 1 (inl (lit< tt)))) (λ z. passes true C t refl (z .1));
-        two = neither (differ (apart 0 2 (inl (lit< tt)))) (λ z. passes true W v refl (z .2));
-        four = neither (differ (apart 0 4 (inl (lit< tt)))) (λ z. passes true R (x refl) refl (z .3));
+        three = neither (differ (eqb-false 0 3 refl)) (passes true U s refl);
+        one = neither (differ (eqb-false 0 1 refl)) (λ z. passes true C t refl (z .1));
+        two = neither (differ (eqb-false 0 2 refl)) (λ z. passes true W v refl (z .2));
+        four = neither (differ (eqb-false 0 4 refl)) (λ z. passes true R (x refl) refl (z .3));
         zero = both-hold refl (passes true U s refl, passes true C t refl, passes true W v refl, passes true R (x refl) refl);
       }
 
@@ -211,26 +196,6 @@ usable-points st c h = some (st .points) (λ e. passes (usableOf st c) (Unusable
     some n h = omega arith
 
 module _ (call : Call) (st : StoreState) (c : Columns) where
-  answered : Bool → Outcome
-  answered b = cond b (outcome Done (stateAfter (writesOf call st c) st) (written (writesOf call st c) st c)) (outcome (answerOf call st c) st c)
-
-  draw-is : drawOf call st c ≡ answered (isDone (answerOf call st c))
-  unfolding drawOf answered
-  draw-is = refl
-
-  pub draw-answer : drawOf call st c .answer ≡ answerOf call st c
-  unfolding answered
-  draw-answer = ap (λ (o : Outcome). o .answer) draw-is ∙ go (isDone (answerOf call st c)) (done-only (answerOf call st c))
-    where
-      go : (b : Bool) → (b ≡ true → answerOf call st c ≡ Done) → answered b .answer ≡ answerOf call st c
-      go true h = sym (h refl)
-      go false h = refl
-
-  kept : (b : Bool) → answered b .answer ≢ Done → (answered b .state ≡ st) × (answered b .columns ≡ c)
-  unfolding answered
-  kept true h = absurd (h refl)
-  kept false h = (refl, refl)
-
   climbed : Ladder (answerOf call st c) (UnusableStore st c) (CoordinateOutside call) (WeightOutside call) (NoRoom call st c)
   unfolding answerOf
   climbed =
@@ -245,9 +210,7 @@ drawing-answers call st c =
     record { three = L .three; one = L .one; two = L .two; four = L .four; zero = L .zero }
 
 pub refused-keeps : RefusedKeeps
-refused-keeps call st c h =
-    let z = kept call st c (isDone (answerOf call st c)) (λ e. h (ap (λ (o : Outcome). o .answer) (draw-is call st c) ∙ e)) in
-    (ap (λ (o : Outcome). o .state) (draw-is call st c) ∙ z .0, ap (λ (o : Outcome). o .columns) (draw-is call st c) ∙ z .1)
+refused-keeps call st c h = store-keeps call st c (eq-false-of-not-eq-true (λ e. h (done-is (drawOf call st c .answer) e)))
 
 -- ---- the fresh call
 pub tells-even : (c : Columns) → Tells (evenOf c) (Uneven c)
@@ -283,21 +246,21 @@ module _ (c : Columns) where
   freshly false n t l =
       record {
         three = both-hold refl (t .0 refl);
-        four = neither (differ (apart 3 4 (inl (lit< tt)))) (λ z. z .0 (t .0 refl));
-        zero = neither (differ (apart 3 0 (inr (lit< tt)))) (λ z. z .0 (t .0 refl));
+        four = neither (differ (eqb-false 3 4 refl)) (λ z. z .0 (t .0 refl));
+        zero = neither (differ (eqb-false 3 0 refl)) (λ z. z .0 (t .0 refl));
         keeps = λ h. (refl, refl);
       }
   freshly true true t l =
       record {
-        three = neither (differ (apart 4 3 (inr (lit< tt)))) (passes true (Uneven c) t refl);
+        three = neither (differ (eqb-false 4 3 refl)) (passes true (Uneven c) t refl);
         four = both-hold refl (passes true (Uneven c) t refl, l .0 refl);
-        zero = neither (differ (apart 4 0 (inr (lit< tt)))) (λ z. z .1 (l .0 refl));
+        zero = neither (differ (eqb-false 4 0 refl)) (λ z. z .1 (l .0 refl));
         keeps = λ h. (refl, refl);
       }
   freshly true false t l =
       record {
-        three = neither (differ (apart 0 3 (inl (lit< tt)))) (passes true (Uneven c) t refl);
-        four = neither (differ (apart 0 4 (inl (lit< tt)))) (λ z. true≢false (sym (l .1 (z .1))));
+        three = neither (differ (eqb-false 0 3 refl)) (passes true (Uneven c) t refl);
+        four = neither (differ (eqb-false 0 4 refl)) (λ z. true≢false (sym (l .1 (z .1))));
         zero = both-hold refl (passes true (Uneven c) t refl, λ z. true≢false (sym (l .1 z)));
         keeps = λ h. absurd (h refl);
       }

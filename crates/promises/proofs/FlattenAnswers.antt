@@ -6,10 +6,12 @@ use mathlib.Core.Logic.{_⊎_, inl, inr, _≢_, _↔_}
 use mathlib.Core.Bool.{Bool, true, false, not, _&&_, cond, true≢false}
 use mathlib.Core.List.{List, [], _∷_, map, List·Memᴰ, List·Memᴰ·head, List·Memᴰ·tail, List·Memᴰ·cases-cons, List·Memᴰ·not-nil}
 use native.Mathlib.Nat.{le-trans, le-of-eq, le-refl, lt-of-lt-of-le, lt-of-le-of-lt, lt-irrefl}
-use native.Mathlib.Omega.{arith}
+use native.Mathlib.Omega.{arith, by-contra}
 use lib.Dec.{T, lit≤, lit<, leb, leb→le, nleb→lt}
 use lib.Ieee.{Float}
 use lib.ListN.{length, length-map}
+use borrow.Author.Tests.{eqb-false}
+use Rattle.answer.proofs.Laws.{done-is}
 use Rattle.answer.specs.declared.Answer.{Answer}
 use Rattle.answer.specs.declared.Answer.the-variants.{Done, Unusable, TooManyPieces, QuadsFull, SplinesFull, SumTooLarge, OutputShort}
 use Rattle.answer.specs.Number.{numberOf, isDone}
@@ -31,10 +33,12 @@ use Rattle.walk.specs.Walk.{wordOf, wordsOf}
 use Rattle.evaluate.specs.Evaluate.{itemPointOf, pointsOf}
 use Rattle.flatten.specs.Flatten.{Output, Flattening, flattened, flattening, fitsOutput, writeOutput, walked, tabled, flattenDrawable, flattenOf}
 use Rattle.promises.specs.Accepted.{Job, flatteningOf}
-use Rattle.promises.specs.FlattenAnswers.{Undrawable, Refuses, too-many, quads-full, line-full, straight-full, curve-full, sum-over, ExcessIs, RefusedIn, Refused, walkLength, Short, words, x, y, end, AnswerOf, FlattenAnswers, FlatteningAnswers, RefusedWritesNothing, OutputPast, PastCounts, runOver, heldBy, TablesHeld}
+use Rattle.promises.specs.FlattenAnswers.{Undrawable, Refuses, too-many, quads-full, line-full, straight-full, curve-full, sum-over, ExcessIs}
+use Rattle.promises.specs.FlattenAnswers.{RefusedIn, Refused, walkLength, Short, words, x, y, end, AnswerOf, FlattenAnswers, FlatteningAnswers}
+use Rattle.promises.specs.FlattenAnswers.{RefusedWritesNothing, OutputPast, PastCounts, runOver, heldBy, TablesHeld}
 use Rattle.promises.proofs.Flattened.{worldOf, itemsIn}
 use Rattle.promises.proofs.Telling.{Tells, tells-as, passes, tells-and, tells-leb, both-hold, neither}
-use Rattle.promises.proofs.DrawingAnswers.{differ, done-only}
+use Rattle.promises.proofs.DrawingAnswers.{differ}
 use Rattle.promises.proofs.Refusing.{refuses-not-done}
 use Rattle.promises.proofs.Refusals.{refused-answer, refused-world, run-told, tells-drawable}
 use Rattle.promises.proofs.Past.{past-over, TablesPast, run-past, quads-self, splines-self, output-self}
@@ -72,10 +76,6 @@ low n m h k e = omega arith
 
 high : (n m : ℕ) → n ≤ 8 → 8 < m → n ≢ m
 high n m h k e = omega arith
-
-apart : (m n : ℕ) → (m < n) ⊎ (n < m) → m ≢ n
-apart m n (inl h) e = omega arith
-apart m n (inr h) e = omega arith
 
 module _ (job : Job) where
   unfoldable pub answerIn : Bool → Bool → Bool → Answer
@@ -119,8 +119,8 @@ module _ (job : Job) where
       record {
         three = both-hold refl h;
         some = λ a l u. neither (differ (λ q. low (numberOf a) 3 l (lit< tt) (sym q))) (λ z. z .0 h);
-        nine = neither (differ (apart 3 9 (inl (lit< tt)))) (λ z. z .0 h);
-        zero = neither (differ (apart 3 0 (inr (lit< tt)))) (λ z. z .0 h);
+        nine = neither (differ (eqb-false 3 9 refl)) (λ z. z .0 h);
+        zero = neither (differ (eqb-false 3 0 refl)) (λ z. z .0 h);
       }
   answers true false f t r s = refusal run-cause
     where
@@ -143,7 +143,7 @@ module _ (job : Job) where
       n = passes true (Undrawable (job .state) (job .columns)) t refl
 
       d : worldOf job .state .answer ≡ Done
-      d = done-only (worldOf job .state .answer) r
+      d = done-is (worldOf job .state .answer) r
 
       none : (a : Answer) → Refused job a → ⊥
       none a R = low (numberOf a) 0 (which (R .cause) .0) (lit< tt) (ap numberOf (sym (cause-run a R) ∙ d))
@@ -151,17 +151,17 @@ module _ (job : Job) where
       complete : (f : Bool) → Tells f (Short (walkLength job) (job .output)) → Answers (cond f Done OutputShort)
       complete true s =
           record {
-            three = neither (differ (apart 0 3 (inl (lit< tt)))) n;
+            three = neither (differ (eqb-false 0 3 refl)) n;
             some = λ a l u. neither (differ (λ q. low (numberOf a) 0 l (lit< tt) (sym q))) (λ z. none a (z .1));
-            nine = neither (differ (apart 0 9 (inl (lit< tt)))) (λ z. passes true (Short (walkLength job) (job .output)) s refl (z .2));
+            nine = neither (differ (eqb-false 0 9 refl)) (λ z. passes true (Short (walkLength job) (job .output)) s refl (z .2));
             zero = both-hold refl (n, none, passes true (Short (walkLength job) (job .output)) s refl);
           }
       complete false s =
           record {
-            three = neither (differ (apart 9 3 (inr (lit< tt)))) n;
+            three = neither (differ (eqb-false 9 3 refl)) n;
             some = λ a l u. neither (differ (λ q. high (numberOf a) 9 u (lit< tt) (sym q))) (λ z. none a (z .1));
             nine = both-hold refl (n, none, s .0 refl);
-            zero = neither (differ (apart 9 0 (inr (lit< tt)))) (λ z. z .2 (s .0 refl));
+            zero = neither (differ (eqb-false 9 0 refl)) (λ z. z .2 (s .0 refl));
           }
 
   all-answers : Answers (flatteningOf job .result .answer)
@@ -256,14 +256,11 @@ module _ (job : Job) where
       let s = worldOf job .splines in
       let short = passes (fitsOutput n (job .output)) (Short n (job .output)) (tells-fits n (job .output)) e in
       record {
-        words = past-over n (job .output .words) _ (length-map items wordOf) (at-most n (length (job .output .words)) (λ h. short (words h)));
-        x = past-over n (job .output .x) _ (length-map (map (itemPointOf q s) items) _ ∙ length-map items (itemPointOf q s)) (at-most n (length (job .output .x)) (λ h. short (x h)));
-        y = past-over n (job .output .y) _ (length-map (map (itemPointOf q s) items) _ ∙ length-map items (itemPointOf q s)) (at-most n (length (job .output .y)) (λ h. short (y h)));
-        end = past-over n (job .output .end) _ (length-map (map (itemPointOf q s) items) _ ∙ length-map items (itemPointOf q s)) (at-most n (length (job .output .end)) (λ h. short (end h)));
+        words = past-over n (job .output .words) _ (length-map items wordOf) (by-contra n (length (job .output .words)) (λ h. short (words h)));
+        x = past-over n (job .output .x) _ (length-map (map (itemPointOf q s) items) _ ∙ length-map items (itemPointOf q s)) (by-contra n (length (job .output .x)) (λ h. short (x h)));
+        y = past-over n (job .output .y) _ (length-map (map (itemPointOf q s) items) _ ∙ length-map items (itemPointOf q s)) (by-contra n (length (job .output .y)) (λ h. short (y h)));
+        end = past-over n (job .output .end) _ (length-map (map (itemPointOf q s) items) _ ∙ length-map items (itemPointOf q s)) (by-contra n (length (job .output .end)) (λ h. short (end h)));
       }
-    where
-      at-most : (a b : ℕ) → (b < a → ⊥) → a ≤ b
-      at-most a b h = omega arith
 
   past-held : PastCounts job (flatteningOf job)
   unfolding flattenOf flattenDrawable tabled walked

@@ -4,11 +4,12 @@ use mathlib.Core.Path.{_≡_, refl, sym, ap, _∙_, subst}
 use mathlib.Core.Logic.{_≢_}
 use mathlib.Core.Bool.{Bool, true, false, cond}
 use mathlib.Core.List.{List, [], _∷_, _++_}
-use native.Mathlib.Nat.{le-refl}
+use native.Mathlib.Nat.{le-refl, le-add-right}
 use native.Mathlib.Omega.{arith}
 use lib.Ieee.{Float}
 use lib.ListN.{length, getD, set, drop, length-set, length-append, length-drop}
 use lib.Seq.{getD-set-other, getD-append-add, getD-drop}
+use native.Mathlib.Numerals.{lt-add-one}
 use Rattle.columns.specs.Flags.{flagByteOf}
 use Rattle.answer.specs.Number.{isDone}
 use Rattle.point.specs.declared.Point.{Point}
@@ -83,11 +84,6 @@ past-three n v old new P =
     third n = omega arith
 
 -- ---- a quad after the last, and a spline that is opened or joined
-up : (n : ℕ) → n ≤ n + 1
-up n = omega arith
-
-new : (n : ℕ) → n < n + 1
-new n = omega arith
 
 put-quad-past : (n : ℕ) (row : QuadRow) (q₀ q : QuadTable) → QuadsPast n q₀ q → QuadsPast (n + 1) q₀ (putQuad q n row)
 unfolding putQuad
@@ -96,13 +92,13 @@ put-quad-past n row q₀ q P =
       x = past-three n (row .x) (q₀ .x) (q .x) (P .x);
       y = past-three n (row .y) (q₀ .y) (q .y) (P .y);
       weight = past-three n (row .weight) (q₀ .weight) (q .weight) (P .weight);
-      x0 = past-set n (n + 1) n (row .x0) (q₀ .x0) (q .x0) (up n) (new n) (P .x0);
-      dx-recip = past-set n (n + 1) n (row .«dx_recip») (q₀ .dx-recip) (q .dx-recip) (up n) (new n) (P .dx-recip);
-      k0 = past-set n (n + 1) n (row .k0) (q₀ .k0) (q .k0) (up n) (new n) (P .k0);
-      dk = past-set n (n + 1) n (row .dk) (q₀ .dk) (q .dk) (up n) (new n) (P .dk);
-      curvatures-recip = past-set n (n + 1) n (row .«curvature_recip») (q₀ .curvatures-recip) (q .curvatures-recip) (up n) (new n) (P .curvatures-recip);
-      partial-curvatures = past-set n (n + 1) n (row .«partial_curvature») (q₀ .partial-curvatures) (q .partial-curvatures) (up n) (new n) (P .partial-curvatures);
-      partial-splines = past-set n (n + 1) n (row .spline) (q₀ .partial-splines) (q .partial-splines) (up n) (new n) (P .partial-splines);
+      x0 = past-set n (n + 1) n (row .x0) (q₀ .x0) (q .x0) (le-add-right n 1) (lt-add-one n) (P .x0);
+      dx-recip = past-set n (n + 1) n (row .«dx_recip») (q₀ .dx-recip) (q .dx-recip) (le-add-right n 1) (lt-add-one n) (P .dx-recip);
+      k0 = past-set n (n + 1) n (row .k0) (q₀ .k0) (q .k0) (le-add-right n 1) (lt-add-one n) (P .k0);
+      dk = past-set n (n + 1) n (row .dk) (q₀ .dk) (q .dk) (le-add-right n 1) (lt-add-one n) (P .dk);
+      curvatures-recip = past-set n (n + 1) n (row .«curvature_recip») (q₀ .curvatures-recip) (q .curvatures-recip) (le-add-right n 1) (lt-add-one n) (P .curvatures-recip);
+      partial-curvatures = past-set n (n + 1) n (row .«partial_curvature») (q₀ .partial-curvatures) (q .partial-curvatures) (le-add-right n 1) (lt-add-one n) (P .partial-curvatures);
+      partial-splines = past-set n (n + 1) n (row .spline) (q₀ .partial-splines) (q .partial-splines) (le-add-right n 1) (lt-add-one n) (P .partial-splines);
     }
 
 put-spline-past : (n m : ℕ) (edit : SplineEdit) (s₀ s : SplineTable) → n ≤ m → edit .at < m → SplinesPast n s₀ s → SplinesPast m s₀ (putSpline s edit)
@@ -142,7 +138,7 @@ module _ (caps : Capacities) (q : QuadTable) (s : SplineTable) where
   push-past w S P (marked _) = record { quads = P .quads; splines = P .splines }
   push-past w S P (lined true start end angle A) =
       let n = w .state .splines in
-      record { quads = P .quads; splines = put-spline-past n (n + 1) _ s (w .splines) (up n) (new n) (P .splines) }
+      record { quads = P .quads; splines = put-spline-past n (n + 1) _ s (w .splines) (le-add-right n 1) (lt-add-one n) (P .splines) }
   push-past w S P (lined false start end angle A) =
       let n = w .state .splines in
       record { quads = P .quads; splines = put-spline-past n n _ s (w .splines) (le-refl n) (pred-lt n (S .waits (A .joins refl))) (P .splines) }
@@ -150,7 +146,7 @@ module _ (caps : Capacities) (q : QuadTable) (s : SplineTable) where
       let n = w .state .splines in
       record {
         quads = put-quad-past (w .state .quads) row q (w .quads) (P .quads);
-        splines = put-spline-past n (n + 1) _ s (w .splines) (up n) (new n) (P .splines);
+        splines = put-spline-past n (n + 1) _ s (w .splines) (le-add-right n 1) (lt-add-one n) (P .splines);
       }
   push-past w S P (bent false start end angle c row A B K fit e o) =
       let n = w .state .splines in

@@ -6,11 +6,13 @@ use mathlib.Core.Bool.{Bool, true, false, not, _&&_, _||_, cond, true≢false}
 use mathlib.Core.List.{List, [], _∷_, _++_, List·Memᴰ, List·Memᴰ·head, List·Memᴰ·tail, List·Memᴰ·cases-cons}
 use native.Mathlib.Nat.{le-trans, le-of-eq, lt-of-lt-of-le, le-of-suc-le-suc, not-suc-le-zero, zero-lt-suc}
 use native.Mathlib.Decide.{ℕ-discrete}
-use native.Mathlib.Omega.{arith}
+use native.Mathlib.Omega.{by-contra}
 use lib.Dec.{T, leb, ltb, eqb}
 use lib.Ieee.{Float, nan, ofBits}
 use lib.ListN.{length, getD, take}
 use lib.Seq.{getD-take, length-take-le}
+use mathlib.Mathlib.Data.Bool.Basic.{and-elim-left}
+use Rattle.answer.proofs.Laws.{done-is}
 use Rattle.answer.specs.declared.Answer.{Answer}
 use Rattle.answer.specs.declared.Answer.the-variants.{Done}
 use Rattle.answer.specs.Number.{isDone}
@@ -31,7 +33,7 @@ use Rattle.tables.proofs.Runs.{run-append, run-stop as run-stays}
 use Rattle.promises.specs.DrawingAnswers.{UnusableStore, uneven-y, uneven-weight, points-over, commands-over, Outside}
 use Rattle.promises.specs.FlattenAnswers.{Undrawable, unusable, unknown, no-move, other-sum, weight-outside, x-outside, y-outside, Refuses, RefusedIn}
 use Rattle.promises.proofs.Telling.{Tells, tells-as, passes, tells-and, tells-leb, tells-eqb, tells-outside, Some, tells-every}
-use Rattle.promises.proofs.DrawingAnswers.{tells-usable, weight-tells, done-only}
+use Rattle.promises.proofs.DrawingAnswers.{tells-usable, weight-tells}
 use Rattle.promises.proofs.Refusing.{refuses-answer, push-told, refuses-not-done}
 
 -- ---- the run
@@ -74,11 +76,11 @@ module _ (setting : Setting) (caps : Capacities) where
 
   pub run-told : (ps : List Primitive) (w : World) → Sound caps w → isDone (w .state .answer) ≡ true → (runOf setting caps ps w .state .answer ≡ Done) ⊎ RefusedIn setting caps ps w (runOf setting caps ps w .state .answer)
   unfolding runOf
-  run-told [] w S D = inl (done-only (w .state .answer) D)
+  run-told [] w S D = inl (done-is (w .state .answer) D)
   run-told (p ∷ ps) w S D =
       let v = pushOf setting caps p w in
       subst (λ (x : World). (x .state .answer ≡ Done) ⊎ RefusedIn setting caps (p ∷ ps) w (x .state .answer)) (sym (next-is p ps w D))
-      (go (push-told setting caps w S (done-only (w .state .answer) D) p) (run-told ps v (sound-push caps w S (pushed setting caps w p))))
+      (go (push-told setting caps w S (done-is (w .state .answer) D) p) (run-told ps v (sound-push caps w S (pushed setting caps w p))))
     where
       later : (a : Answer) → RefusedIn setting caps ps (pushOf setting caps p w) a → RefusedIn setting caps (p ∷ ps) w a
       later a R =
@@ -167,9 +169,6 @@ unfolding storedOkOf ofBits
 stored-tells v = tells-outside (f32 0xca80_0000) (f32 0x4a80_0000) v tt tt
 
 -- ---- what a usable store has
-first-true : (a b : Bool) → a && b ≡ true → a ≡ true
-first-true true b h = refl
-first-true false b h = h
 
 module _ (st : StoreState) (c : Columns) where
   module _ (u : usableOf st c ≡ true) where
@@ -177,16 +176,10 @@ module _ (st : StoreState) (c : Columns) where
     sound-store = passes (usableOf st c) (UnusableStore st c) (tells-usable st c) u
 
     points-fit : st .points ≤ length (c .x)
-    points-fit = at-most (st .points) (length (c .x)) (λ h. sound-store (points-over h))
-      where
-        at-most : (a b : ℕ) → (b < a → ⊥) → a ≤ b
-        at-most a b h = omega arith
+    points-fit = by-contra (st .points) (length (c .x)) (λ h. sound-store (points-over h))
 
     commands-fit : st .commands ≤ length (c .commands)
-    commands-fit = at-most (st .commands) (length (c .commands)) (λ h. sound-store (commands-over h))
-      where
-        at-most : (a b : ℕ) → (b < a → ⊥) → a ≤ b
-        at-most a b h = omega arith
+    commands-fit = by-contra (st .commands) (length (c .commands)) (λ h. sound-store (commands-over h))
 
     same : (a b : ℕ) → (a ≢ b → ⊥) → a ≡ b
     same a b h = go (ℕ-discrete a b)
@@ -268,9 +261,9 @@ module _ (st : StoreState) (c : Columns) where
       (tells-then t1 t2 _ _ (tells-usable st c) known-told)
       (tells-eqb (getD (c .commands) 0 0) moveCommand))
       (tells-eqb (totalUsesOf (take (st .commands) (c .commands))) (st .points)))
-      (λ h. tells-entries weightOkOf (Outside (f32 0x3c80_0000) (f32 0x4280_0000)) weight-tells (st .points) (c .weight) (weight-fit (first-true t1 t2 (first-true (t1 && t2) t3 (first-true (t1 && t2 && t3) t4 h))))))
-      (λ h. tells-entries storedOkOf (Outside (f32 0xca80_0000) (f32 0x4a80_0000)) stored-tells (st .points) (c .x) (points-fit (first-true t1 t2 (first-true (t1 && t2) t3 (first-true (t1 && t2 && t3) t4 (first-true (t1 && t2 && t3 && t4) t5 h)))))))
-      (λ h. tells-entries storedOkOf (Outside (f32 0xca80_0000) (f32 0x4a80_0000)) stored-tells (st .points) (c .y) (y-fit (first-true t1 t2 (first-true (t1 && t2) t3 (first-true (t1 && t2 && t3) t4 (first-true (t1 && t2 && t3 && t4) t5 (first-true (t1 && t2 && t3 && t4 && t5) t6 h)))))))
+      (λ h. tells-entries weightOkOf (Outside (f32 0x3c80_0000) (f32 0x4280_0000)) weight-tells (st .points) (c .weight) (weight-fit (and-elim-left t1 t2 (and-elim-left (t1 && t2) t3 (and-elim-left (t1 && t2 && t3) t4 h))))))
+      (λ h. tells-entries storedOkOf (Outside (f32 0xca80_0000) (f32 0x4a80_0000)) stored-tells (st .points) (c .x) (points-fit (and-elim-left t1 t2 (and-elim-left (t1 && t2) t3 (and-elim-left (t1 && t2 && t3) t4 (and-elim-left (t1 && t2 && t3 && t4) t5 h)))))))
+      (λ h. tells-entries storedOkOf (Outside (f32 0xca80_0000) (f32 0x4a80_0000)) stored-tells (st .points) (c .y) (y-fit (and-elim-left t1 t2 (and-elim-left (t1 && t2) t3 (and-elim-left (t1 && t2 && t3) t4 (and-elim-left (t1 && t2 && t3 && t4) t5 (and-elim-left (t1 && t2 && t3 && t4 && t5) t6 h)))))))
 
   pub tells-drawable : Tells (drawableOf st c) (Undrawable st c)
   unfolding Faults Weights Xs Ys

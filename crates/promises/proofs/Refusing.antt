@@ -2,12 +2,13 @@
 use Prim.Native.Nat.{ℕ, _+_, _≤_, _<_}
 use mathlib.Core.Path.{_≡_, refl, sym, ap, ap₂, _∙_, subst}
 use mathlib.Core.Logic.{_⊎_, inl, inr, _≢_}
-use mathlib.Core.Bool.{Bool, true, false, not, _&&_, _||_, cond, true≢false}
-use lib.Dec.{T, leb, leb→le, le→leb, nleb→lt}
-use lib.Arith.{lt→nleb}
+use mathlib.Core.Bool.{Bool, true, false, not, _&&_, cond, true≢false}
+use lib.Dec.{T, leb, leb→le, nleb→lt}
 use lib.Ieee.{Float, nan, lt, le, ofBits}
-use lib.Ieee.Bits.{is-true, is-false}
+use lib.Ieee.Bits.{is-true}
 use lib.Ieee.Scale.{finite}
+use borrow.Author.Tests.{le-leb, lt-leb}
+use Rattle.facts.proofs.Tests.{first-false}
 use Rattle.leaves.specs.Single.{_⊕_}
 use Rattle.leaves.specs.Whole.{limit32}
 use Rattle.answer.specs.declared.Answer.{Answer}
@@ -35,7 +36,8 @@ use Rattle.tables.specs.Run.{World, world, applyOf, pushOf}
 use Rattle.tables.proofs.Pushes.{lastOf, curve-bent}
 use Rattle.tables.proofs.RunningSums.{sum-number}
 use Rattle.tables.proofs.Sound.{Sound, sum-before}
-use Rattle.promises.specs.FlattenAnswers.{legOf, Curved, Straight, first-missing, second-missing, opensAt, sumWith, Refuses, too-many, quads-full, line-full, straight-full, curve-full, sum-over}
+use Rattle.promises.specs.FlattenAnswers.{legOf, Curved, Straight, first-missing, second-missing, opensAt, sumWith, Refuses, too-many, quads-full}
+use Rattle.promises.specs.FlattenAnswers.{line-full, straight-full, curve-full, sum-over}
 use Rattle.promises.proofs.Telling.{Tells, tells-under}
 
 module _ (setting : Setting) (caps : Capacities) (w : World) where
@@ -105,31 +107,26 @@ module _ (setting : Setting) (caps : Capacities) (w : World) where
   push-answer Excess = refl
 
   -- ---- a cause gives its answer
-  leb-yes : (a b : ℕ) → a ≤ b → leb a b ≡ true
-  leb-yes a b h = is-true (leb a b) (le→leb a b h)
-
-  leb-no : (a b : ℕ) → b < a → leb a b ≡ false
-  leb-no a b h = is-false (leb a b) (lt→nleb a b h)
 
   line-refused : (p0 p1 : WeightedPoint) → T (opensAt setting w (legOf p0 p1) p0) → caps .splines ≤ w .state .splines → lineAnswer p0 p1 ≡ SplinesFull
   unfolding lineAnswer full
-  line-refused p0 p1 o f = ap₂ (λ (x y : Bool). cond (x && y) SplinesFull Done) (is-true (opensAt setting w (legOf p0 p1) p0) o) (leb-yes (caps .splines) (w .state .splines) f)
+  line-refused p0 p1 o f = ap₂ (λ (x y : Bool). cond (x && y) SplinesFull Done) (is-true (opensAt setting w (legOf p0 p1) p0) o) (le-leb (caps .splines) (w .state .splines) f)
 
   quads-refused : (p0 p1 p2 : WeightedPoint) (a : Angle) → caps .quads ≤ w .state .quads → curveAnswer p0 p1 p2 a ≡ QuadsFull
   unfolding curveAnswer
   quads-refused p0 p1 p2 a h =
-      ap (λ (x : Bool). cond x QuadsFull (cond (opensAt setting w a p0 && full) SplinesFull (cond (not (le (sumWith setting w p0 p1 p2 a) limit32)) SumTooLarge Done))) (leb-yes (caps .quads) (w .state .quads) h)
+      ap (λ (x : Bool). cond x QuadsFull (cond (opensAt setting w a p0 && full) SplinesFull (cond (not (le (sumWith setting w p0 p1 p2 a) limit32)) SumTooLarge Done))) (le-leb (caps .quads) (w .state .quads) h)
 
   -- the two later tests, past the first
   past-quads : (p0 p1 p2 : WeightedPoint) (a : Angle) → w .state .quads < caps .quads → curveAnswer p0 p1 p2 a ≡ cond (opensAt setting w a p0 && full) SplinesFull (cond (not (le (sumWith setting w p0 p1 p2 a) limit32)) SumTooLarge Done)
   unfolding curveAnswer
-  past-quads p0 p1 p2 a h = ap (λ (x : Bool). cond x QuadsFull (cond (opensAt setting w a p0 && full) SplinesFull (cond (not (le (sumWith setting w p0 p1 p2 a) limit32)) SumTooLarge Done))) (leb-no (caps .quads) (w .state .quads) h)
+  past-quads p0 p1 p2 a h = ap (λ (x : Bool). cond x QuadsFull (cond (opensAt setting w a p0 && full) SplinesFull (cond (not (le (sumWith setting w p0 p1 p2 a) limit32)) SumTooLarge Done))) (lt-leb (caps .quads) (w .state .quads) h)
 
   splines-refused : (p0 p1 p2 : WeightedPoint) (a : Angle) → w .state .quads < caps .quads → T (opensAt setting w a p0) → caps .splines ≤ w .state .splines → curveAnswer p0 p1 p2 a ≡ SplinesFull
   unfolding full
   splines-refused p0 p1 p2 a h o f =
       past-quads p0 p1 p2 a h
-      ∙ ap₂ (λ (x y : Bool). cond (x && y) SplinesFull (cond (not (le (sumWith setting w p0 p1 p2 a) limit32)) SumTooLarge Done)) (is-true (opensAt setting w a p0) o) (leb-yes (caps .splines) (w .state .splines) f)
+      ∙ ap₂ (λ (x y : Bool). cond (x && y) SplinesFull (cond (not (le (sumWith setting w p0 p1 p2 a) limit32)) SumTooLarge Done)) (is-true (opensAt setting w a p0) o) (le-leb (caps .splines) (w .state .splines) f)
 
   both-not : (o f : Bool) → (T o → f ≡ false) → o && f ≡ false
   both-not true f h = h tt
@@ -143,7 +140,7 @@ module _ (setting : Setting) (caps : Capacities) (w : World) where
   unfolding full
   sum-refused p0 p1 p2 a h o f =
       past-quads p0 p1 p2 a h
-      ∙ ap₂ (λ (x y : Bool). cond x SplinesFull (cond (not y) SumTooLarge Done)) (both-not (opensAt setting w a p0) (leb (caps .splines) (w .state .splines)) (λ t. leb-no (caps .splines) (w .state .splines) (o t)))
+      ∙ ap₂ (λ (x y : Bool). cond x SplinesFull (cond (not y) SumTooLarge Done)) (both-not (opensAt setting w a p0) (leb (caps .splines) (w .state .splines)) (λ t. lt-leb (caps .splines) (w .state .splines) (o t)))
       (tells-under (sumWith setting w p0 p1 p2 a) limit32 limit-number .1 (inr f))
 
   curved-answer : (p0 p1 p2 : WeightedPoint) (C : Curved p0 p1 p2) → pushAnswer (Quad p0 p1 p2) ≡ curveAnswer p0 p1 p2 (legOf p0 p1)
@@ -203,10 +200,6 @@ module _ (setting : Setting) (caps : Capacities) (w : World) where
       go false true false false a b c k d e h = inr (sum-over p0 p1 p2 C (b tt) (λ t. e tt) (over (h refl)))
       go false false f true a b c k d e h = inl refl
       go false false f false a b c k d e h = inr (sum-over p0 p1 p2 C (b tt) (λ t. absurd (k t)) (over (h refl)))
-
-  first-false : (a b c : Bool) → a || b || c ≡ false → a ≡ false
-  first-false true b c h = h
-  first-false false b c h = refl
 
   module _ (S : Sound caps w) (D : w .state .answer ≡ Done) where
     sum-is-number : (p0 p1 p2 : WeightedPoint) (a : Angle) → sumWith setting w p0 p1 p2 a ≡ nan → ⊥

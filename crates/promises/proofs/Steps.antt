@@ -8,7 +8,7 @@ use Prim.Native.Nat.{ℕ, zero, suc, _+_, _-_, _*_, _≤_, _<_, zero-le}
 use native.Mathlib.Nat.{le-trans, le-of-eq, le-refl, le-of-lt, lt-of-lt-of-le, lt-of-le-of-lt, lt-irrefl, not-suc-le-zero, zero-add}
 use native.Mathlib.Numerals.{add-one}
 use native.Mathlib.Decide.{decLt}
-use native.Mathlib.Omega.{arith}
+use native.Mathlib.Omega.{arith, by-contra}
 use lib.Dec.{T, eqb, lit≤, eqb→eq, not-T}
 use lib.Ieee.{Float}
 use lib.Ieee.Bits.{is-true, is-false}
@@ -35,7 +35,8 @@ use Rattle.promises.proofs.Flattened.{worldOf, itemsIn, finishedOf, pas
 use Rattle.promises.proofs.Decoding.{capsOf, job-sound}
 use Rattle.promises.proofs.Cutting.{All, all-append, all-member}
 use Rattle.promises.proofs.Walking.{Piece, piece-at}
-use Rattle.promises.proofs.Cursor.{Below, cursor-from-under, steps-under, first-falls, StepAt, step-at, steps-inside, cursor-ends, Reached, reached, falls-once}
+use Rattle.promises.proofs.Cursor.{Below, cursor-from-under, steps-under, first-falls, StepAt, step-at, steps-inside, cursor-ends, Reached, reached}
+use Rattle.promises.proofs.Cursor.{falls-once}
 
 -- ---- a statement about the steps of a spline's items
 abbrev Steps : (Item → Type 0) → Item → Type 0
@@ -73,12 +74,9 @@ module _ (setting : Setting) (caps : Capacities) (w : World) (S : Sound caps w) 
   home : (i : ℕ) → i < w .state .quads → Home i
   home i h = go (w .state .splines) (le-refl (w .state .splines)) (lt-of-lt-of-le h (le-of-eq (sym (S .all))))
     where
-      less : (x y : ℕ) → (x < y → ⊥) → y ≤ x
-      less x y h = omega arith
-
       step : (n : ℕ) → suc n ≤ w .state .splines → i < S .cut (suc n) → Dec (i < S .cut n) → (i < S .cut n → Home i) → Home i
       step n l g (yes z) f = f z
-      step n l g (no z) f = record { spline = n; inside = l; low = less i (S .cut n) z; high = g }
+      step n l g (no z) f = record { spline = n; inside = l; low = by-contra (S .cut n) i z; high = g }
 
       go : (n : ℕ) → n ≤ w .state .splines → i < S .cut n → Home i
       go zero l g = absurd (not-suc-le-zero (lt-of-lt-of-le g (le-of-eq (S .first))))

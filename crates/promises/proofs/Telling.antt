@@ -69,10 +69,6 @@ swap-le a b = go (ltb a b) (eqb a b) (ltb→lt a b) (nltb→le a b) (eqb→eq a 
     go false true f g h k = (λ z. absurd (true≢false z), λ t. absurd (apart' (h tt) (ltb→lt b a t)))
     go false false f g h k = (λ z. lt→ltb b a (strict (g tt) (λ e. k e)), λ t. refl)
 
-or-false : (b : Bool) → b || false ≡ b
-or-false true = refl
-or-false false = refl
-
 module _ (a b : ℕ) where
   -- a positive left against a negative right: at most it only if both are 0
   plus-minus : Tells (false || (eqb a b && (false || eqb a 0))) (T (ltb 0 (b + a)))

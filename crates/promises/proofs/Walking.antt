@@ -5,7 +5,7 @@ use mathlib.Core.Logic.{_⊎_, inl, inr}
 use mathlib.Core.Bool.{Bool, true, false, cond}
 use mathlib.Core.List.{List, [], _∷_, _++_, map, append-assoc}
 use Prim.Native.Nat.{ℕ, zero, suc, _+_, _-_, _≤_, _<_}
-use native.Mathlib.Nat.{le-trans, le-of-eq, lt-of-lt-of-le, le-of-suc-le-suc, not-suc-le-zero, zero-lt-suc}
+use native.Mathlib.Nat.{le-trans, le-of-eq, lt-of-lt-of-le, le-of-suc-le-suc, not-suc-le-zero, zero-lt-suc, add-zero}
 use native.Mathlib.Omega.{arith}
 use lib.Dec.{T}
 use lib.ListN.{length, getD, replicate}
@@ -13,6 +13,8 @@ use lib.Ieee.{Float, binary32, div, fits}
 use lib.Ieee.Fits.{div-fits}
 use lib.Ieee.Positive.{positive, positive-finite}
 use lib.Ieee.Scale.{finite}
+use native.Mathlib.Numerals.{suc-eq-add-one}
+use Rattle.facts.proofs.Numbers.{shift-one}
 use Rattle.leaves.specs.Single.{_⊘_, whole32, zero32}
 use Rattle.leaves.specs.Whole.{wholeUpOf}
 use Rattle.command.specs.declared.PointCommand.{PointCommand}
@@ -94,29 +96,20 @@ module _ (q : QuadTable) (s : SplineTable) where
   piece-at setting inv (suc n) k cursor h step zero l =
       record {
         cursor = cursor;
-        is = ap (λ (x : List (List Item)). getD x 0 []) (cut-spline k cursor (walkFrom setting q s n (k + 1) (cursorAfter q s k cursor))) ∙ ap (λ (x : ℕ). splineItemsOf q s x cursor) (plain k);
-        holds = subst (λ (x : ℕ). inv x cursor) (plain k) h;
+        is = ap (λ (x : List (List Item)). getD x 0 []) (cut-spline k cursor (walkFrom setting q s n (k + 1) (cursorAfter q s k cursor))) ∙ ap (λ (x : ℕ). splineItemsOf q s x cursor) (sym (add-zero k));
+        holds = subst (λ (x : ℕ). inv x cursor) (sym (add-zero k)) h;
       }
-    where
-      plain : (k : ℕ) → k ≡ k + 0
-      plain k = omega arith
   piece-at setting inv (suc n) k cursor h step (suc i) l =
       let c = cursorAfter q s k cursor in
-      let z = piece-at setting inv n (k + 1) c (subst (λ (x : ℕ). inv x c) (one k) (step k cursor (far k n) h)) (λ j d m. step j d (lt-of-lt-of-le m (le-of-eq (shift k n)))) i (le-of-suc-le-suc l) in
+      let z = piece-at setting inv n (k + 1) c (subst (λ (x : ℕ). inv x c) (suc-eq-add-one k) (step k cursor (far k n) h)) (λ j d m. step j d (lt-of-lt-of-le m (le-of-eq (shift-one k n)))) i (le-of-suc-le-suc l) in
       record {
         cursor = z .cursor;
-        is = ap (λ (x : List (List Item)). getD x (suc i) []) (cut-spline k cursor (walkFrom setting q s n (k + 1) c)) ∙ z .is ∙ ap (λ (x : ℕ). splineItemsOf q s x (z .cursor)) (shift k i);
-        holds = subst (λ (x : ℕ). inv x (z .cursor)) (shift k i) (z .holds);
+        is = ap (λ (x : List (List Item)). getD x (suc i) []) (cut-spline k cursor (walkFrom setting q s n (k + 1) c)) ∙ z .is ∙ ap (λ (x : ℕ). splineItemsOf q s x (z .cursor)) (shift-one k i);
+        holds = subst (λ (x : ℕ). inv x (z .cursor)) (shift-one k i) (z .holds);
       }
     where
-      one : (k : ℕ) → suc k ≡ k + 1
-      one k = omega arith
-
       far : (k n : ℕ) → k < k + suc n
       far k n = omega arith
-
-      shift : (k n : ℕ) → k + 1 + n ≡ k + suc n
-      shift k n = omega arith
 
   -- ---- the commands of a spline
   steps-commands : (size : Float) (n p cursor : ℕ) → map commandOf (stepsFrom q size n p cursor) ≡ replicate n (Incr size)
@@ -179,10 +172,7 @@ module _ (caps : Capacities) (w : World) (S : Sound caps w) (limit : caps .splin
   walk-packed setting zero k cursor h = tt
   walk-packed setting (suc n) k cursor h =
       all-append Packed (splineItemsOf (w .quads) (w .splines) k cursor) _ (spline-packed k cursor (le-trans (far k n) h))
-      (walk-packed setting n (k + 1) (cursorAfter (w .quads) (w .splines) k cursor) (le-trans (le-of-eq (shift k n)) h))
+      (walk-packed setting n (k + 1) (cursorAfter (w .quads) (w .splines) k cursor) (le-trans (le-of-eq (shift-one k n)) h))
     where
       far : (k n : ℕ) → k < k + suc n
       far k n = omega arith
-
-      shift : (k n : ℕ) → k + 1 + n ≡ k + suc n
-      shift k n = omega arith

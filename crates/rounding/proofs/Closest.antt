@@ -2,10 +2,11 @@
 use mathlib.Core.Path.{_≡_, sym, ap, _∙_, subst}
 use mathlib.Core.Logic.{_⊎_, inl, inr}
 use Prim.Native.Nat.{ℕ, zero, suc, _+_, _-_, _*_, _/_, _%_, _≤_, _<_, compare, Ordering, Ordering·lt, Ordering·eq, Ordering·gt}
-use native.Mathlib.Nat.{add-mul, suc-mul, mod-lt, div-add-mod', mul-le-mul-right, le-trans, le-of-eq, one-mul}
+use native.Mathlib.Nat.{add-mul, suc-mul, mod-lt, div-add-mod', mul-le-mul-right, le-trans, le-of-eq, one-mul, add-zero, zero-lt-suc}
 use native.Mathlib.Omega.{arith}
 use lib.Ieee.{nearest}
 use lib.Ieee.Nearest.{closest}
+use Rattle.facts.proofs.Numbers.{no-digit}
 use Rattle.rounding.proofs.Halves.{Cmp, cmp}
 use Rattle.rounding.proofs.Basics.{le-or-lt}
 use Rattle.rounding.proofs.Signed.{gap}
@@ -77,18 +78,9 @@ even-up : (q : ℕ) → (q + q % 2) % 2 ≡ 0
 even-up q = omega arith
 
 plus-last : (q u b : ℕ) → b < 2 → ((q + b) * u ≡ q * u) ⊎ ((q + b) * u ≡ q * u + u)
-plus-last q u zero h = inl (ap (λ (x : ℕ). x * u) (none q))
-  where
-    none : (q : ℕ) → q + 0 ≡ q
-    none q = omega arith
+plus-last q u zero h = inl (ap (λ (x : ℕ). x * u) (add-zero q))
 plus-last q u (suc zero) h = inr (add-mul q 1 u ∙ ap (λ (x : ℕ). q * u + x) (one-mul u))
-plus-last q u (suc (suc b)) h = absurd (no b h)
-  where
-    no : (b : ℕ) → suc (suc b) < 2 → ⊥
-    no b h = omega arith
-
-last-lt : (q : ℕ) → q % 2 < 2
-last-lt q = omega arith
+plus-last q u (suc (suc b)) h = absurd (no-digit b h)
 
 module _ (n u : ℕ) (U : 0 < u) where
   split : n / u * u + n % u ≡ n
@@ -116,7 +108,7 @@ module _ (n u : ℕ) (U : 0 < u) where
       go Ordering·lt h = near-down n u (n / u * u) (n % u) (Y * u) split (mod-lt n U) (less h) o
       go Ordering·gt h =
           subst (λ (B : ℕ). gap B n ≤ gap (Y * u) n) (sym (suc-mul (n / u) u)) (near-up n u (n / u * u) (n % u) (Y * u) split (mod-lt n U) (half h) o)
-      go Ordering·eq h = elim (plus-last (n / u) u (n / u % 2) (last-lt (n / u))) [
+      go Ordering·eq h = elim (plus-last (n / u) u (n / u % 2) (mod-lt (n / u) (zero-lt-suc 1))) [
         | inl z ↦ subst (λ (B : ℕ). gap B n ≤ gap (Y * u) n) (sym z) (near-down n u (n / u * u) (n % u) (Y * u) split (mod-lt n U) (even h) o)
         | inr z ↦ subst (λ (B : ℕ). gap B n ≤ gap (Y * u) n) (sym z) (near-up n u (n / u * u) (n % u) (Y * u) split (mod-lt n U) (level h) o)
       ]

@@ -14,6 +14,7 @@ use lib.Ieee.Exact.{HasValue, units-val}
 use lib.Ieee.Fits.{two, two-le-pos, kept-lt}
 use lib.Ieee.Positive.{num, den, den-pos}
 use lib.Ieee.Scale.{finite}
+use native.Mathlib.Numerals.{lt-add-one, add-one-le}
 use Rattle.rounding.specs.Roots.{cutTo, nextAbove}
 use Rattle.rounding.proofs.Basics.{le-or-lt}
 use Rattle.rounding.proofs.Grid.{leading, on-grid}
@@ -91,10 +92,7 @@ module _ (f : Format) (w : ℕ) where
           one-more a c h = omega arith
 
       next-digits : kept + 1 ≤ 2 ^ prec f
-      next-digits = one-up kept (2 ^ prec f) kept-fits
-        where
-          one-up : (c a : ℕ) → c < a → c + 1 ≤ a
-          one-up c a h = omega arith
+      next-digits = add-one-le kept-fits
 
       next-lt : (kept + 1) * 2 ^ gone < 2 ^ (low f + suc (emax f))
       next-lt = finite-bits f (kept + 1) gone next-digits fuller room
@@ -124,7 +122,4 @@ module _ (f : Format) (w : ℕ) where
           let x = nextAbove f r in
           fraction-lt (num r) (den r) (num x) (den x) (kept * 2 ^ gone) ((kept + 1) * 2 ^ gone) (2 ^ low f) (mul-pos (den-pos r) (den-pos x))
           (cross r false (kept * 2 ^ gone) (2 ^ low f) cut-value)
-          (cross x false ((kept + 1) * 2 ^ gone) (2 ^ low f) next-value) (mul-lt-mul-of-pos-right (step kept) (pow-pos gone))
-        where
-          step : (c : ℕ) → c < c + 1
-          step c = omega arith
+          (cross x false ((kept + 1) * 2 ^ gone) (2 ^ low f) next-value) (mul-lt-mul-of-pos-right (lt-add-one kept) (pow-pos gone))

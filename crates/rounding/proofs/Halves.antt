@@ -1,13 +1,14 @@
 -- Laws of `halve`: rounding a fraction sees its number of halves, their parity, and whether anything lies above them. Assumes nothing.
 use mathlib.Core.Path.{_≡_, refl, sym, ap, ap₂, _∙_, subst}
 use Prim.Native.Nat.{ℕ, zero, suc, _+_, _-_, _*_, _/_, _%_, _≤_, _<_, compare, Ordering, Ordering·lt, Ordering·eq, Ordering·gt}
-use native.Mathlib.Nat.{div-add-mod', mod-lt, mul-assoc, add-mul, suc-mul, one-mul, suc-ne-zero, zero-lt-suc, le-of-eq, le-of-lt, le-suc, le-refl}
+use native.Mathlib.Nat.{div-add-mod', mod-lt, mul-assoc, add-mul, suc-mul, one-mul, suc-ne-zero, zero-lt-suc, le-of-eq, le-of-lt, le-suc, le-refl, add-zero}
 use native.Mathlib.Omega.{arith}
 use mathlib.Core.Bool.{not}
 use lib.Dec.{T, isLe, isEq, eqb, leb→le, nleb→lt, eqb→eq, eqb-refl}
 use lib.Arith.{lt-of-le-ne, digits-div, digits-mod}
 use lib.Ieee.{nearest}
 use lib.Ieee.Nearest.{closest}
+use Rattle.facts.proofs.Numbers.{no-digit}
 use Rattle.rounding.specs.Halves.{tip, halve}
 
 abbrev pub Cmp : Ordering → ℕ → ℕ → Type 0
@@ -193,10 +194,7 @@ module _ (w D : ℕ) (P : 0 < D) where
           at (suc a) 0 (next w (h * D) (w % D) (a * D) (suc a * (D * 2)) D (a % 2) whole z (ap (λ (x : ℕ). x * D) e ∙ two-more a D)
           (suc-mul a (D * 2) ∙ ap (λ (x : ℕ). x + D * 2) (sym (mul-assoc a D 2))) k P) (none D P)
           ∙ one a (a % 2) k
-      tie (suc (suc b)) k l = absurd (no b l)
-        where
-          no : (b : ℕ) → suc (suc b) < 2 → ⊥
-          no b l = omega arith
+      tie (suc (suc b)) k l = absurd (no-digit b l)
   odd e (suc r) z =
       at (suc a) (r + a % 2) (over-half w (h * D) (w % D) r (a * D) (suc a * (D * 2)) D (a % 2) whole z (ap (λ (x : ℕ). x * D) e ∙ two-more a D)
       (suc-mul a (D * 2) ∙ ap (λ (x : ℕ). x + D * 2) (sym (mul-assoc a D 2))) P)
@@ -217,12 +215,6 @@ module _ (w D : ℕ) (P : 0 < D) where
       halves h b e = omega arith
 
       by-last : (b : ℕ) → h % 2 ≡ b → b < 2 → N / (D * 2) ≡ halve h (w % D)
-      by-last zero e l = even (halves h 0 e ∙ plain (2 * a))
-        where
-          plain : (x : ℕ) → x + 0 ≡ x
-          plain x = omega arith
+      by-last zero e l = even (halves h 0 e ∙ add-zero (2 * a))
       by-last (suc zero) e l = odd (halves h 1 e) (w % D) refl
-      by-last (suc (suc b)) e l = absurd (no b l)
-        where
-          no : (b : ℕ) → suc (suc b) < 2 → ⊥
-          no b l = omega arith
+      by-last (suc (suc b)) e l = absurd (no-digit b l)

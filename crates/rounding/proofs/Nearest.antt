@@ -5,7 +5,7 @@ use mathlib.Core.Path.{_≡_, refl, sym, ap, _∙_, subst}
 use mathlib.Core.Logic.{_⊎_, inl, inr}
 use mathlib.Core.Bool.{Bool, true, false, cond}
 use Prim.Native.Nat.{ℕ, suc, _+_, _-_, _*_, _/_, _%_, _^_, _≤_, _<_, compare}
-use native.Mathlib.Nat.{mul-assoc, mul-comm, mul-right-comm, mul-pos, mul-lt-mul-of-pos-right, mul-le-mul-right}
+use native.Mathlib.Nat.{mul-assoc, mul-comm, mul-right-comm, mul-pos, mul-lt-mul-of-pos-right, mul-le-mul-right, le-of-lt}
 use native.Mathlib.Nat.{eq-of-mul-eq-mul-right, zero-mul, div-mul-le-self, div-div-eq-div-mul, le-div-iff-mul-le, le-trans, le-of-eq, eq-zero-or-pos}
 use native.Mathlib.Omega.{arith}
 use lib.IntN.{pos, _*ℤ_}
@@ -84,11 +84,8 @@ module _ (p n b : ℕ) (P : 0 < p) (B : 0 < b) where
   pub near-grid : (c j : ℕ) → c < 2 ^ p → gap (R * b) n ≤ gap (c * 2 ^ j * b) n
   near-grid c j C = elim (on-grid p (n / b) P c j C) [
     | inl y ↦ subst (λ (x : ℕ). gap (R * b) n ≤ gap (x * b) n) (sym (y .1)) (near-multiple (y .0))
-    | inr y ↦ weaken (gap (R * b) n) (gap (c * 2 ^ j * b) n) (under (c * 2 ^ j) (y .0) (reached (y .1)))
+    | inr y ↦ le-of-lt (under (c * 2 ^ j) (y .0) (reached (y .1)))
   ]
-    where
-      weaken : (x y : ℕ) → x < y → x ≤ y
-      weaken x y h = omega arith
 
   near-zero : gap (R * b) n ≤ n
   near-zero = le-trans (near-multiple 0) (le-of-eq (ap (λ (x : ℕ). gap x n) (ap (λ (x : ℕ). x * b) (zero-mul (2 ^ drop p n b)) ∙ zero-mul b) ∙ only n))

@@ -4,7 +4,8 @@ use mathlib.Core.Path.{_≡_, refl, sym, ap, _∙_, subst}
 use mathlib.Core.Logic.{_⊎_, inl, inr}
 use mathlib.Core.Bool.{Bool, true, false}
 use Prim.Native.Nat.{ℕ, suc, _+_, _-_, _*_, _%_, _^_, _≤_, _<_, zero-le}
-use native.Mathlib.Nat.{mul-lt-mul-of-pos-right, eq-of-mul-eq-mul-right, eq-or-lt-of-le, le-antisymm, le-of-lt, zero-mul}
+use native.Mathlib.Nat.{mul-lt-mul-of-pos-right, eq-of-mul-eq-mul-right, eq-or-lt-of-le, le-antisymm, le-of-lt, zero-mul, lt-suc-self, lt-trans, ne-of-lt}
+use native.Mathlib.Nat.{ne-of-gt}
 use native.Mathlib.Omega.{arith}
 use lib.IntN.{ℤ, pos, negsuc, _*ℤ_}
 use lib.Dec.{leb}
@@ -36,14 +37,11 @@ module _ (f : Format) (n b : ℕ) where
     never x y i e l = elim (eq-or-lt-of-le (next-least f q k c j K (le-of-lt C) l)) [
       | inl z ↦ odd (same-last f (suc q) k c j Q (more K) (le-of-lt C) J z)
       | inr z ↦
-          between (q * 2 ^ k * b) (suc q * 2 ^ k * b) (c * 2 ^ j * b) (mul-lt-mul-of-pos-right (mul-lt-mul-of-pos-right (step q) (pow-pos k)) B)
-          (mul-lt-mul-of-pos-right z B) (x (suc q) k Q (trans (suc q * 2 ^ k) (c * 2 ^ j) (overflow f) z top))
-          (y (suc q) k Q (trans (suc q * 2 ^ k) (c * 2 ^ j) (overflow f) z top))
+          between (q * 2 ^ k * b) (suc q * 2 ^ k * b) (c * 2 ^ j * b) (mul-lt-mul-of-pos-right (mul-lt-mul-of-pos-right (lt-suc-self q) (pow-pos k)) B)
+          (mul-lt-mul-of-pos-right z B) (x (suc q) k Q (lt-trans z top))
+          (y (suc q) k Q (lt-trans z top))
     ]
       where
-        step : (a : ℕ) → a < suc a
-        step a = omega arith
-
         more : Leads f q k → Leads f (suc q) k
         more o = elim o [ inl h ↦ inl h | inr h ↦ inr (wider (2 ^ (prec f - 1)) h) ]
           where
@@ -52,9 +50,6 @@ module _ (f : Format) (n b : ℕ) where
 
         odd : suc q % 2 ≡ c % 2 → ⊥
         odd h = omega (arith, i, e)
-
-        trans : (a b c : ℕ) → a < b → b < c → a < c
-        trans a b c h k = omega arith
 
         between : (x y z : ℕ) → x < y → y < z → gap x n ≤ gap y n → gap z n ≤ gap y n → ⊥
         between x y z h k g i = omega arith
@@ -121,10 +116,7 @@ module _ (f : Format) (s : Bool) (a b : ℕ) (B : 0 < b) where
       let y = toBits f r' in
       never f n b B (sig f x) (place f x) (sig f y) (place f y) (sig-lt f x) (leads f x) (sig-lt f y) (leads f y) (worth-under f r' (g .held) (g .whole))
       (λ q k Q K. near r h .0 (q * 2 ^ k * b) (q, k, Q, K, refl)) (λ q k Q K. near r' g .0 (q * 2 ^ k * b) (q, k, Q, K, refl))
-      (apart-even r r' h g (differ (worth f r) (worth f r') l)) (apart-even r' r g h (λ e. differ (worth f r) (worth f r') l (sym e))) l
-    where
-      differ : (a b : ℕ) → a < b → a ≡ b → ⊥
-      differ a b l e = omega arith
+      (apart-even r r' h g (ne-of-lt l)) (apart-even r' r g h (λ e. ne-of-lt l (sym e))) l
 
   module _ (r r' : Float) (h : NearestTo f (signed s a) b r) (g : NearestTo f (signed s a) b r') where
     same-worth : worth f r ≡ worth f r'
@@ -154,11 +146,8 @@ module _ (f : Format) (s : Bool) (a b : ℕ) (B : 0 < b) where
 
         some : 0 < num r → worth f r ≡ 0 → ⊥
         some l z =
-            no (num r) l (eq-of-mul-eq-mul-right (2 ^ low f) (pow-pos (low f)) (num r) 0
+            ne-of-gt l (eq-of-mul-eq-mul-right (2 ^ low f) (pow-pos (low f)) (num r) 0
             (cross r (t r h) (worth f r) (2 ^ low f) (value r h) ∙ ap (λ (k : ℕ). k * den r) z ∙ zero-mul (den r) ∙ sym (zero-mul (2 ^ low f))))
-          where
-            no : (k : ℕ) → 0 < k → k ≡ 0 → ⊥
-            no k l e = omega arith
 
 -- ---- the laws, for any fraction E / D
 pub nearest-value : (f : Format) (E : ℤ) (D : ℕ) → 0 < D → (r r' : Float) → NearestTo f E D r → NearestTo f E D r'

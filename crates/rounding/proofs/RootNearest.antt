@@ -4,11 +4,12 @@ use mathlib.Core.Path.{_≡_, refl, sym, ap, ap₂, _∙_, subst}
 use mathlib.Core.Logic.{_⊎_, inl, inr}
 use mathlib.Core.Bool.{false}
 use Prim.Native.Nat.{ℕ, zero, suc, _+_, _-_, _*_, _/_, _%_, _^_, _≤_, _<_, compare, Ordering, Ordering·lt, Ordering·eq, Ordering·gt}
-use native.Mathlib.Nat.{mul-assoc, mul-comm, mul-le-mul, mul-le-mul-right, add-mul, one-mul, suc-mul, div-mul-le-self}
-use native.Mathlib.Nat.{le-trans, le-of-eq, le-of-lt}
+use native.Mathlib.Nat.{mul-assoc, mul-comm, mul-le-mul, mul-le-mul-right, add-mul, one-mul, suc-mul, div-mul-le-self, add-zero, mod-lt, zero-lt-suc}
+use native.Mathlib.Nat.{add-le-add, le-refl, le-trans, le-of-eq, le-of-lt}
 use native.Mathlib.Omega.{arith}
 use lib.Ieee.{Format, prec, size, nearest, units}
 use lib.Ieee.Fits.{nearest-le, kept-lt}
+use Rattle.facts.proofs.Numbers.{no-digit}
 use Rattle.rounding.specs.Roots.{root, rooted}
 use Rattle.rounding.proofs.Halves.{Cmp, cmp}
 use Rattle.rounding.proofs.Cuts.{gone, kept, cut-le, cut-gt, cut-off}
@@ -80,10 +81,7 @@ module _ (f : Format) (n : ℕ) where
       let k = size (root 2 n) - prec f in
       let q = root 2 n / 2 ^ k in
       le-trans (mul-le-mul-right (2 ^ k) (nearest-le q (compare (n * 4) ((2 * q + 1) * 2 ^ k * ((2 * q + 1) * 2 ^ k)))))
-      (le-trans (le-of-eq (suc-mul q (2 ^ k))) (more (q * 2 ^ k) (root 2 n) (2 ^ k) (div-mul-le-self (root 2 n) (2 ^ k))))
-    where
-      more : (a b d : ℕ) → a ≤ b → a + d ≤ b + d
-      more a b d h = omega arith
+      (le-trans (le-of-eq (suc-mul q (2 ^ k))) (add-le-add (div-mul-le-self (root 2 n) (2 ^ k)) (le-refl (2 ^ k))))
 
   pub keptRoot-digits : keptRoot ≤ 2 ^ prec f
   unfolding keptRoot
@@ -118,25 +116,16 @@ module _ (f : Format) (n : ℕ) where
         (cut-le f (root 2 n)) (cut-gt f (root 2 n)) middle (cut-off f (root 2 n) c j C) h
 
     by-last : (b : ℕ) → b < 2 → n * 4 ≡ (2 * q + 1) * D * ((2 * q + 1) * D) → Sides n ((q + b) * D) (c * 2 ^ j)
-    by-last zero h e = subst (λ (x : ℕ). Sides n (x * D) (c * 2 ^ j)) (none q) (floor-side (le-of-eq e))
-      where
-        none : (q : ℕ) → q ≡ q + 0
-        none q = omega arith
+    by-last zero h e = subst (λ (x : ℕ). Sides n (x * D) (c * 2 ^ j)) (sym (add-zero q)) (floor-side (le-of-eq e))
     by-last (suc zero) h e =
         subst (λ (x : ℕ). Sides n x (c * 2 ^ j)) (sym (add-mul q 1 D ∙ ap (λ (x : ℕ). q * D + x) (one-mul D))) (next-side (le-of-eq (sym e)))
-    by-last (suc (suc b)) h e = absurd (no b h)
-      where
-        no : (b : ℕ) → suc (suc b) < 2 → ⊥
-        no b h = omega arith
+    by-last (suc (suc b)) h e = absurd (no-digit b h)
 
     pub root-sides : Sides n (keptRoot * 2 ^ (size (root 2 n) - prec f)) (c * 2 ^ j)
     unfolding keptRoot D q
     root-sides = go (compare (n * 4) ((2 * q + 1) * D * ((2 * q + 1) * D))) (cmp (n * 4) ((2 * q + 1) * D * ((2 * q + 1) * D)))
       where
-        last-lt : (q : ℕ) → q % 2 < 2
-        last-lt q = omega arith
-
         go : (o : Ordering) → Cmp o (n * 4) ((2 * q + 1) * D * ((2 * q + 1) * D)) → Sides n (nearest q o * D) (c * 2 ^ j)
         go Ordering·lt h = floor-side (le-of-lt h)
-        go Ordering·eq h = by-last (q % 2) (last-lt q) h
+        go Ordering·eq h = by-last (q % 2) (mod-lt q (zero-lt-suc 1)) h
         go Ordering·gt h = subst (λ (x : ℕ). Sides n x (c * 2 ^ j)) (sym (suc-mul q D)) (next-side (le-of-lt h))

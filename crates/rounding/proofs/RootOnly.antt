@@ -3,7 +3,7 @@
 use mathlib.Core.Path.{_≡_, sym, ap, _∙_}
 use mathlib.Core.Logic.{inl, inr}
 use Prim.Native.Nat.{ℕ, suc, _+_, _-_, _*_, _^_, _≤_, _<_}
-use native.Mathlib.Nat.{mul-assoc, mul-mul-mul-comm, mul-lt-mul-of-pos-right, mul-le-mul, le-mul-of-pos-right, eq-of-mul-eq-mul-right}
+use native.Mathlib.Nat.{mul-assoc, mul-mul-mul-comm, mul-lt-mul-of-pos-right, mul-le-mul, le-mul-of-pos-right, eq-of-mul-eq-mul-right, lt-suc-self}
 use native.Mathlib.Nat.{pow-suc, eq-or-lt-of-le, le-trans, le-of-eq, le-of-lt, le-antisymm, lt-of-le-of-lt, lt-trans}
 use native.Mathlib.Omega.{arith}
 use lib.Pow.{pow-add, pow-pos}
@@ -95,7 +95,7 @@ module _ (f : Format) (c j : ℕ) (C : c < 2 ^ prec f) where
         let Y = suc q * 2 ^ k in
         let a : Y ≤ S = next-least f q k d i K (le-of-lt E) l in
         let lo : (R + S) * (R + S) ≤ N * 4 = y q k (le-of-lt Q) (lt-trans l top) .0 l in
-        let hi : N * 4 ≤ (Y + R) * (Y + R) = x (suc q) k Q (lt-of-le-of-lt a top) .1 (mul-lt-mul-of-pos-right (step q) (pow-pos k)) in
+        let hi : N * 4 ≤ (Y + R) * (Y + R) = x (suc q) k Q (lt-of-le-of-lt a top) .1 (mul-lt-mul-of-pos-right (lt-suc-self q) (pow-pos k)) in
         let e : N * 4 ≡ (Y + R) * (Y + R) = le-antisymm hi (le-trans (mul-le-mul (swap R S Y a) (swap R S Y a)) lo) in
         no-middle f c (j + low f + 2) q k C (some (j + low f)) K (left ∙ e ∙ right)
       where
@@ -108,9 +108,6 @@ module _ (f : Format) (c j : ℕ) (C : c < 2 ^ prec f) where
         right =
             ap (λ (p : ℕ). p * p) middle ∙ mul-mul-mul-comm (2 * q + 1) (2 ^ k) (2 * q + 1) (2 ^ k)
             ∙ ap (λ (p : ℕ). (2 * q + 1) * (2 * q + 1) * p) (sym (pow-add 2 k k))
-
-        step : (a : ℕ) → a < suc a
-        step a = omega arith
 
         some : (a : ℕ) → 0 < a + 2
         some a = omega arith

@@ -3,10 +3,11 @@
 use mathlib.Core.Path.{_≡_, sym, ap, _∙_, subst}
 use mathlib.Core.Bool.{Bool, true, false, not}
 use Prim.Native.Nat.{ℕ, zero, suc, _+_, _-_, _*_, _^_, _≤_, _<_, zero-le}
-use native.Mathlib.Nat.{mul-assoc, mul-comm, mul-mul-mul-comm, pow-suc, add-mul, mul-add}
+use native.Mathlib.Nat.{mul-assoc, mul-comm, mul-mul-mul-comm, pow-suc, add-mul, mul-add, le-of-lt, sub-pos-iff-lt}
 use native.Mathlib.Omega.{arith}
 use lib.Dec.{T, leb, leb→le, nleb→lt}
 use lib.Ieee.{binary32, units}
+use native.Mathlib.Numerals.{suc-eq-add-one}
 use Rattle.rounding.specs.Halves.{halve}
 use Rattle.rounding.specs.Roots.{rooted, IsRoot, IsNear}
 use Rattle.rounding.proofs.Halves.{halve-even, halve-over}
@@ -44,11 +45,8 @@ under n t hi h = square-lt t 16777216 n (first (t * t) h) hi
 
 pub near-le : (n r : ℕ) → IsNear n r → n < 281474976710656 → r ≤ 16777216
 near-le n zero v hi = zero-le
-near-le n (suc t) v hi = last (under n t hi (one-less n t (subst (λ (x : ℕ). x * x < n + x) (plus t) (v .below))))
+near-le n (suc t) v hi = last (under n t hi (one-less n t (subst (λ (x : ℕ). x * x < n + x) (suc-eq-add-one t) (v .below))))
   where
-    plus : (t : ℕ) → suc t ≡ t + 1
-    plus t = omega arith
-
     last : t < 16777216 → suc t ≤ 16777216
     last h = omega arith
 
@@ -88,20 +86,14 @@ just-below n t j b l lo hi =
     let h = 2 * t + 1 in
     let s : h * h ≡ 4 * (t * t) + 2 * t + 2 * t + 1 = square-suc (2 * t) ∙ ap (λ (x : ℕ). x + 2 * t + 2 * t + 1) (double-square t) in
     let m : h * h < n * 4 = root-lo (t * t) (h * h) s b in
-    by-root n (suc t) h j (square-root (n * 4) h (le-of-lt' (h * h) (n * 4) m) (subst (λ (x : ℕ). n * 4 < x) (sym (next t)) (root-hi ((t + 1) * (t + 1)) l)))
-    (odd-ge (square-lt 8388608 (t + 1) n lo l)) (odd-lt (under n t hi b)) (halve-over t (n * 4 - h * h) (left (h * h) (n * 4) m))
+    by-root n (suc t) h j (square-root (n * 4) h (le-of-lt m) (subst (λ (x : ℕ). n * 4 < x) (sym (next t)) (root-hi ((t + 1) * (t + 1)) l)))
+    (odd-ge (square-lt 8388608 (t + 1) n lo l)) (odd-lt (under n t hi b)) (halve-over t (n * 4 - h * h) (sub-pos-iff-lt .1 m))
   where
     root-lo : (a b : ℕ) → b ≡ 4 * a + 2 * t + 2 * t + 1 → a + t < n → b < n * 4
     root-lo a b e h = omega arith
 
     root-hi : (a : ℕ) → n < a → n * 4 < 4 * a
     root-hi a h = omega arith
-
-    le-of-lt' : (a b : ℕ) → a < b → a ≤ b
-    le-of-lt' a b h = omega arith
-
-    left : (a b : ℕ) → a < b → 0 < b - a
-    left a b h = omega arith
 
     up : (t : ℕ) → 2 * t + 1 + 1 ≡ 2 * (t + 1)
     up t = omega arith
@@ -119,15 +111,14 @@ pub rooted-near : (n r j : ℕ) → IsNear n r → 70368744177664 ≤ n → n < 
     → rooted binary32 (n * (2 ^ suc j * 2 ^ suc j)) ≡ units binary32 false r (suc j)
 rooted-near n r j v lo hi = go (leb (r * r) n) (leb→le (r * r) n) (nleb→lt (r * r) n)
   where
-    plus : (t : ℕ) → suc t ≡ t + 1
-    plus t = omega arith
-
     lower : (r : ℕ) → IsNear n r → n < r * r → rooted binary32 (n * (2 ^ suc j * 2 ^ suc j)) ≡ units binary32 false r (suc j)
     lower zero v l = absurd (no l)
       where
         no : n < 0 → ⊥
         no h = omega arith
-    lower (suc t) v l = just-below n t j (one-less n t (subst (λ (x : ℕ). x * x < n + x) (plus t) (v .below))) (subst (λ (x : ℕ). n < x * x) (plus t) l) lo hi
+    lower (suc t) v l =
+        just-below n t j (one-less n t (subst (λ (x : ℕ). x * x < n + x) (suc-eq-add-one t) (v .below)))
+        (subst (λ (x : ℕ). n < x * x) (suc-eq-add-one t) l) lo hi
 
     go : (b : Bool) → (T b → r * r ≤ n) → (T (not b) → n < r * r) → rooted binary32 (n * (2 ^ suc j * 2 ^ suc j)) ≡ units binary32 false r (suc j)
     go true h k = at-or-above n r j v lo hi (h tt)

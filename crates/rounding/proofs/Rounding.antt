@@ -3,8 +3,9 @@ use mathlib.Core.Path.{_≡_, sym, ap, ap₂, _∙_, subst}
 use mathlib.Core.Logic.{_⊎_, inl, inr}
 use Prim.Native.Nat.{ℕ, suc, _+_, _-_, _*_, _/_, _%_, _^_, _≤_, _<_, zero-le, _∣_}
 use native.Mathlib.Nat.{div-add-mod', mod-lt, mul-assoc, mul-comm, mul-right-comm, mul-pos, pow-suc, mul-div-mul-right, div-div-eq-div-mul, div-lt-iff-lt-mul}
-use native.Mathlib.Nat.{le-div-iff-mul-le, lt-of-lt-of-le, lt-of-not-le, not-le-of-lt, le-antisymm, zero-lt-suc, zero-mul, eq-zero-or-pos, lt-irrefl}
-use native.Mathlib.Nat.{mul-lt-mul-of-pos-right, add-mul, add-sub-of-le, le-trans, lt-of-le-of-lt, le-add-right, mod-mod-of-dvd, dvd-mul-right, zero-mod}
+use native.Mathlib.Nat.{ne-of-gt, le-div-iff-mul-le, lt-of-lt-of-le, lt-of-not-le, not-le-of-lt, le-antisymm, zero-lt-suc, zero-mul, eq-zero-or-pos}
+use native.Mathlib.Nat.{lt-irrefl, mul-lt-mul-of-pos-right, add-mul, add-sub-of-le, le-trans, lt-of-le-of-lt, le-add-right, mod-mod-of-dvd, dvd-mul-right}
+use native.Mathlib.Nat.{zero-mod}
 use native.Mathlib.Omega.{arith}
 use mathlib.Core.Bool.{Bool}
 use lib.Arith.{digits-mod}
@@ -128,9 +129,6 @@ coarser N a b h = elim (eq-zero-or-pos (N % 2 ^ (a + b))) [
   | inr p ↦ p
 ]
 
-not-zero : (a : ℕ) → 0 < a → a ≡ 0 → ⊥
-not-zero a h e = omega arith
-
 reach : (t p y k : ℕ) → t + p < suc p + (y + k) → t ≤ y + k
 reach t p y k h = omega arith
 
@@ -155,8 +153,8 @@ sticky f s N M y t c e n m =
     round-pow f s N y k (subst (λ (x : ℕ). x < 2 ^ suc p) (sym same) (lv .1)) (subst (λ (x : ℕ). (k ≡ 0) ⊎ (2 ^ p ≤ x)) (sym same) (lv .2))
     ∙ ap (λ (x : ℕ). units f s x k)
     (ap (λ (x : ℕ). halve x (N % 2 ^ (y + k))) same
-    ∙ halve-sticky (M / 2 ^ (y + k)) (N % 2 ^ (y + k)) (M % 2 ^ (y + k)) (λ z. absurd (not-zero (N % 2 ^ (y + k)) n' z))
-    (λ z. absurd (not-zero (M % 2 ^ (y + k)) m' z)))
+    ∙ halve-sticky (M / 2 ^ (y + k)) (N % 2 ^ (y + k)) (M % 2 ^ (y + k)) (λ z. absurd (ne-of-gt n' z))
+    (λ z. absurd (ne-of-gt m' z)))
     ∙ sym (round-pow f s M y k (lv .1) (lv .2))
 
 -- ---- m * 2 ^ z, where m is first shifted left by l and then cut by d digits: in code, l brings m to a fixed number of digits

@@ -2,7 +2,7 @@
 use mathlib.Core.Path.{_≡_, refl, sym, ap, ap₂, _∙_}
 use mathlib.Core.Bool.{Bool, true, false, not, _&&_, Bool·beq, cond}
 use Prim.Native.Nat.{ℕ, zero, suc, _+_, _-_, _*_, _≤_, _<_}
-use native.Mathlib.Nat.{add-comm, add-mul, mul-sub, mul-comm, zero-mul, mul-lt-mul-of-pos-right, mul-le-mul-right}
+use native.Mathlib.Nat.{add-comm, add-mul, mul-sub, mul-comm, zero-mul, mul-lt-mul-of-pos-right, mul-le-mul-right, not-suc-le-zero}
 use native.Mathlib.Omega.{arith}
 use lib.Dec.{T, ltb, ltb→lt, nltb→le}
 use borrow.Author.Tests.{lt-ltb, le-ltb}
@@ -20,10 +20,7 @@ apart s a t b = cond (Bool·beq s t) (gap a b) (a + b)
 
 -- ---- a difference of two naturals
 less-is : (a b : ℕ) → a < b → pos a +ℤ negℤ (pos b) ≡ negℤ (pos (b - a))
-less-is a zero h = absurd (no a h)
-  where
-    no : (a : ℕ) → a < 0 → ⊥
-    no a h = omega arith
+less-is a zero h = absurd (not-suc-le-zero h)
 less-is a (suc b) h =
     ap (λ (t : Bool). cond t (negsuc (suc b - suc a)) (pos (a - suc b))) (lt-ltb a (suc b) h) ∙ ap (λ (n : ℕ). negℤ (pos n)) (one a b h)
   where

@@ -8,6 +8,7 @@ use mathlib.Core.Bool.{false}
 use lib.Pow.{pow-pos}
 use lib.Ieee.{Format, prec, size, nearest, units}
 use lib.Ieee.Fits.{two, two-le-pos}
+use Rattle.facts.proofs.Numbers.{no-digit}
 use Rattle.rounding.specs.Halves.{halve}
 use Rattle.rounding.specs.Roots.{root, rooted, IsRoot}
 use Rattle.rounding.proofs.Basics.{half-lt, half-ge, top-digit}
@@ -46,10 +47,7 @@ by-half n h q u r e U = go (eq-zero-or-one (h % 2) (mod-lt h (zero-lt-suc 1)))
     eq-zero-or-one : (b : ℕ) → b < 2 → (b ≡ 0) ⊎ (b ≡ 1)
     eq-zero-or-one zero l = inl refl
     eq-zero-or-one (suc zero) l = inr refl
-    eq-zero-or-one (suc (suc b)) l = absurd (no b l)
-      where
-        no : (b : ℕ) → suc (suc b) < 2 → ⊥
-        no b l = omega arith
+    eq-zero-or-one (suc (suc b)) l = absurd (no-digit b l)
 
     M : ℕ
     M = (2 * q + 1) * (2 * q + 1)

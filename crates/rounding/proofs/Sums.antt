@@ -4,8 +4,8 @@ use mathlib.Core.Path.{_≡_, refl, sym, ap, ap₂, _∙_, subst}
 use mathlib.Core.Logic.{_⊎_, inl, inr}
 use Prim.Native.Nat.{ℕ, suc, _+_, _-_, _*_, _/_, _%_, _^_, _≤_, _<_, zero-le}
 use native.Mathlib.Nat.{mul-comm, mul-assoc, mul-sub, add-mul, add-comm, mul-lt-mul-of-pos-right, lt-of-mul-lt-mul-right, lt-irrefl, le-of-lt, le-trans}
-use native.Mathlib.Nat.{add-sub-of-le, le-of-eq, suc-mul, mul-le-mul-right, sub-add-cancel, lt-of-lt-of-le, lt-of-le-of-lt, le-of-suc-le-suc, lt-of-not-le}
-use native.Mathlib.Nat.{pow-suc, mul-left-comm}
+use native.Mathlib.Nat.{sub-pos-iff-lt, add-sub-of-le, le-of-eq, suc-mul, mul-le-mul-right, sub-add-cancel, lt-of-lt-of-le, lt-of-le-of-lt, le-of-suc-le-suc}
+use native.Mathlib.Nat.{lt-of-not-le, pow-suc, mul-left-comm}
 use native.Mathlib.Omega.{arith}
 use mathlib.Core.Bool.{Bool, true, false, not, _&&_, Bool·beq, cond}
 use lib.Dec.{T, ltb, ltb→lt, lt→ltb, nltb→le}
@@ -13,15 +13,11 @@ use lib.Arith.{digits-div, digits-mod}
 use lib.Pow.{pow-add, pow-pos}
 use lib.Ieee.{Float, Format, prec, low, round, sum}
 use lib.Ieee.Scale.{round-same}
+use Rattle.facts.proofs.Numbers.{halves}
+use Rattle.facts.proofs.Tests.{same}
 use Rattle.rounding.specs.Alike.{Between, Alike}
 use Rattle.rounding.proofs.Basics.{le-or-lt}
 use Rattle.rounding.proofs.Rounding.{sticky, coarser}
-
-same-test : (a b : Bool) → (T a → T b) → (T b → T a) → a ≡ b
-same-test true true p q = refl
-same-test true false p q = absurd (p tt)
-same-test false true p q = absurd (q tt)
-same-test false false p q = refl
 
 -- ---- other fractions of the same values
 scaled-lt : (a b c a' b' c' : ℕ) → 0 < c' → a * c' ≡ a' * c → b * c' ≡ b' * c → a < b → a' < b'
@@ -36,9 +32,9 @@ pub sum-same : (f : Format) (s : Bool) (a : ℕ) (t : Bool) (b c a' b' c' : ℕ)
     → sum f s a t b c ≡ sum f s a' t b' c'
 unfolding sum
 sum-same f s a t b c a' b' c' C C' e d =
-    let l : ltb a b ≡ ltb a' b' = same-test (ltb a b) (ltb a' b') (λ h. lt→ltb a' b' (scaled-lt a b c a' b' c' C' e d (ltb→lt a b h)))
+    let l : ltb a b ≡ ltb a' b' = same (ltb a b) (ltb a' b') (λ h. lt→ltb a' b' (scaled-lt a b c a' b' c' C' e d (ltb→lt a b h)))
     (λ h. lt→ltb a b (scaled-lt a' b' c' a b c C (sym e) (sym d) (ltb→lt a' b' h))) in
-    let g : ltb b a ≡ ltb b' a' = same-test (ltb b a) (ltb b' a') (λ h. lt→ltb b' a' (scaled-lt b a c b' a' c' C' d e (ltb→lt b a h)))
+    let g : ltb b a ≡ ltb b' a' = same (ltb b a) (ltb b' a') (λ h. lt→ltb b' a' (scaled-lt b a c b' a' c' C' d e (ltb→lt b a h)))
     (λ h. lt→ltb b a (scaled-lt b' a' c' b a c C (sym d) (sym e) (ltb→lt b' a' h))) in
     ap₂ (λ (x y : Float). cond (Bool·beq s t) x y)
     (round-same f s (a + b) c (a' + b') c' C C' (add-mul a b c' ∙ ap₂ (λ (x y : ℕ). x + y) e d ∙ sym (add-mul a' b' c)))
@@ -48,13 +44,10 @@ sum-same f s a t b c a' b' c' C C' e d =
 
 -- ---- N and M that are alike at 2 ^ t
 between-split : (u j N : ℕ) → Between u j N → (r : ℕ) × (N ≡ j * u + r) × (0 < r) × (r < u)
-between-split u j N h = (N - j * u, joined (j * u) N (h .0), more (j * u) N (h .0), less (j * u) N u (h .0) (h .1))
+between-split u j N h = (N - j * u, joined (j * u) N (h .0), sub-pos-iff-lt .1 (h .0), less (j * u) N u (h .0) (h .1))
   where
     joined : (a N : ℕ) → a < N → N ≡ a + (N - a)
     joined a N h = omega arith
-
-    more : (a N : ℕ) → a < N → 0 < N - a
-    more a N h = omega arith
 
     less : (a N u : ℕ) → a < N → N < a + u → N - a < u
     less a N u h k = omega arith
@@ -193,9 +186,9 @@ sum-alike f s N M r e y t h c =
     let B = e * 2 ^ t in
     let D = 2 ^ (suc (low f) + y) in
     let G = 2 ^ (t + prec f) in
-    let l : ltb N B ≡ ltb M B = same-test (ltb N B) (ltb M B) (λ k. lt→ltb M B (under t e N M h (ltb→lt N B k)))
+    let l : ltb N B ≡ ltb M B = same (ltb N B) (ltb M B) (λ k. lt→ltb M B (under t e N M h (ltb→lt N B k)))
     (λ k. lt→ltb N B (under t e M N (flip t N M h) (ltb→lt M B k))) in
-    let g : ltb B N ≡ ltb B M = same-test (ltb B N) (ltb B M) (λ k. lt→ltb B M (beyond t e N M h (ltb→lt B N k)))
+    let g : ltb B N ≡ ltb B M = same (ltb B N) (ltb B M) (λ k. lt→ltb B M (beyond t e N M h (ltb→lt B N k)))
     (λ k. lt→ltb B N (beyond t e M N (flip t N M h) (ltb→lt B M k))) in
     ap₂ (λ (x z : Float). cond (Bool·beq s r) x z) (alike-round f s (N + B) (M + B) y t (alike-add t e N M h) (λ _. plus M B G c))
     (ap (λ (x : Bool). cond x (round f r (B - N) D) (round f (s && ltb B N) (N - B) D)) l
@@ -262,10 +255,7 @@ deep p a t j e h =
 
 -- ---- a sum of two parts: N, which is x * 2 ^ z except for what was lost below 2 ^ z, and B * 2 ^ z for an even B
 even-half : (B w W : ℕ) → B % 2 ≡ 0 → W ≡ 2 * w → B / 2 * W ≡ B * w
-even-half B w W e h = ap (λ (x : ℕ). B / 2 * x) h ∙ mul-left-comm (B / 2) 2 w ∙ sym (mul-assoc 2 (B / 2) w) ∙ ap (λ (x : ℕ). x * w) (whole B e)
-  where
-    whole : (B : ℕ) → B % 2 ≡ 0 → 2 * (B / 2) ≡ B
-    whole B e = omega arith
+even-half B w W e h = ap (λ (x : ℕ). B / 2 * x) h ∙ mul-left-comm (B / 2) 2 w ∙ sym (mul-assoc 2 (B / 2) w) ∙ ap (λ (x : ℕ). x * w) (halves B e)
 
 pub sum-jam : (f : Format) (s : Bool) (N x : ℕ) (r : Bool) (B z y : ℕ) → Alike (suc z) N (x * 2 ^ z) → B % 2 ≡ 0
     → (suc z ≤ y) ⊎ ((B + 2 ^ suc (prec f) ≤ x) ⊎ (x + 2 ^ suc (prec f) ≤ B))

@@ -2,10 +2,9 @@
 -- after their loop, each with what its triple binds and what a call of it is given.
 -- Assumes `Given`.
 use mathlib.Core.Path.{_≡_, refl}
-use mathlib.Core.Bool.{Bool, true, false, cond, _&&_, false≢true}
-use Prim.Native.Nat.{ℕ, suc, _+_, _≤_, _<_, _^_, zero-le}
+use mathlib.Core.Bool.{Bool, true, false, cond, _&&_, and-eq-true-iff}
+use Prim.Native.Nat.{ℕ, _≤_, _<_, _^_, zero-le}
 use native.Mathlib.Nat.{le-refl, not-suc-le-zero}
-use native.Mathlib.Omega.{arith}
 use mathlib.Core.List.{List, [], _∷_}
 use lib.Dec.{eqb, leb}
 use lib.ListN.{length}
@@ -29,15 +28,15 @@ use denote.Triple.Entry.{Vals}
 use denote.Triple.Spec.{tripleOf}
 use denote.Triple.Statement.{Contract}
 use Rattle.tables.specs.Tables.{SplineTable}
-use Rattle.spline_list.specs.declared.Spline.{Spline}
+use Rattle.primitives.specs.declared.SplineRow.{SplineRow}
 use Rattle.spline_list.specs.Rows.{equalOf, countOf}
-use Rattle.spline_list.proofs.Spline as T
+use Rattle.primitives.proofs.SplineRow as T
 use Rattle.spline_list.proofs.agree as agree
 use Rattle.spline_list.proofs.count as count
 use Rattle.spline_list.proofs.outcome as outcome
 
 -- the list has n records, and no column ends before n
-pub record Equal (ys : List Spline) (t : SplineTable) (n : ℕ) : Type 0 where
+pub record Equal (ys : List SplineRow) (t : SplineTable) (n : ℕ) : Type 0 where
   pub list-is : n ≡ length ys
   pub curvature-has : n ≤ length (t .curvature)
   pub p0x-has : n ≤ length (t .p0x)
@@ -47,7 +46,7 @@ pub record Equal (ys : List Spline) (t : SplineTable) (n : ℕ) : Type 0 where
   pub contour-has : n ≤ length (t .contour)
 
 -- what is known of the lengths of slices, whatever they are
-pub record Rooms (ys : List Spline) (t : SplineTable) : Type 0 where
+pub record Rooms (ys : List SplineRow) (t : SplineTable) : Type 0 where
   pub list-room : Room T.the-row (length ys)
   pub curvature-room : Room f32 (length (t .curvature))
   pub p0x-room : Room f32 (length (t .p0x))
@@ -56,22 +55,18 @@ pub record Rooms (ys : List Spline) (t : SplineTable) : Type 0 where
   pub p2y-room : Room f32 (length (t .p2y))
   pub contour-room : Room u8 (length (t .contour))
 
-both : (a b : Bool) → (a && b) ≡ true → (a ≡ true) × (b ≡ true)
-both true b e = (refl, e)
-both false b e = absurd (false≢true e)
-
 all-true : (a b c d e f g : Bool) → (a && b && c && d && e && f && g) ≡ true
     → (a ≡ true) × (b ≡ true) × (c ≡ true) × (d ≡ true) × (e ≡ true) × (f ≡ true) × (g ≡ true)
 all-true a b c d e f g h =
-    let h6 = both (a && b && c && d && e && f) g h in
-    let h5 = both (a && b && c && d && e) f (h6 .0) in
-    let h4 = both (a && b && c && d) e (h5 .0) in
-    let h3 = both (a && b && c) d (h4 .0) in
-    let h2 = both (a && b) c (h3 .0) in
-    let h1 = both a b (h2 .0) in
+    let h6 = and-eq-true-iff (a && b && c && d && e && f) g .0 h in
+    let h5 = and-eq-true-iff (a && b && c && d && e) f .0 (h6 .0) in
+    let h4 = and-eq-true-iff (a && b && c && d) e .0 (h5 .0) in
+    let h3 = and-eq-true-iff (a && b && c) d .0 (h4 .0) in
+    let h2 = and-eq-true-iff (a && b) c .0 (h3 .0) in
+    let h1 = and-eq-true-iff a b .0 (h2 .0) in
     (h1 .0, h1 .1, h2 .1, h3 .1, h4 .1, h5 .1, h6 .1)
 
-pub equal : (ys : List Spline) (t : SplineTable) (n : ℕ) → equalOf ys t n ≡ true → Equal ys t n
+pub equal : (ys : List SplineRow) (t : SplineTable) (n : ℕ) → equalOf ys t n ≡ true → Equal ys t n
 equal ys t n e =
     let h =
     all-true (eqb n (length ys)) (leb n (length (t .curvature))) (leb n (length (t .p0x))) (leb n (length (t .p0y))) (leb n (length (t .p2x)))
@@ -99,9 +94,6 @@ pub all-or-none : {X : Type 0} (g : ℕ → X) (agreed : Bool) (n : ℕ) → g (
 all-or-none g true n = refl
 all-or-none g false n = refl
 
-pub one-more : (i : ℕ) → i + 1 ≡ suc i
-one-more i = omega arith
-
 abbrev word : ℕ → List Val
 word x = vint w64 x ∷ []
 
@@ -120,7 +112,7 @@ module _ {M : Type 1} (𝓤 : URA M) (H : Heap 𝓤) (A : Atoms 𝓤) (mem : Mem
       let words : Vals agree.signature tt = (word n, (word list, (word curvature, (word p0x, (word p0y, (word p2x, (word p2y, (word contour, tt)))))))) in
       ((tt, tt, tt, (n, (list, (curvature, (p0x, (p0y, (p2x, (p2y, (contour, tt)))))))), words), tt)
 
-  abbrev pub to-agree : List Spline → SplineTable → ℕ → Agree .Ghost
+  abbrev pub to-agree : List SplineRow → SplineTable → ℕ → Agree .Ghost
   to-agree ys t n =
       lengths n (length ys) (length (t .curvature)) (length (t .p0x)) (length (t .p0y)) (length (t .p2x)) (length (t .p2y)) (length (t .contour))
 
@@ -131,7 +123,7 @@ module _ {M : Type 1} (𝓤 : URA M) (H : Heap 𝓤) (A : Atoms 𝓤) (mem : Mem
   to-outcome agreed = ((tt, tt, tt, (agreed, tt), (vbool agreed ∷ [], tt)), tt)
 
   module _ (W : Given 𝓤 H A) where
-    pub goes-agree : (ys : List Spline) (t : SplineTable) (n : ℕ) → Rooms ys t → n < 2 ^ 64 → ent 𝓤 (emp 𝓤) (Agree .pre (to-agree ys t n))
+    pub goes-agree : (ys : List SplineRow) (t : SplineTable) (n : ℕ) → Rooms ys t → n < 2 ^ 64 → ent 𝓤 (emp 𝓤) (Agree .pre (to-agree ys t n))
     goes-agree ys t n rooms small =
         qed W [] ∵ nothing ! $
         owned ! usize (Is usize) (uint-makes 𝓤 H A W w64) (length (t .contour)) _ (refl, rooms .contour-room .0) $ fjoin ! $

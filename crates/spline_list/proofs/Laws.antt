@@ -12,7 +12,7 @@ use lib.ListN.{length, getD, set, length-set}
 use lib.Seq.{getD-set-same, getD-set-other}
 use Rattle.columns.specs.Flags.{flagByteOf}
 use Rattle.tables.specs.Tables.{SplineTable, splineTable}
-use Rattle.spline_list.specs.declared.Spline.{Spline}
+use Rattle.primitives.specs.declared.SplineRow.{SplineRow}
 use Rattle.spline_list.specs.Rows.{blank, putRowOf, stores, spreads}
 
 pub stores-length : {X : Type 0} (g : ℕ → X) (xs : List X) (n : ℕ) → length (stores g n xs) ≡ length xs
@@ -37,32 +37,32 @@ module _ {X : Type 0} (g : ℕ → X) (xs : List X) (d : X) where
       at ih (inr less) = getD-set-other (stores g i xs) i j (g i) d (λ e. lt-irrefl j (subst (λ (m : ℕ). j < m) (sym e) less)) ∙ ih less
 
 -- what a record stores to each column
-abbrev pub curvature-of : Spline → Float
+abbrev pub curvature-of : SplineRow → Float
 curvature-of v = v .curvature
 
-abbrev pub p0x-of : Spline → Float
+abbrev pub p0x-of : SplineRow → Float
 p0x-of v = v .p0 .x
 
-abbrev pub p0y-of : Spline → Float
+abbrev pub p0y-of : SplineRow → Float
 p0y-of v = v .p0 .y
 
-abbrev pub p2x-of : Spline → Float
+abbrev pub p2x-of : SplineRow → Float
 p2x-of v = v .p2 .x
 
-abbrev pub p2y-of : Spline → Float
+abbrev pub p2y-of : SplineRow → Float
 p2y-of v = v .p2 .y
 
-abbrev pub contour-of : Spline → ℕ
+abbrev pub contour-of : SplineRow → ℕ
 contour-of v = flagByteOf (v .contour)
 
 -- the first n records are stored to one column
-abbrev pub puts : {X : Type 0} → (Spline → X) → ℕ → List Spline → List X → List X
+abbrev pub puts : {X : Type 0} → (SplineRow → X) → ℕ → List SplineRow → List X → List X
 puts g n ys xs = stores (λ (i : ℕ). g (getD ys i blank)) n xs
 
-pub puts-length : {X : Type 0} (g : Spline → X) (n : ℕ) (ys : List Spline) (xs : List X) → length (puts g n ys xs) ≡ length xs
+pub puts-length : {X : Type 0} (g : SplineRow → X) (n : ℕ) (ys : List SplineRow) (xs : List X) → length (puts g n ys xs) ≡ length xs
 puts-length g n ys xs = stores-length (λ (i : ℕ). g (getD ys i blank)) xs n
 
-pub puts-spreads : (ys : List Spline) (t : SplineTable) (n : ℕ)
+pub puts-spreads : (ys : List SplineRow) (t : SplineTable) (n : ℕ)
     → splineTable (puts curvature-of n ys (t .curvature)) (puts p0x-of n ys (t .p0x)) (puts p0y-of n ys (t .p0y)) (puts p2x-of n ys (t .p2x))
     (puts p2y-of n ys (t .p2y)) (puts contour-of n ys (t .contour)) ≡ spreads ys n t
 puts-spreads ys t zero = refl

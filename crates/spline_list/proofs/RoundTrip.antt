@@ -1,7 +1,7 @@
 -- The way there and back: a list that `spread` wrote to the columns is what `fill` then reads from them, whatever the list that it fills held.
 -- Assumes nothing.
-use mathlib.Core.Path.{_≡_, refl, sym, _∙_, ap}
-use mathlib.Core.Bool.{Bool, true, false, cond}
+use mathlib.Core.Path.{_≡_, sym, _∙_, ap}
+use mathlib.Core.Bool.{Bool, true, cond}
 use Prim.Native.Nat.{ℕ, _≤_, _<_}
 use native.Mathlib.Nat.{le-of-eq}
 use native.Mathlib.Omega.{arith}
@@ -9,29 +9,25 @@ use mathlib.Core.List.{List}
 use lib.Ieee.{nan}
 use lib.ListN.{length, getD}
 use lib.Seq.{ext-getD}
-use Rattle.columns.specs.Flags.{flagByteOf, isFlagOf}
-use Rattle.tables.specs.Tables.{SplineTable, splineTable}
-use Rattle.spline_list.specs.declared.Spline.{Spline}
-use Rattle.spline_list.specs.Rows.{blank, rowAtOf, equalOf, fills, spreads, fillOf, spreadOf}
+use Rattle.columns.proofs.Flags.{flag-back}
+use Rattle.tables.specs.Tables.{SplineTable, splineTable, splineAt}
+use Rattle.primitives.specs.declared.SplineRow.{SplineRow}
+use Rattle.spline_list.specs.Rows.{blank, equalOf, fills, spreads, fillOf, spreadOf}
 use Rattle.spline_list.proofs.Laws.{stores-length, stores-at, curvature-of, p0x-of, p0y-of, p2x-of, p2y-of, contour-of, puts, puts-length, puts-spreads}
 use Rattle.spline_list.proofs.Agreed.{Equal, equal}
 
-flag-back : (flag : Bool) → isFlagOf (flagByteOf flag) ≡ flag
-unfolding flagByteOf isFlagOf
-flag-back true = refl
-flag-back false = refl
-
 -- the columns once the list is spread
-abbrev written : List Spline → ℕ → SplineTable → SplineTable
+abbrev written : List SplineRow → ℕ → SplineTable → SplineTable
 written ys n t =
     splineTable (puts curvature-of n ys (t .curvature)) (puts p0x-of n ys (t .p0x)) (puts p0y-of n ys (t .p0y)) (puts p2x-of n ys (t .p2x))
     (puts p2y-of n ys (t .p2y)) (puts contour-of n ys (t .contour))
 
-module _ (ys : List Spline) (t : SplineTable) (n : ℕ) (e : Equal ys t n) where
-  reads : {X : Type 0} (g : Spline → X) (xs : List X) (d : X) → n ≤ length xs → (i : ℕ) → i < n → getD (puts g n ys xs) i d ≡ g (getD ys i blank)
+module _ (ys : List SplineRow) (t : SplineTable) (n : ℕ) (e : Equal ys t n) where
+  reads : {X : Type 0} (g : SplineRow → X) (xs : List X) (d : X) → n ≤ length xs → (i : ℕ) → i < n → getD (puts g n ys xs) i d ≡ g (getD ys i blank)
   reads g xs d has i less = stores-at (λ (j : ℕ). g (getD ys j blank)) xs d n i less has
 
-  row-back : (i : ℕ) → i < n → rowAtOf (written ys n t) i ≡ getD ys i blank
+  row-back : (i : ℕ) → i < n → splineAt (written ys n t) i ≡ getD ys i blank
+  unfolding splineAt
   row-back i less =
       rw (
         reads curvature-of (t .curvature) nan (e .curvature-has) i less,
@@ -43,19 +39,19 @@ module _ (ys : List Spline) (t : SplineTable) (n : ℕ) (e : Equal ys t n) where
         flag-back (getD ys i blank .contour),
       )
 
-  fills-back : (zs : List Spline) → n ≡ length zs → fills (written ys n t) n zs ≡ ys
+  fills-back : (zs : List SplineRow) → n ≡ length zs → fills (written ys n t) n zs ≡ ys
   fills-back zs l = ext-getD blank (fills (written ys n t) n zs) ys (long ∙ sym l ∙ e .list-is) same
     where
       long : length (fills (written ys n t) n zs) ≡ length zs
-      long = stores-length (rowAtOf (written ys n t)) zs n
+      long = stores-length (splineAt (written ys n t)) zs n
 
       same : (i : ℕ) → i < length (fills (written ys n t) n zs) → getD (fills (written ys n t) n zs) i blank ≡ getD ys i blank
-      same i less = stores-at (rowAtOf (written ys n t)) zs blank n i below (le-of-eq l) ∙ row-back i below
+      same i less = stores-at (splineAt (written ys n t)) zs blank n i below (le-of-eq l) ∙ row-back i below
         where
           below : i < n
           below = let h : length (fills (written ys n t) n zs) ≡ length zs = long in omega (arith, h, l, less)
 
-  lengths : (zs : List Spline) → n ≡ length zs → equalOf zs (written ys n t) n ≡ equalOf ys t n
+  lengths : (zs : List SplineRow) → n ≡ length zs → equalOf zs (written ys n t) n ≡ equalOf ys t n
   lengths zs l =
       rw (
         sym l,
@@ -68,7 +64,7 @@ module _ (ys : List Spline) (t : SplineTable) (n : ℕ) (e : Equal ys t n) where
         puts-length contour-of n ys (t .contour),
       )
 
-pub round-trip : (ys zs : List Spline) (t : SplineTable) (n : ℕ) → equalOf ys t n ≡ true → n ≡ length zs → fillOf (spreadOf ys n t) n zs ≡ ys
+pub round-trip : (ys zs : List SplineRow) (t : SplineTable) (n : ℕ) → equalOf ys t n ≡ true → n ≡ length zs → fillOf (spreadOf ys n t) n zs ≡ ys
 round-trip ys zs t n e l =
     ap (λ (s : SplineTable). fillOf s n zs) (ap (λ (b : Bool). cond b (spreads ys n t) t) e ∙ sym (puts-spreads ys t n))
     ∙ ap (λ (b : Bool). cond b (fills (written ys n t) n zs) zs) (lengths ys t n same zs l ∙ e) ∙ fills-back ys t n same zs l

@@ -3,27 +3,16 @@
 ghost use mathlib.Core.Path.{_≡_};
 ghost use lib.Dec.{ltb};
 ghost use lib.ListN.{length, set};
-ghost use Rattle.tables.specs.Tables.{splineTable};
-ghost use Rattle.spline_list.specs.Rows.{rowAtOf, putRowOf, splineAtOf, agreeOf, equalOf, countOf, outcomeOf, fillOf, spreadOf};
+ghost use Rattle.tables.specs.Tables.{splineTable, splineAt};
+ghost use Rattle.spline_list.specs.Rows.{putRowOf, splineAtOf, agreeOf, equalOf, countOf, outcomeOf, fillOf, spreadOf};
 use columns::flag_byte;
-use columns::is_flag;
 use columns::put_f32;
 use columns::put_u8;
-use columns::read_f32;
-use columns::read_u8;
-use point::Point;
-
-// A spline of the table: curvature is its sum.
-pub struct Spline {
-    pub curvature: f32,
-    pub p0: Point,
-    pub p2: Point,
-    pub contour: bool,
-}
+use primitives::SplineRow;
 
 // The record at an index of a list, or that the index is past the list.
 pub enum Found {
-    At(Spline),
+    At(SplineRow),
     Past,
 }
 
@@ -33,7 +22,7 @@ pub enum Copied {
     Unequal,
 }
 
-// Row i of the columns, as a record.
+// Row i of the columns, as a record. The walk of `fill` wants one lifetime for all columns.
 pub fn row_at<'c>(
     curvature: &'c [f32],
     p0x: &'c [f32],
@@ -42,21 +31,10 @@ pub fn row_at<'c>(
     p2y: &'c [f32],
     contour: &'c [u8],
     i: usize,
-) -> Spline
-    ensures { λ r. ⌜ r ≡ rowAtOf (splineTable (now (curvature .entry)) (now (p0x .entry)) (now (p0y .entry)) (now (p2x .entry)) (now (p2y .entry)) (now (contour .entry))) i ⌝ }
+) -> SplineRow
+    ensures { λ r. ⌜ r ≡ splineAt (splineTable (now (curvature .entry)) (now (p0x .entry)) (now (p0y .entry)) (now (p2x .entry)) (now (p2y .entry)) (now (contour .entry))) i ⌝ }
 {
-    Spline {
-        curvature: read_f32(curvature, i),
-        p0: Point {
-            x: read_f32(p0x, i),
-            y: read_f32(p0y, i),
-        },
-        p2: Point {
-            x: read_f32(p2x, i),
-            y: read_f32(p2y, i),
-        },
-        contour: is_flag(read_u8(contour, i)),
-    }
+    tables::spline_at(curvature, p0x, p0y, p2x, p2y, contour, i)
 }
 
 // Writes a record to row i of the columns; a column that ends before it stays as it was.
@@ -68,7 +46,7 @@ pub fn put_row(
     p2y: &mut [f32],
     contour: &mut [u8],
     i: usize,
-    v: Spline,
+    v: SplineRow,
 )
     ensures { λ _. ⌜ splineTable (now (curvature .exit)) (now (p0x .exit)) (now (p0y .exit)) (now (p2x .exit)) (now (p2y .exit)) (now (contour .exit)) ≡ putRowOf (splineTable (now (curvature .entry)) (now (p0x .entry)) (now (p0y .entry)) (now (p2x .entry)) (now (p2y .entry)) (now (contour .entry))) i v ⌝ }
 {
@@ -129,7 +107,7 @@ fn outcome(agreed: bool) -> Copied
 
 // Copies the first n rows of the columns to a list of n records.
 pub fn fill<'l, 'c>(
-    list: &'l mut [Spline],
+    list: &'l mut [SplineRow],
     curvature: &'c [f32],
     p0x: &'c [f32],
     p0y: &'c [f32],
@@ -161,7 +139,7 @@ pub fn fill<'l, 'c>(
 
 // Copies the n records of a list back to the first n rows of the columns; the rows past them stay.
 pub fn spread(
-    list: &[Spline],
+    list: &[SplineRow],
     curvature: &mut [f32],
     p0x: &mut [f32],
     p0y: &mut [f32],
@@ -197,7 +175,7 @@ pub fn spread(
     outcome(agreed)
 }
 
-fn here(v: Spline) -> Found
+fn here(v: SplineRow) -> Found
     ensures { λ r. ⌜ r ≡ Found.At v ⌝ }
 {
     Found::At(v)
@@ -209,7 +187,7 @@ fn nowhere() -> Found
     Found::Past
 }
 
-pub fn spline_at(list: &[Spline], i: usize) -> Found
+pub fn spline_at(list: &[SplineRow], i: usize) -> Found
     ensures { λ r. ⌜ r ≡ splineAtOf (now (list .entry)) i ⌝ }
 {
     if i < list.len() {
@@ -220,7 +198,7 @@ pub fn spline_at(list: &[Spline], i: usize) -> Found
 }
 
 // Whether i is within the list; past it nothing is written.
-pub fn put_spline(list: &mut [Spline], i: usize, v: Spline) -> bool
+pub fn put_spline(list: &mut [SplineRow], i: usize, v: SplineRow) -> bool
     ensures { λ r. ⌜ (r ≡ ltb i (length (now (list .entry)))) × (now (list .exit) ≡ set (now (list .entry)) i v) ⌝ }
 {
     if i < list.len() {

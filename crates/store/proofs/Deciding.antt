@@ -8,6 +8,7 @@ use mathlib.Core.List.{[]}
 use lib.Dec.{leb}
 use lib.ListN.{length}
 use borrow.Author.Tests.{leb-true}
+use mathlib.Mathlib.Data.Bool.Basic.{and-elim-left, and-elim-right}
 use Rattle.answer.specs.declared.Answer.the-variants.{BadCoordinate, BadWeight, Unusable, StoreFull}
 use Rattle.point.specs.declared.Point.{Point}
 use Rattle.store.specs.declared.StoreState.{StoreState}
@@ -16,9 +17,9 @@ use Rattle.store.specs.declared.Call.the-variants.{Move, Line, Quad, Cub
 use Rattle.store.specs.declared.plan.Plan.{Plan}
 use Rattle.store.specs.declared.plan.Decision.the-variants.{Refuse, Store}
 use Rattle.store.specs.Columns.{Columns, columns, usableOf}
-use Rattle.store.specs.Drawing.{Writes, every, coordinateOkOf, coordinatesOf, weightOkOf, weightsOf, appended, closed, moved, writesOf, roomOf, answerOf, drawOf}
+use Rattle.store.specs.Drawing.{Writes, every, coordinateOkOf, coordinatesOf, weightOkOf, weightsOf, appended, closed, moved, writesOf, roomOf}
+use Rattle.store.specs.Drawing.{answerOf, drawOf}
 use Rattle.store.specs.Plan.{writesBy, Fitting, Decided}
-use Rattle.store.proofs.Tests.{and-left, and-right}
 use Rattle.store.proofs.Usable.{Counted, usable-counts}
 
 -- ---- no call leaves a gap after the last point
@@ -50,8 +51,8 @@ room-fits st c f w r =
     let behind = w .at + length (w .points) in
     let next = st .commands + length (w .commands) in
     let points = leb behind (length (c .x)) in
-    let n = leb-true behind (length (c .x)) (and-left points _ r) in
-    let m = leb-true next (length (c .commands)) (and-right points _ r) in
+    let n = leb-true behind (length (c .x)) (and-elim-left points _ r) in
+    let m = leb-true next (length (c .commands)) (and-elim-right points _ r) in
     record { points = record { x = n; y = omega arith; weight = omega arith }; commands = m }
 
 -- ---- the answers, from what the tests say

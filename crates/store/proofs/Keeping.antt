@@ -9,6 +9,7 @@ use lib.ListN.{length, getD, take, List·getD-append}
 use lib.Seq.{sets, length-sets, length-take-le, getD-take}
 use lib.Dec.{leb}
 use lib.Ieee.{Float, nan}
+use mathlib.Mathlib.Data.Bool.Basic.{and-elim-left, and-elim-right, and-intro}
 use Rattle.point.specs.declared.WeightedPoint.{WeightedPoint}
 use Rattle.point.specs.declared.Point.{Point}
 use Rattle.point.specs.Point.{plain, rationalOf}
@@ -16,10 +17,11 @@ use Rattle.store.specs.declared.StoreState.{StoreState}
 use Rattle.store.specs.declared.Call.{Call}
 use Rattle.store.specs.declared.Call.the-variants.{Move, Line, Quad, Cubic, RatQuad, RatCubic, Build}
 use Rattle.store.specs.Columns.{Columns, columns, usesOf, storedPointOf}
-use Rattle.store.specs.Drawing.{Writes, every, coordinateOkOf, weightOkOf, coordinatesOf, weightsOf, appended, closed, moved, writesOf, written, stateAfter}
+use Rattle.store.specs.Drawing.{Writes, every, coordinateOkOf, weightOkOf, coordinatesOf, weightsOf, appended, closed, moved, writesOf, written}
+use Rattle.store.specs.Drawing.{stateAfter}
 use Rattle.store.specs.Drawable.{storedOkOf, knownOf, totalUsesOf}
 use Rattle.store.specs.Plan.{Fitting}
-use Rattle.store.proofs.Tests.{and-left, and-right, and-both, every-append}
+use Rattle.store.proofs.Tests.{every-append}
 use Rattle.store.proofs.Ranges.{coordinate-stored, product-stored, one-ok}
 use Rattle.store.proofs.Written.{xOf, yOf, weightOf, all-written, take-sets, take-mapped, every-take, every-at, known-append, uses-append}
 use Rattle.store.proofs.Sound.{Sound}
@@ -53,11 +55,11 @@ rational-ok p w h k l = record { weight = l; x = product-stored (p .x) w h l; y 
 
 head-ok : (ok : Float → Bool) (v : Float) (vs : List Float) → every ok (v ∷ vs) ≡ true → ok v ≡ true
 unfolding every
-head-ok ok v vs e = and-left (ok v) (every ok vs) e
+head-ok ok v vs e = and-elim-left (ok v) (every ok vs) e
 
 tail-ok : (ok : Float → Bool) (v : Float) (vs : List Float) → every ok (v ∷ vs) ≡ true → every ok vs ≡ true
 unfolding every
-tail-ok ok v vs e = and-right (ok v) (every ok vs) e
+tail-ok ok v vs e = and-elim-right (ok v) (every ok vs) e
 
 abbrev Coordinates : List Float → Type 0
 Coordinates l = every coordinateOkOf l ≡ true
@@ -91,7 +93,7 @@ module _ (st : StoreState) (c : Columns) (g : Sound st c) where
   unfolding appended totalUsesOf knownOf
   appended-good ps k a e h =
       let o = g .counted .opening in
-      record { at = le-refl (st .points); count = sum (st .points) e; opening = omega arith; known = and-both (leb k 3) true h refl; points = a }
+      record { at = le-refl (st .points); count = sum (st .points) e; opening = omega arith; known = and-intro h refl; points = a }
     where
       sum : (n : ℕ) {a b : ℕ} → a ≡ b → n + a ≡ n + (b + 0)
       sum n e = omega arith
@@ -141,22 +143,22 @@ module _ (st : StoreState) (c : Columns) (g : Sound st c) where
 weights-ok : (ps : List WeightedPoint) → AllOk ps → every weightOkOf (map weightOf ps) ≡ true
 unfolding every
 weights-ok [] a = refl
-weights-ok (p ∷ ps) a = and-both (weightOkOf (p .weight)) _ (a .0 .weight) (weights-ok ps (a .1))
+weights-ok (p ∷ ps) a = and-intro (a .0 .weight) (weights-ok ps (a .1))
 
 xs-ok : (ps : List WeightedPoint) → AllOk ps → every storedOkOf (map xOf ps) ≡ true
 unfolding every
 xs-ok [] a = refl
-xs-ok (p ∷ ps) a = and-both (storedOkOf (p .point .x)) _ (a .0 .x) (xs-ok ps (a .1))
+xs-ok (p ∷ ps) a = and-intro (a .0 .x) (xs-ok ps (a .1))
 
 ys-ok : (ps : List WeightedPoint) → AllOk ps → every storedOkOf (map yOf ps) ≡ true
 unfolding every
 ys-ok [] a = refl
-ys-ok (p ∷ ps) a = and-both (storedOkOf (p .point .y)) _ (a .0 .y) (ys-ok ps (a .1))
+ys-ok (p ∷ ps) a = and-intro (a .0 .y) (ys-ok ps (a .1))
 
 column-ok : (ok : Float → Bool) (part : WeightedPoint → Float) (ps : List WeightedPoint) (l : List Float) (i n : ℕ) → i ≤ n → i + length ps ≤ length l
     → every ok (take n l) ≡ true → every ok (map part ps) ≡ true → every ok (take (i + length ps) (sets l i (map part ps))) ≡ true
 column-ok ok part ps l i n h k e a =
-    ap (every ok) (take-mapped part ps l i k) ∙ every-append ok (take i l) (map part ps) ∙ and-both (every ok (take i l)) _ (every-take ok l i n h e) a
+    ap (every ok) (take-mapped part ps l i k) ∙ every-append ok (take i l) (map part ps) ∙ and-intro (every-take ok l i n h e) a
 
 module _ (st : StoreState) (c : Columns) (g : Sound st c) (w : Writes) (v : Good w st) (r : Fitting w st c) where
   abbrev after : Columns

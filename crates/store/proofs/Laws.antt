@@ -10,6 +10,7 @@ use lib.Dec.{eqb}
 use lib.ListN.{length, length-set}
 use lib.Seq.{take-suc-set, getD-set-same}
 use borrow.Author.Tests.{eqb-true, eqb-false}
+use mathlib.Mathlib.Data.Bool.Basic.{and-elim-left, and-elim-right, or-eq-false-eq-eq-false-and-eq-false}
 use Rattle.answer.specs.declared.Answer.{Answer}
 use Rattle.answer.specs.declared.Answer.the-variants.{Done, BadCoordinate, BadWeight, Unusable, StoreFull}
 use Rattle.answer.specs.Number.{isDone}
@@ -21,10 +22,10 @@ use Rattle.store.specs.declared.StoreState.{StoreState}
 use Rattle.store.specs.declared.Call.{Call}
 use Rattle.store.specs.declared.Call.the-variants.{Move, Line, Quad, Cubic, RatQuad, RatCubic, Build}
 use Rattle.store.specs.Columns.{Columns, columns, stateAt, moveCommand, putPoint, putCommand, evenOf, usableOf}
-use Rattle.store.specs.Drawing.{Outcome, outcome, every, coordinateOkOf, weightOkOf, coordinatesOf, weightsOf, appended, closed, moved, writesOf, written, stateAfter, roomOf, answerOf, drawOf, freshOf}
+use Rattle.store.specs.Drawing.{Outcome, outcome, every, coordinateOkOf, weightOkOf, coordinatesOf, weightsOf, appended, closed, moved, writesOf}
+use Rattle.store.specs.Drawing.{written, stateAfter, roomOf, answerOf, drawOf, freshOf}
 use Rattle.store.specs.Replay.{replayOf}
 use Rattle.store.specs.Drawable.{storedOkOf, knownOf, totalUsesOf, drawableOf}
-use Rattle.store.proofs.Tests.{and-left, and-right, or-false-left, or-false-right}
 use Rattle.store.proofs.Deciding.{room-fits}
 use Rattle.store.proofs.Ranges.{one-ok, zero-stored}
 use Rattle.store.proofs.Sound.{Sound, sound, sound-drawable, sound-usable}
@@ -156,10 +157,10 @@ unfolding putCommand putPoint evenOf every knownOf totalUsesOf
 fresh-made c v n =
     let lx = length (c .x) in
     let lk = length (c .commands) in
-    let hx = eqb-false lx 0 (or-false-left (eqb lx 0) (eqb lk 0) n) in
-    let hk = eqb-false lk 0 (or-false-right (eqb lx 0) (eqb lk 0) n) in
-    let ey = eqb-true (length (c .y)) lx (and-left (eqb (length (c .y)) lx) _ v) in
-    let ew = eqb-true (length (c .weight)) lx (and-right (eqb (length (c .y)) lx) _ v) in
+    let hx = eqb-false lx 0 (or-eq-false-eq-eq-false-and-eq-false (eqb lx 0) (eqb lk 0) .0 n .0) in
+    let hk = eqb-false lk 0 (or-eq-false-eq-eq-false-and-eq-false (eqb lx 0) (eqb lk 0) .0 n .1) in
+    let ey = eqb-true (length (c .y)) lx (and-elim-left (eqb (length (c .y)) lx) _ v) in
+    let ew = eqb-true (length (c .weight)) lx (and-elim-right (eqb (length (c .y)) lx) _ v) in
     let px : 0 < lx = omega (arith, hx) in
     let py : 0 < length (c .y) = omega (arith, hx) in
     let pw : 0 < length (c .weight) = omega (arith, hx) in

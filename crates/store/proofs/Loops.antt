@@ -5,7 +5,7 @@ use native.Mathlib.Omega.{arith}
 use native.Mathlib.Numerals.{add-one}
 use native.Mathlib.Nat.{le-antisymm}
 use mathlib.Core.Path.{_≡_, refl, sym, ap, _∙_}
-use mathlib.Core.Bool.{Bool, true, false, _&&_}
+use mathlib.Core.Bool.{Bool, true, false, _&&_, and-assoc}
 use mathlib.Core.List.{List, [], _∷_}
 use lib.ListN.{length, getD, take, drop}
 use lib.Seq.{drop-cons, getD-take, length-take-le, drop-length}
@@ -16,7 +16,6 @@ use Rattle.store.specs.declared.StoreState.{StoreState}
 use Rattle.store.specs.Columns.{Columns, usesOf, usableOf, moveCommand}
 use Rattle.store.specs.Drawing.{every, weightOkOf}
 use Rattle.store.specs.Drawable.{storedOkOf, knownOf, totalUsesOf, drawableOf}
-use Rattle.store.proofs.Tests.{and-assoc}
 
 module _ {A : Type 0} (d : A) (l : List A) (n : ℕ) (hn : n ≤ length l) (i : ℕ) where
   pub rest-more : i < n → drop i (take n l) ≡ getD l i d ∷ drop (i + 1) (take n l)
@@ -139,4 +138,4 @@ module _ (st : StoreState) (c : Columns) where
   unfolding drawableOf
   drawn e {k} {u} {w} {x} {y} hk hu hw hx hy =
       let m = eqb (getD (c .commands) 0 0) moveCommand in
-      and-assoc (k && m && u) (w && x) y ∙ ap (λ (b : Bool). b && y) (and-assoc (k && m && u) w x) ∙ rw (e, hk, hu, hw, hx, hy)
+      sym (and-assoc (k && m && u) (w && x) y) ∙ ap (λ (b : Bool). b && y) (sym (and-assoc (k && m && u) w x)) ∙ rw (e, hk, hu, hw, hx, hy)

@@ -1,7 +1,8 @@
 -- A coordinate in range times a weight in range lies within ±4,194,304, which is 65,536 · 64: rounding keeps order. Assumes nothing.
 use Prim.Native.Nat.{ℕ, zero, suc, _+_, _*_, _^_, _≤_, _<_}
 use native.Mathlib.Omega.{arith}
-use native.Mathlib.Nat.{le-trans, le-of-eq, lt-of-lt-of-le, eq-or-lt-of-le, mul-one, one-mul, mul-le-mul, mul-le-mul-right, mul-pos, mul-assoc, mul-left-comm, le-add-right}
+use native.Mathlib.Nat.{le-trans, le-of-eq, lt-of-lt-of-le, eq-or-lt-of-le, mul-one, one-mul, mul-le-mul, mul-le-mul-right, mul-pos, mul-assoc, mul-left-comm}
+use native.Mathlib.Nat.{le-add-right}
 use mathlib.Core.Logic.{inl, inr}
 use mathlib.Core.Path.{_≡_, refl, sym, ap, _∙_, subst}
 use mathlib.Core.Bool.{Bool, true, false, not, _&&_, _||_, cond, false≢true}
@@ -12,10 +13,11 @@ use lib.Ieee.{Float, nan, inf, fin, Format, binary32, low, emax, prec, up, down,
 use lib.Ieee.Fits.{up-pos, down-pos, round-is}
 use lib.Ieee.Order.{round-mono}
 use borrow.Author.Tests.{ltb-true, ltb-false, eqb-true, lt-ltb, eq-eqb}
+use mathlib.Mathlib.Data.Bool.Basic.{and-elim-left, and-elim-right, and-intro, or-inr}
+use lib.Ieee.Bits.{is-true}
 use Rattle.leaves.specs.Single.{_⊗_, f32, one32, zero32}
 use Rattle.store.specs.Drawing.{coordinateOkOf, weightOkOf}
 use Rattle.store.specs.Drawable.{storedOkOf}
-use Rattle.store.proofs.Tests.{and-left, and-right, and-both, or-right}
 
 -- ---- from -2^k to 2^k, and the magnitude m·2^e of a number in it
 unfoldable inside : ℕ → Float → Bool
@@ -35,10 +37,10 @@ test-le a b x e = go (ltb a b) refl e
   where
     go : (t : Bool) → ltb a b ≡ t → (t || (eqb a b && x)) ≡ true → a ≤ b
     go true p q = let l = ltb-true a b p in omega arith
-    go false p q = let l = eqb-true a b (and-left (eqb a b) x q) in omega arith
+    go false p q = let l = eqb-true a b (and-elim-left (eqb a b) x q) in omega arith
 
 le-test : (a b : ℕ) → a ≤ b → (ltb a b || (eqb a b && true)) ≡ true
-le-test a b h = elim (eq-or-lt-of-le h) [ inl p ↦ or-right (ltb a b) (and-both (eqb a b) true (eq-eqb a b p) refl) | inr q ↦ rw (lt-ltb a b q) ]
+le-test a b h = elim (eq-or-lt-of-le h) [ inl p ↦ or-inr (ltb a b) _ (and-intro (eq-eqb a b p) refl) | inr q ↦ rw (lt-ltb a b q) ]
 
 -- the test by which `le` compares two negative ones
 test-ge : (a b : ℕ) (x : Bool) → (ltb b a || (eqb a b && x)) ≡ true → b ≤ a
@@ -46,15 +48,15 @@ test-ge a b x e = go (ltb b a) refl e
   where
     go : (t : Bool) → ltb b a ≡ t → (t || (eqb a b && x)) ≡ true → b ≤ a
     go true p q = let l = ltb-true b a p in omega arith
-    go false p q = let l = eqb-true a b (and-left (eqb a b) x q) in omega arith
+    go false p q = let l = eqb-true a b (and-elim-left (eqb a b) x q) in omega arith
 
 ge-test : (a b : ℕ) → b ≤ a → (ltb b a || (eqb a b && true)) ≡ true
-ge-test a b h = elim (eq-or-lt-of-le h) [ inl p ↦ or-right (ltb b a) (and-both (eqb a b) true (eq-eqb a b (sym p)) refl) | inr q ↦ rw (lt-ltb b a q) ]
+ge-test a b h = elim (eq-or-lt-of-le h) [ inl p ↦ or-inr (ltb b a) _ (and-intro (eq-eqb a b (sym p)) refl) | inr q ↦ rw (lt-ltb b a q) ]
 
 magnitude : (k : ℕ) (s : Bool) (m : ℕ) (e : ℤ) → inside k (fin s m e) ≡ true → m * up e * 1 ≤ 1 * 2 ^ k * down e
 unfolding inside le
-magnitude k false m e h = test-le (m * up e * 1) (1 * 2 ^ k * down e) true (and-right (le (fin true 1 (pos k)) (fin false m e)) (le (fin false m e) (fin false 1 (pos k))) h)
-magnitude k true m e h = test-ge (1 * 2 ^ k * down e) (m * up e * 1) true (and-left (le (fin true 1 (pos k)) (fin true m e)) (le (fin true m e) (fin false 1 (pos k))) h)
+magnitude k false m e h = test-le (m * up e * 1) (1 * 2 ^ k * down e) true (and-elim-right (le (fin true 1 (pos k)) (fin false m e)) (le (fin false m e) (fin false 1 (pos k))) h)
+magnitude k true m e h = test-ge (1 * 2 ^ k * down e) (m * up e * 1) true (and-elim-left (le (fin true 1 (pos k)) (fin true m e)) (le (fin true m e) (fin false 1 (pos k))) h)
 
 bound-pos : (k : ℕ) (e : ℤ) → 0 < 1 * 2 ^ k * down e
 bound-pos k e = mul-pos (mul-pos (omega arith) (pow-pos k)) (down-pos e)
@@ -119,11 +121,7 @@ below-bound : (s : Bool) (x : Float) → T (le (withSign false x) (fin false 1 (
 unfolding withSign inside le
 below-bound s nan t = absurd t
 below-bound s (inf u) t = absurd t
-below-bound s (fin u m e) t = of-magnitude 22 s m e (test-le (m * up e * 1) (1 * 2 ^ 22 * down e) true (told _ t))
-  where
-    told : (b : Bool) → T b → b ≡ true
-    told true t = refl
-    told false t = absurd t
+below-bound s (fin u m e) t = of-magnitude 22 s m e (test-le (m * up e * 1) (1 * 2 ^ 22 * down e) true (is-true _ t))
 
 round-inside : (s : Bool) (n d : ℕ) → 0 < d → n ≤ 4194304 * d → inside 22 (round binary32 s n d) ≡ true
 round-inside s n d h l =
@@ -149,12 +147,12 @@ module _ (s : Bool) (m : ℕ) (e : ℤ) (h : inside 16 (fin s m e) ≡ true) whe
   product-inside (inf true) k = nothing k
   product-inside (inf false) k = nothing k
   product-inside (fin true n d) k =
-      let z = and-left _ _ k in
+      let z = and-elim-left _ _ k in
       let p = down-pos d in
-      let q = eqb-true (1 * 1 * down d) 0 (and-right (eqb (1 * 1 * down d) (n * up d * 64)) _ z) in
+      let q = eqb-true (1 * 1 * down d) 0 (and-elim-right (eqb (1 * 1 * down d) (n * up d * 64)) _ z) in
       absurd (omega arith)
   product-inside (fin false n d) k =
-      let l = test-le (n * up d * 1) (1 * 64 * down d) true (and-right (le (f32 0x3c80_0000) (fin false n d)) _ k) in
+      let l = test-le (n * up d * 1) (1 * 64 * down d) true (and-elim-right (le (f32 0x3c80_0000) (fin false n d)) _ k) in
       round-inside (unlike s false) (m * up e * (n * up d)) (down e * down d) (mul-pos (down-pos e) (down-pos d))
       (product-le (m * up e) (down e) (n * up d) (down d) (magnitude 16 s m e h) l)
 

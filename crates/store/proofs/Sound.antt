@@ -7,11 +7,11 @@ use lib.ListN.{length, getD, take}
 use lib.Seq.{length-take-le, getD-take}
 use lib.Dec.{eqb}
 use borrow.Author.Tests.{le-leb, lt-ltb, eqb-true, eq-eqb}
+use mathlib.Mathlib.Data.Bool.Basic.{and-elim-left, and-elim-right}
 use Rattle.store.specs.declared.StoreState.{StoreState}
 use Rattle.store.specs.Columns.{Columns, evenOf, usableOf, lastCommandOf, moveCommand}
 use Rattle.store.specs.Drawing.{every, weightOkOf}
 use Rattle.store.specs.Drawable.{storedOkOf, knownOf, totalUsesOf, drawableOf}
-use Rattle.store.proofs.Tests.{and-left, and-right}
 use Rattle.store.proofs.Usable.{Counted, usable-counts}
 use Rattle.store.proofs.Written.{known-at}
 
@@ -34,19 +34,19 @@ module _ (st : StoreState) (c : Columns) where
       let t₃ = t₂ && eqb (totalUsesOf (take (st .commands) (c .commands))) (st .points) in
       let t₄ = t₃ && every weightOkOf (take (st .points) (c .weight)) in
       let t₅ = t₄ && every storedOkOf (take (st .points) (c .x)) in
-      let e₅ = and-left t₅ _ e in
-      let e₄ = and-left t₄ _ e₅ in
-      let e₃ = and-left t₃ _ e₄ in
-      let e₂ = and-left t₂ _ e₃ in
-      let e₁ = and-left t₁ _ e₂ in
+      let e₅ = and-elim-left t₅ _ e in
+      let e₄ = and-elim-left t₄ _ e₅ in
+      let e₃ = and-elim-left t₃ _ e₄ in
+      let e₂ = and-elim-left t₂ _ e₃ in
+      let e₁ = and-elim-left t₁ _ e₂ in
       record {
-        counted = usable-counts st c (and-left t₀ _ e₁);
-        known = and-right t₀ _ e₁;
-        first = eqb-true (getD (c .commands) 0 0) moveCommand (and-right t₁ _ e₂);
-        uses = eqb-true (totalUsesOf (take (st .commands) (c .commands))) (st .points) (and-right t₂ _ e₃);
-        weights = and-right t₃ _ e₄;
-        xs = and-right t₄ _ e₅;
-        ys = and-right t₅ _ e;
+        counted = usable-counts st c (and-elim-left t₀ _ e₁);
+        known = and-elim-right t₀ _ e₁;
+        first = eqb-true (getD (c .commands) 0 0) moveCommand (and-elim-right t₁ _ e₂);
+        uses = eqb-true (totalUsesOf (take (st .commands) (c .commands))) (st .points) (and-elim-right t₂ _ e₃);
+        weights = and-elim-right t₃ _ e₄;
+        xs = and-elim-right t₄ _ e₅;
+        ys = and-elim-right t₅ _ e;
       }
 
   module _ (g : Sound st c) where

@@ -7,10 +7,10 @@ use mathlib.Core.List.{List, []}
 use lib.Dec.{leb, ltb, eqb}
 use lib.ListN.{length}
 use borrow.Author.Tests.{leb-true, ltb-true, eqb-true, not-true, not-false}
+use mathlib.Mathlib.Data.Bool.Basic.{and-elim-left, and-elim-right}
 use Rattle.store.specs.declared.StoreState.{StoreState}
 use Rattle.store.specs.Columns.{Columns, columns, evenOf, usableOf, lastCommandOf}
 use Rattle.store.specs.Plan.{Standing}
-use Rattle.store.proofs.Tests.{and-left, and-right}
 
 -- all that is tested but the last command
 pub record Counted (st : StoreState) (c : Columns) : Type 0 where
@@ -39,19 +39,19 @@ module _ (st : StoreState) (c : Columns) where
       let t₂ = t₁ && leb (st .points) l in
       let t₃ = t₂ && leb 1 (st .commands) in
       let t₄ = t₃ && leb (st .commands) (length (c .commands)) in
-      let e₄ = and-left t₄ _ e in
-      let e₃ = and-left t₃ _ e₄ in
-      let e₂ = and-left t₂ _ e₃ in
-      let e₁ = and-left t₁ _ e₂ in
-      let e₀ = and-left t₀ _ e₁ in
+      let e₄ = and-elim-left t₄ _ e in
+      let e₃ = and-elim-left t₃ _ e₄ in
+      let e₂ = and-elim-left t₂ _ e₃ in
+      let e₁ = and-elim-left t₁ _ e₂ in
+      let e₀ = and-elim-left t₀ _ e₁ in
       record {
-        y = eqb-true (length (c .y)) l (and-left (eqb (length (c .y)) l) _ e₀);
-        weight = eqb-true (length (c .weight)) l (and-right (eqb (length (c .y)) l) _ e₀);
-        some = leb-true 1 (st .points) (and-right t₀ _ e₁);
-        points = leb-true (st .points) l (and-right t₁ _ e₂);
-        begun = leb-true 1 (st .commands) (and-right t₂ _ e₃);
-        commands = leb-true (st .commands) (length (c .commands)) (and-right t₃ _ e₄);
-        opening = ltb-true (st .opening) (st .points) (and-right t₄ _ e);
+        y = eqb-true (length (c .y)) l (and-elim-left (eqb (length (c .y)) l) _ e₀);
+        weight = eqb-true (length (c .weight)) l (and-elim-right (eqb (length (c .y)) l) _ e₀);
+        some = leb-true 1 (st .points) (and-elim-right t₀ _ e₁);
+        points = leb-true (st .points) l (and-elim-right t₁ _ e₂);
+        begun = leb-true 1 (st .commands) (and-elim-right t₂ _ e₃);
+        commands = leb-true (st .commands) (length (c .commands)) (and-elim-right t₃ _ e₄);
+        opening = ltb-true (st .opening) (st .points) (and-elim-right t₄ _ e);
       }
 
   -- the same as the code tests it: comparing the lengths needs no commands
@@ -76,11 +76,11 @@ module _ (st : StoreState) (c : Columns) where
   module _ (e : usableOf st c ≡ true) where
     pub usable-counts : Counted st c
     unfolding usableOf
-    usable-counts = counted (and-left (countedOf (evenOf c)) (leb (lastCommandOf st c) 3) e)
+    usable-counts = counted (and-elim-left (countedOf (evenOf c)) (leb (lastCommandOf st c) 3) e)
 
     pub last-known : lastCommandOf st c ≤ 3
     unfolding usableOf
-    last-known = leb-true (lastCommandOf st c) 3 (and-right (countedOf (evenOf c)) (leb (lastCommandOf st c) 3) e)
+    last-known = leb-true (lastCommandOf st c) 3 (and-elim-right (countedOf (evenOf c)) (leb (lastCommandOf st c) 3) e)
 
     pub standing : (commands : List ℕ) → Standing st (columns (c .x) (c .y) (c .weight) commands)
     standing commands =

@@ -8,6 +8,7 @@ use lib.Dec.{eqb}
 use lib.ListN.{length, set}
 use lib.Ieee.{Float}
 use borrow.Author.Tests.{eqb-true, eqb-false, not-true, not-false}
+use mathlib.Mathlib.Data.Bool.Basic.{and-elim-left, and-elim-right, or-eq-false-eq-eq-false-and-eq-false}
 use Rattle.answer.specs.declared.Answer.the-variants.{Done, Unusable, StoreFull}
 use Rattle.leaves.specs.Single.{zero32}
 use Rattle.point.specs.declared.WeightedPoint.{WeightedPoint}
@@ -22,7 +23,6 @@ use Rattle.store.specs.declared.plan.Decision.the-variants.{Store}
 use Rattle.store.specs.Columns.{Columns, columns, stateAt, putPoint, putCommand, evenOf, moveCommand}
 use Rattle.store.specs.Drawing.{outcome, putPoints, putCommands, written, stateAfter, drawOf, freshOf}
 use Rattle.store.specs.Plan.{pointsIn, commandsIn, writesBy, Room, Fitting, Decided, carriedOut}
-use Rattle.store.proofs.Tests.{and-left, and-right, or-false-left, or-false-right}
 
 -- ---- points and commands
 pub room-kept : {m n : ℕ} {x y w x' y' w' : List Float} → m ≤ n → length x' ≡ length x → length y' ≡ length y → length w' ≡ length w
@@ -84,13 +84,13 @@ module _ (c : Columns) (even : Bool) (h : even ≡ evenOf (columns (c .x) (c .y)
       unfolding evenOf
       fresh-room =
           let l = length (c .x) in
-          let n = eqb-false l 0 (or-false-left (eqb l 0) _ f) in
-          let y = eqb-true (length (c .y)) l (and-left (eqb (length (c .y)) l) _ is-even) in
-          let w = eqb-true (length (c .weight)) l (and-right (eqb (length (c .y)) l) _ is-even) in
+          let n = eqb-false l 0 (or-eq-false-eq-eq-false-and-eq-false (eqb l 0) _ .0 f .0) in
+          let y = eqb-true (length (c .y)) l (and-elim-left (eqb (length (c .y)) l) _ is-even) in
+          let w = eqb-true (length (c .weight)) l (and-elim-right (eqb (length (c .y)) l) _ is-even) in
           record { x = omega (arith, n); y = omega (arith, n); weight = omega (arith, n) }
 
       pub fresh-command : 0 < length (c .commands)
-      fresh-command = let n = eqb-false (length (c .commands)) 0 (or-false-right (eqb (length (c .x)) 0) _ f) in omega (arith, n)
+      fresh-command = let n = eqb-false (length (c .commands)) 0 (or-eq-false-eq-eq-false-and-eq-false (eqb (length (c .x)) 0) _ .0 f .1) in omega (arith, n)
 
       pub fresh-done : {p : WeightedPoint} {x y w : List Float} → p ≡ plain (pointAt zero32 zero32) → columns x y w (c .commands) ≡ putPoint c 0 p
           → outcome Done (stateAt 1 1 0) (columns x y w (set (c .commands) 0 moveCommand)) ≡ freshOf c

@@ -10,12 +10,14 @@ use lib.Seq.{sets, sets-eq, length-take-le, take-at, take-take}
 use lib.Dec.{leb}
 use lib.Ieee.{Float}
 use borrow.Author.Tests.{leb-true}
+use mathlib.Mathlib.Data.Bool.Basic.{and-elim-left, and-elim-right, and-intro}
+use native.Mathlib.Nat.{zero-add}
 use Rattle.point.specs.declared.WeightedPoint.{WeightedPoint}
 use Rattle.store.specs.declared.StoreState.{StoreState}
 use Rattle.store.specs.Columns.{Columns, columns, usesOf, putPoint, putCommand}
 use Rattle.store.specs.Drawing.{Writes, every, putPoints, putCommands, written}
 use Rattle.store.specs.Drawable.{knownOf, totalUsesOf}
-use Rattle.store.proofs.Tests.{and-left, and-right, and-both, every-append}
+use Rattle.store.proofs.Tests.{every-append}
 
 -- ---- the columns of a list of points
 abbrev pub xOf : WeightedPoint → Float
@@ -61,31 +63,28 @@ pub every-take : (ok : Float → Bool) (l : List Float) (m n : ℕ) → m ≤ n 
 every-take ok l m n h e =
     let k = take n l in
     let split : every ok k ≡ (every ok (take m k) && every ok (drop m k)) = ap (every ok) (sym (take-append-drop m k)) ∙ every-append ok (take m k) (drop m k) in
-    ap (every ok) (sym (take-take m n l h)) ∙ and-left (every ok (take m k)) (every ok (drop m k)) (sym split ∙ e)
+    ap (every ok) (sym (take-take m n l h)) ∙ and-elim-left (every ok (take m k)) (every ok (drop m k)) (sym split ∙ e)
 
 pub every-at : (ok : Float → Bool) (d : Float) (l : List Float) (i : ℕ) → i < length l → every ok l ≡ true → ok (getD l i d) ≡ true
 unfolding every
 every-at ok d [] i h e = absurd (omega arith)
-every-at ok d (v ∷ l) zero h e = and-left (ok v) (every ok l) e
-every-at ok d (v ∷ l) (suc i) h e = every-at ok d l i (omega arith) (and-right (ok v) (every ok l) e)
+every-at ok d (v ∷ l) zero h e = and-elim-left (ok v) (every ok l) e
+every-at ok d (v ∷ l) (suc i) h e = every-at ok d l i (omega arith) (and-elim-right (ok v) (every ok l) e)
 
 pub known-at : (l : List ℕ) (i : ℕ) → i < length l → knownOf l ≡ true → getD l i 0 ≤ 3
 unfolding knownOf
 known-at [] i h e = absurd (omega arith)
-known-at (k ∷ l) zero h e = leb-true k 3 (and-left (leb k 3) (knownOf l) e)
-known-at (k ∷ l) (suc i) h e = known-at l i (omega arith) (and-right (leb k 3) (knownOf l) e)
+known-at (k ∷ l) zero h e = leb-true k 3 (and-elim-left (leb k 3) (knownOf l) e)
+known-at (k ∷ l) (suc i) h e = known-at l i (omega arith) (and-elim-right (leb k 3) (knownOf l) e)
 
 pub known-append : (l m : List ℕ) → knownOf l ≡ true → knownOf m ≡ true → knownOf (l ++ m) ≡ true
 unfolding knownOf
 known-append [] m p q = q
-known-append (k ∷ l) m p q = and-both (leb k 3) (knownOf (l ++ m)) (and-left (leb k 3) (knownOf l) p) (known-append l m (and-right (leb k 3) (knownOf l) p) q)
+known-append (k ∷ l) m p q = and-intro (and-elim-left (leb k 3) (knownOf l) p) (known-append l m (and-elim-right (leb k 3) (knownOf l) p) q)
 
 pub uses-append : (l m : List ℕ) → totalUsesOf (l ++ m) ≡ totalUsesOf l + totalUsesOf m
 unfolding totalUsesOf
-uses-append [] m = sym (zero-plus (totalUsesOf m))
-  where
-    zero-plus : (n : ℕ) → 0 + n ≡ n
-    zero-plus n = omega arith
+uses-append [] m = sym (zero-add (totalUsesOf m))
 uses-append (k ∷ l) m = regroup (usesOf k) (totalUsesOf l) (totalUsesOf m) (uses-append l m)
   where
     regroup : (a b d : ℕ) {s : ℕ} → s ≡ b + d → a + s ≡ a + b + d

@@ -9,6 +9,7 @@ ghost use Rattle.store.specs.Columns.{columns, evenOf, usableOf, storedP
 ghost use Rattle.store.specs.Closing.{unclosedOf};
 ghost use Rattle.store.specs.Plan.{Standing, Room};
 use crate::StoreState;
+use columns::read_f32;
 use point::Point;
 use point::WeightedPoint;
 
@@ -40,14 +41,17 @@ pub fn usable(x: &[f32], y: &[f32], weight: &[f32], commands: &[u8], st: StoreSt
     commands[last] <= 3
 }
 
-// The Rust's `points!`.
+// The Rust's `points!`; past a column's end it is NaN.
 pub fn stored_point(x: &[f32], y: &[f32], weight: &[f32], i: usize) -> WeightedPoint
-    requires { ⌜ Room (i + 1) (columns (now x) (now y) (now weight) []) ⌝ }
     ensures { λ r. ⌜ r ≡ storedPointOf (columns (now (x .entry)) (now (y .entry)) (now (weight .entry)) []) i ⌝ }
 {
+    let point = Point {
+        x: read_f32(x, i),
+        y: read_f32(y, i),
+    };
     WeightedPoint {
-        point: Point { x: x[i], y: y[i] },
-        weight: weight[i],
+        point,
+        weight: read_f32(weight, i),
     }
 }
 

@@ -22,7 +22,12 @@ pub use builder::move_to;
 pub use builder::quad_to;
 pub use builder::rat_cubic_to;
 pub use builder::rat_quad_to;
+pub use entries::CUBIC;
+pub use entries::LINE;
+pub use entries::MOVE;
+pub use entries::stored_point;
 pub use whole::drawable;
+pub use whole::uses;
 
 // The state beside the columns: how many points and commands there are, and which point opened the contour.
 pub struct StoreState {

@@ -18,7 +18,8 @@ fn stored_ok(v: f32) -> bool
     (-4194304.0 <= v) & (v <= 4194304.0)
 }
 
-fn uses(command: u8) -> usize
+// How many points a command uses.
+pub fn uses(command: u8) -> usize
     ensures { λ r. ⌜ r ≡ usesOf command ⌝ }
 {
     if command < 1 { 1 } else { command as usize }

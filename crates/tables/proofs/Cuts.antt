@@ -1,6 +1,6 @@
 -- The loop over the pieces of a cubic. Its invariant: running what is left gives what running the whole gives. Assumes nothing.
 use mathlib.Core.Path.{_≡_, refl, sym, ap, _∙_}
-use mathlib.Core.Bool.{Bool, true, false, true≢false, _&&_}
+use mathlib.Core.Bool.{Bool, true, false, _&&_}
 use mathlib.Core.List.{List, [], _∷_}
 use Prim.Native.Nat.{ℕ, zero, suc, _+_, _-_, _^_, _≤_, _<_}
 use native.Mathlib.Omega.{arith}
@@ -9,6 +9,7 @@ use lib.Dec.{T, leb, le→leb}
 use lib.Ieee.{Float, binary32, inFloat}
 use lib.IntN.{pos}
 use borrow.Author.Tests.{leb-true, leb-false, le-leb, lt-leb}
+use mathlib.Mathlib.Data.Bool.Basic.{and-elim-left}
 use Rattle.leaves.specs.Single.{_⊖_, _⊗_, half32, whole32, recip}
 use Rattle.answer.specs.Number.{isDone}
 use Rattle.point.specs.declared.Point.{Point}
@@ -22,11 +23,6 @@ use Rattle.primitives.specs.Cubics.{cubicPiecesOf, cubicPointOf, controlOf, qua
 use Rattle.tables.specs.Run.{World, runOf}
 use Rattle.tables.proofs.Runs.{run-stop, run-cons}
 use Rattle.tables.proofs.Lengths.{QuadLengths, SplineLengths, quads-same, splines-same, quads-then, splines-then}
-
-pub both : (a b : Bool) → (a && b) ≡ true → (a ≡ true) × (b ≡ true)
-both true true e = (refl, refl)
-both true false e = absurd (true≢false (sym e))
-both false b e = absurd (true≢false (sym e))
 
 pub and-going : (b : Bool) → (b && true) ≡ false → b ≡ false
 and-going true e = e
@@ -53,7 +49,7 @@ small-exact n h = le→leb n 16777216 (le-trans h (omega arith))
 
 module _ (i n : ℕ) (going : Bool) (t : (leb i n && going) ≡ true) where
   at-most : i ≤ n
-  at-most = leb-true i n (both (leb i n) going t .0)
+  at-most = leb-true i n (and-elim-left (leb i n) going t)
 
   pub turns : n + 1 - (i + 1) < n + 1 - i
   turns = let h = at-most in omega arith
@@ -94,7 +90,7 @@ module _
         → Cutting setting caps c n incr start₀ w₀ w' end (i + 1) going'
     unfolding quadsFrom
     cut-on {p} {end} {w'} t ee ep ew d ql sl =
-        let h = leb-true i n (both (leb i n) going t .0) in
+        let h = leb-true i n (and-elim-left (leb i n) going t) in
         record {
           same =
               g .same

@@ -5,13 +5,15 @@ use mathlib.Core.Logic.{_⊎_, inl, inr, _≢_}
 use mathlib.Core.List.{List, [], _∷_}
 use mathlib.Core.Bool.{Bool, true, false, not, cond, true≢false}
 use Prim.Native.Nat.{ℕ, zero, suc, _+_, _-_, _≤_, _<_, zero-le}
-use native.Mathlib.Nat.{le-trans, le-of-eq, le-refl, le-of-lt, lt-of-lt-of-le, lt-of-le-of-lt, lt-irrefl, eq-or-lt-of-le, le-of-suc-le-suc}
+use native.Mathlib.Nat.{le-trans, le-of-eq, le-refl, le-of-lt, lt-of-lt-of-le, lt-of-le-of-lt, lt-irrefl, eq-or-lt-of-le, le-of-suc-le-suc, ne-of-lt}
+use native.Mathlib.Nat.{not-suc-le-zero}
 use native.Mathlib.Numerals.{add-one}
 use native.Mathlib.Omega.{arith}
 use lib.Dec.{T}
 use lib.Ieee.{Float}
 use lib.ListN.{length, getD, set, length-set}
 use lib.Seq.{getD-set-same, getD-set-other}
+use Rattle.columns.proofs.Flags.{flag-back}
 use Rattle.answer.specs.Number.{isDone}
 use Rattle.columns.specs.Flags.{flagByteOf, isFlagOf}
 use Rattle.point.specs.declared.Point.{Point}
@@ -58,10 +60,6 @@ flagged-same E F w f g S =
     back j (inr a) = inr (g (suc j) a)
 
 -- ---- the flags after a spline is written
-read-back : (b : Bool) → isFlagOf (flagByteOf b) ≡ b
-unfolding isFlagOf flagByteOf
-read-back true = refl
-read-back false = refl
 
 module _ (s : SplineTable) (edit : SplineEdit) where
   clear-length : (b : Bool) → length (clearFlag b (s .contour) (edit .at)) ≡ length (s .contour)
@@ -73,7 +71,7 @@ module _ (s : SplineTable) (edit : SplineEdit) where
   unfolding putSpline splineAt
   flag-new h =
       ap isFlagOf (getD-set-same (clearFlag (edit .clears) (s .contour) (edit .at)) (edit .at) (flagByteOf (edit .row .contour)) 0 (lt-of-lt-of-le h (le-of-eq (sym (clear-length (edit .clears))))))
-      ∙ read-back (edit .row .contour)
+      ∙ flag-back (edit .row .contour)
 
   flag-rest : (j : ℕ) → j ≢ edit .at → flagAt (putSpline s edit) j ≡ isFlagOf (getD (clearFlag (edit .clears) (s .contour) (edit .at)) j 0)
   unfolding putSpline splineAt
@@ -95,11 +93,9 @@ module _ (s : SplineTable) (edit : SplineEdit) where
       flag-rest j h ∙ ap (λ (b : Bool). isFlagOf (getD (clearFlag b (s .contour) (edit .at)) j 0)) c
       ∙ ap (λ (x : ℕ). isFlagOf (getD (set (s .contour) x (flagByteOf false)) j 0)) (sym k)
       ∙ ap isFlagOf (getD-set-same (s .contour) j (flagByteOf false) 0 l)
-      ∙ read-back false
+      ∙ flag-back false
 
 -- ---- a push
-apart : (j n : ℕ) → j < n → j ≢ n
-apart j n h e = omega arith
 
 not-next : (j n : ℕ) → j < n → suc j ≡ suc n → ⊥
 not-next j n h e = omega arith
@@ -142,7 +138,7 @@ module _ (caps : Capacities) (E : ℕ → Type 0) (w : World) (S : Sound caps w)
       (set m mark clears) (unset m mark clears)
     where
       off : (j : ℕ) → j < w .state .splines → j ≢ edit .at
-      off j h e = apart j (w .state .splines) h (e ∙ at)
+      off j h e = ne-of-lt h (e ∙ at)
 
       gone : (j : ℕ) → j < w .state .splines → suc j ≡ w .state .splines → edit .clears ≡ true → flagAt (putSpline (w .splines) edit) j ≡ false
       gone j h e c = flag-gone (w .splines) edit j (off j h) (before-is j (w .state .splines) e ∙ ap (λ (x : ℕ). x - 1) (sym at)) (fits-flags j (lt-of-lt-of-le h (S .room .splines))) c
@@ -269,12 +265,9 @@ flagged-run setting caps (p ∷ ps) E w S G =
 pub flagged-start : (q : QuadTable) (s : SplineTable) → Flagged (λ (m : ℕ). ⊥) (world startState q s)
 flagged-start q s =
     record {
-      closed = λ j h e. absurd (no j h);
-      closing = λ j h c. absurd (no j h);
+      closed = λ j h e. absurd (not-suc-le-zero h);
+      closing = λ j h c. absurd (not-suc-le-zero h);
       waits = λ e h. lt-irrefl 0 h;
       free = λ e h. h;
       within = λ m h. absurd h;
     }
-  where
-    no : (j : ℕ) → j < 0 → ⊥
-    no j h = omega arith

@@ -4,8 +4,7 @@ use mathlib.Core.Logic.{_⊎_, inl, inr}
 use mathlib.Core.List.{List, [], _∷_, _++_, append-assoc}
 use mathlib.Core.Bool.{Bool, true, false, cond, true≢false}
 use Prim.Native.Nat.{ℕ, zero, suc, _+_, _-_, _≤_, _<_, zero-le, suc-le-suc}
-use native.Mathlib.Nat.{le-trans, le-of-eq, le-refl, le-of-suc-le-suc, not-suc-le-zero, zero-lt-suc, suc-ne-zero, add-assoc, add-zero, zero-add}
-use native.Mathlib.Omega.{arith}
+use native.Mathlib.Nat.{le-trans, le-of-eq, le-refl, le-of-suc-le-suc, not-suc-le-zero, zero-lt-suc, suc-ne-zero, add-assoc, add-zero, zero-add, le-add-right}
 use lib.Dec.{T, leb}
 use lib.ListN.{length, getD, take, drop}
 use lib.Seq.{take-add, take-take}
@@ -41,15 +40,9 @@ module _ (setting : Setting) (caps : Capacities) where
   unfolding refusedOf markedOf applyOf splineEditOf
   push-grows w (kept answer) = le-refl (w .state .splines)
   push-grows w (marked _) = le-refl (w .state .splines)
-  push-grows w (lined true start end angle A) = more (w .state .splines)
-    where
-      more : (n : ℕ) → n ≤ n + 1
-      more n = omega arith
+  push-grows w (lined true start end angle A) = le-add-right (w .state .splines) 1
   push-grows w (lined false start end angle A) = le-refl (w .state .splines)
-  push-grows w (bent true start end angle c row A B K fit e o) = more (w .state .splines)
-    where
-      more : (n : ℕ) → n ≤ n + 1
-      more n = omega arith
+  push-grows w (bent true start end angle c row A B K fit e o) = le-add-right (w .state .splines) 1
   push-grows w (bent false start end angle c row A B K fit e o) = le-refl (w .state .splines)
 
   pub run-grows : (ps : List Primitive) (w : World) → w .state .splines ≤ runOf setting caps ps w .state .splines

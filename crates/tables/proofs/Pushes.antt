@@ -7,12 +7,15 @@ use Prim.Native.Nat.{ℕ, zero, suc, _+_, _*_, _≤_, _<_}
 use native.Mathlib.Nat.{mul-one, one-mul, zero-lt-suc, le-trans, le-of-lt}
 use native.Mathlib.Omega.{arith}
 use lib.IntN.{ℤ, pos}
-use lib.Dec.{T, lit<, leb, ltb, eqb, nleb→lt, nltb→le, lt→ltb, T-not}
+use lib.Dec.{T, lit<, leb, ltb, eqb, nltb→le, lt→ltb, T-not}
 use lib.Ieee.{Float, nan, inf, fin, binary32, up, down, le, lt, eq, fits, ofBits}
 use lib.Ieee.Fits.{mul-fits, down-pos, eq→eqb}
 use lib.Ieee.Bits.{ofBits-fits, is-true}
 use lib.Ieee.Positive.{num, den, positive, first-pos}
 use lib.Ieee.Scale.{finite}
+use mir.Facts.{or-no}
+use borrow.Author.Tests.{leb-false}
+use Rattle.facts.proofs.Tests.{first-false}
 use Rattle.leaves.specs.Single.{_⊕_, _⊗_, one32, two32}
 use Rattle.leaves.specs.Whole.{limit32}
 use Rattle.point.specs.declared.Point.{Point}
@@ -46,10 +49,6 @@ two-bent : Bent two32
 unfolding ofBits
 two-bent = record { held = ofBits-fits binary32 0x4000_0000; real = tt; over = lit< tt }
 
-not-left : (a b : Bool) → T (not (a || b)) → T (not a)
-not-left true b h = h
-not-left false b h = tt
-
 not-right : (a b : Bool) → T (not (a || (b && true))) → T (not b)
 not-right true b h = absurd h
 not-right false true h = h
@@ -57,7 +56,7 @@ not-right false false h = tt
 
 strictly : (a d : ℕ) → T (not (ltb (a * 1) (1 * d) || (eqb (a * 1) (1 * d) && true))) → d < a
 strictly a d h =
-    less a d (a * 1) (1 * d) (mul-one a) (one-mul d) (nltb→le (a * 1) (1 * d) (not-left (ltb (a * 1) (1 * d)) (eqb (a * 1) (1 * d) && true) h))
+    less a d (a * 1) (1 * d) (mul-one a) (one-mul d) (nltb→le (a * 1) (1 * d) (or-no (ltb (a * 1) (1 * d)) (eqb (a * 1) (1 * d) && true) h .0))
     (λ (e : a * 1 ≡ 1 * d). T-not (eqb (a * 1) (1 * d)) (not-right (ltb (a * 1) (1 * d)) (eqb (a * 1) (1 * d)) h) (eq→eqb e))
   where
     less : (a d x y : ℕ) → x ≡ a → y ≡ d → y ≤ x → x ≢ y → d < a
@@ -69,7 +68,7 @@ above-one nan f h = absurd f
 above-one (inf s) f h = absurd f
 above-one (fin true m e) f h =
     absurd
-    (T-not (ltb 0 (m * up e * 1 + 1 * down e)) (not-left (ltb 0 (m * up e * 1 + 1 * down e)) _ h)
+    (T-not (ltb 0 (m * up e * 1 + 1 * down e)) (or-no (ltb 0 (m * up e * 1 + 1 * down e)) _ h .0)
     (lt→ltb 0 (m * up e * 1 + 1 * down e) (more (m * up e * 1) (down e) (1 * down e) (down-pos e) (one-mul (down e)))))
   where
     more : (a d x : ℕ) → 0 < d → x ≡ d → 0 < a + x
@@ -132,19 +131,12 @@ pub data Pushed (caps : Capacities) (w : World) : Bool → World → Type 0 wher
 
 -- ---- each push has one of them
 
-first-false : (a b c : Bool) → a || b || c ≡ false → a ≡ false
-first-false true b c h = h
-first-false false b c h = refl
-
 unmarked : (setting : Setting) (st : State) (last : SplineRow) (angle : Angle) (start : Point) → opensOf setting st last angle start ≡ false → st .mark ≡ false
 unfolding opensOf
 unmarked setting st last angle start h = first-false (st .mark) _ _ h
 
-under : (a b : ℕ) → leb a b ≡ false → b < a
-under a b h = nleb→lt a b (subst (λ (t : Bool). T (not t)) (sym h) tt)
-
 allowed : (setting : Setting) (caps : Capacities) (w : World) (angle : Angle) (start : Point) (opens full : Bool) → opensOf setting (w .state) (lastOf w) angle start ≡ opens → leb (caps .splines) (w .state .splines) ≡ full → opens && full ≡ false → Allowed caps w opens
-allowed setting caps w angle start true full e f h = record { joins = λ k. absurd (true≢false k); room = λ k. under (caps .splines) (w .state .splines) (f ∙ h) }
+allowed setting caps w angle start true full e f h = record { joins = λ k. absurd (true≢false k); room = λ k. leb-false (caps .splines) (w .state .splines) (f ∙ h) }
 allowed setting caps w angle start false full e f h = record { joins = λ k. unmarked setting (w .state) (lastOf w) angle start e; room = λ k. absurd (true≢false (sym k)) }
 
 module _ (setting : Setting) (caps : Capacities) (w : World) where
@@ -192,11 +184,11 @@ module _ (setting : Setting) (caps : Capacities) (w : World) where
       go true true false low e f g h = kept SplinesFull
       go true false false false e f g h = kept SumTooLarge
       go true false false true e f g h =
-          bent true start (appliedOf p2) b (curve .curvature) (quadRowOf p0 p1 p2 curve (edit true)) (allowed setting caps w a start true false e f refl) (curve-bent start (appliedOf p1) (appliedOf p2)) (under (caps .quads) (w .state .quads) g)
+          bent true start (appliedOf p2) b (curve .curvature) (quadRowOf p0 p1 p2 curve (edit true)) (allowed setting caps w a start true false e f refl) (curve-bent start (appliedOf p1) (appliedOf p2)) (leb-false (caps .quads) (w .state .quads) g)
           (fit true (sum true) h refl) refl refl
       go false full false false e f g h = kept SumTooLarge
       go false full false true e f g h =
-          bent false start (appliedOf p2) b (curve .curvature) (quadRowOf p0 p1 p2 curve (edit false)) (allowed setting caps w a start false full e f refl) (curve-bent start (appliedOf p1) (appliedOf p2)) (under (caps .quads) (w .state .quads) g)
+          bent false start (appliedOf p2) b (curve .curvature) (quadRowOf p0 p1 p2 curve (edit false)) (allowed setting caps w a start false full e f refl) (curve-bent start (appliedOf p1) (appliedOf p2)) (leb-false (caps .quads) (w .state .quads) g)
           (fit true (sum false) h refl) refl refl
 
   legs-pushed : (p0 p1 p2 : WeightedPoint) (a b : Angle) → Pushed caps w false (applyOf (planLegsOf setting caps (w .state) (lastOf w) p0 p1 p2 a b) (w .quads) (w .splines))

@@ -4,7 +4,9 @@ use mathlib.Core.Path.{_≡_, refl, sym, ap, ap₂, _∙_, subst}
 use mathlib.Core.Logic.{_⊎_, inl, inr}
 use mathlib.Core.Bool.{Bool, true, false, not, _&&_, _||_, cond, true≢false}
 use Prim.Native.Nat.{ℕ, zero, suc, _+_, _-_, _*_, _/_, _%_, _^_, _≤_, _<_, zero-le}
-use native.Mathlib.Nat.{le-trans, le-of-eq, le-of-lt, lt-of-le-of-lt, lt-of-lt-of-le, mul-pos, mul-one, one-mul, zero-mul, zero-add, add-zero, mul-comm, mul-assoc, mul-right-comm, suc-mul, add-mul, mul-le-mul-right, mul-lt-mul-of-pos-right, le-of-mul-le-mul-right, lt-of-mul-lt-mul-right, lt-of-not-le, lt-irrefl, zero-lt-suc, div-add-mod', mod-lt}
+use native.Mathlib.Nat.{le-trans, le-of-eq, le-of-lt, lt-of-le-of-lt, lt-of-lt-of-le, mul-pos, mul-one, one-mul, zero-mul, zero-add, add-zero, mul-comm}
+use native.Mathlib.Nat.{mul-assoc, mul-right-comm, suc-mul, add-mul, mul-le-mul-right, mul-lt-mul-of-pos-right, le-of-mul-le-mul-right}
+use native.Mathlib.Nat.{lt-of-mul-lt-mul-right, lt-of-not-le, lt-irrefl, zero-lt-suc, div-add-mod', mod-lt}
 use native.Mathlib.Omega.{arith}
 use lib.IntN.{ℤ, pos, negsuc}
 use lib.Dec.{T, leb, ltb, eqb, lit≤, lit<, ltb→lt, lt→ltb, eqb→eq, leb→le, nltb→le, eqb·suc-zero}
@@ -17,6 +19,7 @@ use lib.Ieee.Back.{round-whole}
 use lib.Ieee.Order.{round-mono, le-of-values}
 use lib.Ieee.Positive.{num, den, positive, den-pos, own-value, value→cross, positive-of-value, values-of-le, between, above, above-of-le}
 use lib.Ieee.Scale.{finite, round-same}
+use Rattle.facts.proofs.Tests.{same}
 use Rattle.leaves.specs.Single.{_⊕_, _⊘_, whole32, zero32, half32, one32}
 use Rattle.leaves.specs.Whole.{limit32, wholeUpOf}
 
@@ -213,12 +216,6 @@ sum-first c B fit =
 
 -- ---- a sum against a whole number
 
-same-test : (a b : Bool) → (T a → T b) → (T b → T a) → a ≡ b
-same-test true true p q = refl
-same-test true false p q = absurd (p tt)
-same-test false true p q = absurd (q tt)
-same-test false false p q = refl
-
 lt-value : (x y : Float) (p : ℕ) → T (positive x) → HasValue y false p 1 → lt x y ≡ ltb (num x) (p * den x)
 unfolding lt
 lt-value nan y p h v = absurd h
@@ -230,7 +227,7 @@ lt-value (fin false m e) (fin true n d) p h v = absurd (true≢false (v .0))
 lt-value (fin false m e) (fin false n d) p h v =
     let c : n * up d * down e ≡ p * down e * down d = ap (λ (z : ℕ). z * down e) (sym (mul-one (n * up d)) ∙ v .1) ∙ mul-right-comm p (down d) (down e) in
     let a = m * up e in
-    same-test (ltb (a * down d) (n * up d * down e)) (ltb a (p * down e))
+    same (ltb (a * down d) (n * up d * down e)) (ltb a (p * down e))
     (λ t. lt→ltb a (p * down e) (lt-of-mul-lt-mul-right (down d) (lt-of-lt-of-le (ltb→lt (a * down d) (n * up d * down e) t) (le-of-eq c))))
     (λ t. lt→ltb (a * down d) (n * up d * down e) (lt-of-lt-of-le (mul-lt-mul-of-pos-right (ltb→lt a (p * down e) t) (down-pos d)) (le-of-eq (sym c))))
 

@@ -8,7 +8,8 @@ use mathlib.Core.Logic.{_⊎_, inl, inr, _≢_}
 use mathlib.Core.List.{List, [], _∷_}
 use mathlib.Core.Bool.{Bool, true, false, cond, true≢false}
 use Prim.Native.Nat.{ℕ, zero, suc, _+_, _-_, _*_, _/_, _≤_, _<_, zero-le, min}
-use native.Mathlib.Nat.{le-trans, le-of-eq, le-refl, le-of-lt, lt-of-lt-of-le, lt-of-le-of-lt, lt-irrefl, eq-or-lt-of-le, le-of-suc-le-suc, min-le-left, min-le-right, not-le-of-lt}
+use native.Mathlib.Nat.{le-trans, le-of-eq, le-refl, le-of-lt, lt-of-lt-of-le, lt-of-le-of-lt, lt-irrefl, eq-or-lt-of-le, le-of-suc-le-suc, min-le-left}
+use native.Mathlib.Nat.{min-le-right, not-le-of-lt, ne-of-lt, add-zero, add-sub-of-le, sub-le, not-suc-le-zero}
 use native.Mathlib.Numerals.{add-one}
 use native.Mathlib.Omega.{arith}
 use lib.Dec.{T, leb, eqb, leb→le, le→leb, eqb·suc-zero}
@@ -18,6 +19,7 @@ use lib.Ieee.Positive.{num, den}
 use lib.Arith.{lt→nleb}
 use lib.ListN.{length, getD, set, length-set}
 use lib.Seq.{getD-set-same, getD-set-other}
+use Rattle.facts.proofs.Numbers.{shift}
 use Rattle.leaves.specs.Single.{_⊕_, zero32}
 use Rattle.leaves.specs.Whole.{limit32}
 use Rattle.answer.specs.Number.{isDone}
@@ -34,7 +36,8 @@ use Rattle.primitives.specs.declared.SplineEdit.{SplineEdit}
 use Rattle.primitives.specs.declared.QuadRow.{QuadRow}
 use Rattle.primitives.specs.Splines.{sumBefore, splineEditOf}
 use Rattle.primitives.specs.Plan.{refusedOf, markedOf}
-use Rattle.tables.specs.Tables.{QuadTable, SplineTable, quadCapacityOf, splineCapacityOf, capacitiesOf, putQuad, clearFlag, putSpline, splineAt, noSpline, lastSplineOf}
+use Rattle.tables.specs.Tables.{QuadTable, SplineTable, quadCapacityOf, splineCapacityOf, capacitiesOf, putQuad, clearFlag, putSpline, splineAt}
+use Rattle.tables.specs.Tables.{noSpline, lastSplineOf}
 use Rattle.tables.specs.Run.{World, world, applyOf, pushOf, runOf, startState}
 use Rattle.tables.proofs.RunningSums.{Bent, Sum, natural, zero-natural, zero-num, positive-natural}
 use Rattle.tables.proofs.Pushes.{lastOf, isMark, Allowed, splineEdit, Pushed, kept, marked, lined, bent, pushed}
@@ -60,24 +63,15 @@ pub record Sound (caps : Capacities) (w : World) : Type 0 where
 -- ---- the numbers of quads before the splines grow
 module _ (caps : Capacities) (w : World) (S : Sound caps w) where
   cut-up : (d j : ℕ) → j + d ≡ w .state .splines → S .cut j ≤ S .cut (w .state .splines)
-  cut-up zero j e = le-of-eq (ap (S .cut) (at j (w .state .splines) e))
-    where
-      at : (j n : ℕ) → j + 0 ≡ n → j ≡ n
-      at j n e = omega arith
+  cut-up zero j e = le-of-eq (ap (S .cut) (sym (add-zero j) ∙ e))
   cut-up (suc d) j e =
-      le-trans (S .span j (less j d (w .state .splines) e) .ordered) (cut-up d (suc j) (more j d (w .state .splines) e))
+      le-trans (S .span j (less j d (w .state .splines) e) .ordered) (cut-up d (suc j) (shift j d ∙ e))
     where
       less : (j d n : ℕ) → j + suc d ≡ n → j < n
       less j d n e = omega arith
 
-      more : (j d n : ℕ) → j + suc d ≡ n → suc j + d ≡ n
-      more j d n e = omega arith
-
   pub cut-le : (j : ℕ) → j ≤ w .state .splines → S .cut j ≤ w .state .quads
-  cut-le j h = le-trans (cut-up (w .state .splines - j) j (add-back j (w .state .splines) h)) (le-of-eq (S .all))
-    where
-      add-back : (j n : ℕ) → j ≤ n → j + (n - j) ≡ n
-      add-back j n h = omega arith
+  cut-le j h = le-trans (cut-up (w .state .splines - j) j (add-sub-of-le h)) (le-of-eq (S .all))
 
 -- ---- the cut with a new top: up to t as before, then k
 abbrev pub topped : (ℕ → ℕ) → ℕ → ℕ → ℕ → ℕ
@@ -90,8 +84,6 @@ topped-high : (cut : ℕ → ℕ) (t k j : ℕ) → t < j → topped cut t k j �
 topped-high cut t k j h = ap (λ (b : Bool). cond b (cut j) k) (is-false (leb j t) (lt→nleb j t h))
 
 -- ---- a spline t is written, and the quads are then those of q'
-other : (j t : ℕ) → j < t → j ≢ t
-other j t h e = omega arith
 
 module _ (s : SplineTable) (edit : SplineEdit) where
   pub total-same : edit .at < length (s .curvature) → splineAt (putSpline s edit) (edit .at) .curvature ≡ edit .row .curvature
@@ -126,9 +118,6 @@ last-is w h = go (w .state .splines) h
 pub pred-suc : (n : ℕ) → 0 < n → suc (n - 1) ≡ n
 pred-suc n h = omega arith
 
-pred-le : (n : ℕ) → n - 1 ≤ n
-pred-le n = omega arith
-
 pub pred-lt : (n : ℕ) → 0 < n → n - 1 < n
 pred-lt n h = omega arith
 
@@ -139,7 +128,7 @@ agree-self q k = record { sum = λ i h. refl; owner = λ i h. refl }
 module _ (q : QuadTable) (k : ℕ) (row : QuadRow) where
   agree-put : Agree q (putQuad q k row) k
   unfolding putQuad
-  agree-put = record { sum = λ i h. getD-set-other (q .partial-curvatures) k i (row .«partial_curvature») nan (other i k h); owner = λ i h. getD-set-other (q .partial-splines) k i (row .spline) 0 (other i k h) }
+  agree-put = record { sum = λ i h. getD-set-other (q .partial-curvatures) k i (row .«partial_curvature») nan (ne-of-lt h); owner = λ i h. getD-set-other (q .partial-splines) k i (row .spline) 0 (ne-of-lt h) }
 
   put-sum : k < length (q .partial-curvatures) → sumAt (putQuad q k row) k ≡ row .«partial_curvature»
   unfolding putQuad
@@ -179,7 +168,7 @@ module _ (caps : Capacities) (w : World) (S : Sound caps w) where
               subst₂ (λ (x y : ℕ). Span q' (splineAt (putSpline s edit) j .curvature) x y j) (sym (topped-low (S .cut) t k' j (le-of-lt l))) (sym (topped-low (S .cut) t k' (suc j) l))
               (span-agree (w .quads) q' (splineAt s j .curvature) (splineAt (putSpline s edit) j .curvature) (S .cut j) (S .cut (suc j)) j
               (below (S .cut (suc j)) (cut-le caps w S (suc j) (le-trans l T≤)))
-              (total-other s edit j (λ e. other j t l (e ∙ at)))
+              (total-other s edit j (λ e. ne-of-lt l (e ∙ at)))
               (S .span j (lt-of-lt-of-le l T≤)))
         ];
         room =
@@ -235,7 +224,7 @@ module _ (caps : Capacities) (w : World) (S : Sound caps w) where
   sound-lined false start end angle A =
       let n = w .state .splines in
       let N = S .waits (A .joins refl) in
-      put (splineEdit w false start end (lastOf w .curvature) (w .state .quads) angle) (w .quads) (n - 1) (w .state .quads) (lastOf w .curvature) (pred-le n) (lt-of-lt-of-le (pred-lt n N) (S .room .splines)) (S .room .quads) refl refl (sym (pred-suc n N)) refl
+      put (splineEdit w false start end (lastOf w .curvature) (w .state .quads) angle) (w .quads) (n - 1) (w .state .quads) (lastOf w .curvature) (sub-le n 1) (lt-of-lt-of-le (pred-lt n N) (S .room .splines)) (S .room .quads) refl refl (sym (pred-suc n N)) refl
       (agree-self (w .quads) (w .state .quads)) refl refl (before-join N)
 
   sound-bent : (opens : Bool) (start end : Point) (angle : Angle) (c : Float) (row : QuadRow) → Allowed caps w opens → Bent c → w .state .quads < caps .quads → T (le (sumBefore opens (lastOf w) ⊕ c) limit32)
@@ -255,7 +244,7 @@ module _ (caps : Capacities) (w : World) (S : Sound caps w) where
       let k = w .state .quads in
       let q = w .quads in
       let N = S .waits (A .joins refl) in
-      put (splineEdit w false start end (lastOf w .curvature ⊕ c) (k + 1) angle) (putQuad q k row) (n - 1) (suc k) (lastOf w .curvature ⊕ c) (pred-le n) (lt-of-lt-of-le (pred-lt n N) (S .room .splines)) K refl refl (sym (pred-suc n N)) (add-one k)
+      put (splineEdit w false start end (lastOf w .curvature ⊕ c) (k + 1) angle) (putQuad q k row) (n - 1) (suc k) (lastOf w .curvature ⊕ c) (sub-le n 1) (lt-of-lt-of-le (pred-lt n N) (S .room .splines)) K refl refl (sym (pred-suc n N)) (add-one k)
       (agree-put q k row) (put-sums-length q k row) (put-owners-length q k row)
       (span-more q (putQuad q k row) (lastOf w .curvature) c (S .cut (n - 1)) k (n - 1) (before-join N) (agree-put q k row) B fit (put-sum q k row (lt-of-lt-of-le K (S .room .sums)) ∙ e) (put-owner q k row (lt-of-lt-of-le K (S .room .owners)) ∙ o))
 
@@ -318,7 +307,7 @@ module _ (q : QuadTable) (s : SplineTable) where
         cut = λ j. 0;
         first = refl;
         all = refl;
-        span = λ j h. absurd (not-below j h);
+        span = λ j h. absurd (not-suc-le-zero h);
         room =
             record {
               quads = zero-le;
@@ -330,9 +319,6 @@ module _ (q : QuadTable) (s : SplineTable) where
             };
         waits = λ h. absurd (true≢false h);
       }
-    where
-      not-below : (j : ℕ) → j < 0 → ⊥
-      not-below j h = omega arith
 
 pub sound : (setting : Setting) (ps : List Primitive) (q : QuadTable) (s : SplineTable) → Sound (capacitiesOf q s) (runOf setting (capacitiesOf q s) ps (world startState q s))
 sound setting ps q s = sound-run setting (capacitiesOf q s) ps (world startState q s) (sound-start q s)

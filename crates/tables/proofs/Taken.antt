@@ -12,6 +12,7 @@ use lib.Ieee.{nan}
 use lib.ListN.{length, getD, take, drop, drop-of-length-le, List·getD-eq-default}
 use lib.Seq.{drop-cons, getD-take, length-take-le, take-all, take-length}
 use borrow.Author.Tests.{leb-true, leb-false, ltb-true, ltb-false}
+use mathlib.Mathlib.Data.Bool.Basic.{and-elim-left}
 use Rattle.answer.specs.Number.{isDone}
 use Rattle.point.specs.declared.WeightedPoint.{WeightedPoint}
 use Rattle.point.specs.Point.{pointAt, weighted}
@@ -27,7 +28,7 @@ use Rattle.tables.specs.Run.{World, world, runOf, startState}
 use Rattle.tables.specs.Commands.{cubicFrom, commandPrimitivesOf, primitivesFrom, primitivesOf, tablesOf}
 use Rattle.tables.proofs.Runs.{run-stop, run-append}
 use Rattle.tables.proofs.Lengths.{QuadLengths, SplineLengths, quads-same, splines-same, quads-then, splines-then}
-use Rattle.tables.proofs.Cuts.{both, and-going}
+use Rattle.tables.proofs.Cuts.{and-going}
 
 -- ---- points past the columns: four bytes each, so that no lent column is longer
 pub record Short (c : Columns) : Type 0 where
@@ -121,7 +122,7 @@ module _ (setting : Setting) (caps : Capacities) (w₀ : World) where
 -- ---- the loop's counter
 module _ (i n : ℕ) (going : Bool) (t : (ltb i n && going) ≡ true) where
   pub before-end : i < n
-  before-end = ltb-true i n (both (ltb i n) going t .0)
+  before-end = ltb-true i n (and-elim-left (ltb i n) going t)
 
   pub turns : n - (i + 1) < n - i
   turns = let h = before-end in omega arith

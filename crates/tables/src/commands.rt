@@ -2,52 +2,36 @@
 use crate::capacity::least;
 use crate::capacity::quad_capacity;
 use crate::capacity::spline_capacity;
-use crate::rows::below;
 use crate::run::push;
 use crate::run::push_cubic;
 use answer::Answer;
 use answer::is_done;
-use columns::read_f32;
 use columns::read_u8;
 use point::Angle;
-use point::Point;
 use point::Setting;
-use point::WeightedPoint;
 use primitives::Capacities;
 use primitives::Cubic;
 use primitives::Primitive;
 use primitives::State;
+use primitives::below;
+use store::CUBIC;
+use store::LINE;
+use store::MOVE;
 use store::StoreState;
+use store::stored_point;
+use store::uses;
 ghost use mathlib.Core.Bool.{cond};
 ghost use mathlib.Core.Path.{_≡_};
 ghost use mathlib.Core.List.{[], _∷_};
 ghost use Prim.Native.Nat.{_+_, _^_, _<_};
 ghost use lib.Dec.{ltb};
-ghost use Rattle.store.specs.Columns.{columns, usesOf, storedPointOf};
+ghost use Rattle.store.specs.Columns.{columns, usesOf};
 ghost use Rattle.tables.specs.Tables.{quadTable, splineTable};
 ghost use Rattle.tables.specs.Run.{world, runOf};
 ghost use Rattle.tables.specs.Commands.{cubicFrom, commandPrimitivesOf, tablesOf};
 
-const LINE: u8 = 1;
-
-const CUBIC: u8 = 3;
-
 // No column of floats is this long, so there is no point from this index on.
 const NO_POINT: usize = 0x4000_0000_0000_0000;
-
-// The Rust's `points!`.
-fn stored_point(x: &[f32], y: &[f32], weight: &[f32], i: usize) -> WeightedPoint
-    ensures { λ r. ⌜ r ≡ storedPointOf (columns (now (x .entry)) (now (y .entry)) (now (weight .entry)) []) i ⌝ }
-{
-    let point = Point {
-        x: read_f32(x, i),
-        y: read_f32(y, i),
-    };
-    WeightedPoint {
-        point,
-        weight: read_f32(weight, i),
-    }
-}
 
 // The cubic whose start is point i.
 fn cubic_from(x: &[f32], y: &[f32], weight: &[f32], i: usize) -> Cubic
@@ -69,7 +53,7 @@ fn command_primitive(x: &[f32], y: &[f32], weight: &[f32], k: u8, j: usize) -> P
     requires { ⌜ (k < 3) × (j < 2 ^ 63) ⌝ }
     ensures { λ r. ⌜ r ∷ [] ≡ commandPrimitivesOf (columns (now (x .entry)) (now (y .entry)) (now (weight .entry)) []) k j ⌝ }
 {
-    if k == 0 {
+    if k == MOVE {
         return Primitive::Contour;
     }
     let p0 = stored_point(x, y, weight, below(j));
@@ -79,12 +63,6 @@ fn command_primitive(x: &[f32], y: &[f32], weight: &[f32], k: u8, j: usize) -> P
     }
     let next = j + 1;
     Primitive::Quad(p0, p1, stored_point(x, y, weight, next))
-}
-
-fn uses(k: u8) -> usize
-    ensures { λ r. ⌜ r ≡ usesOf k ⌝ }
-{
-    if k == 0 { 1 } else { k as usize }
 }
 
 // The points used up after command k. A number past every point stays as it is, so the sum never wraps.

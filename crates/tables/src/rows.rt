@@ -1,6 +1,5 @@
 // One row of a table, written and read. An index past the end of a column writes nothing there, and reads NaN or 0.
 ghost use mathlib.Core.Path.{_≡_};
-ghost use Prim.Native.Nat.{_-_};
 ghost use Rattle.tables.specs.Tables.{quadTable, splineTable, setThree, putQuad, clearFlag, putSpline, splineAt, lastSplineOf};
 use columns::flag_byte;
 use columns::is_flag;
@@ -14,6 +13,7 @@ use primitives::QuadRow;
 use primitives::SplineEdit;
 use primitives::SplineRow;
 use primitives::Three;
+use primitives::below;
 
 // The three numbers of quad i.
 fn set_three(column: &mut [f32], i: usize, v: Three)
@@ -59,13 +59,6 @@ pub fn put_quad(
     put_f32(curvatures_recip, i, row.curvature_recip);
     put_f32(partial_curvatures, i, row.partial_curvature);
     put_u32(partial_splines, i, row.spline);
-}
-
-// The whole number before, and 0 before 0.
-pub fn below(n: usize) -> usize
-    ensures { λ r. ⌜ r ≡ n - 1 ⌝ }
-{
-    if n == 0 { 0 } else { n - 1 }
 }
 
 // If `clears` is true, the flag of the spline before k is cleared.

@@ -1,6 +1,6 @@
 -- Reading hex digits one by one, with what is read so far; and writing them from the last. Assumes nothing.
 use mathlib.Core.Path.{_≡_, refl, sym, ap, _∙_}
-use mathlib.Core.Bool.{Bool, true, false, _&&_, cond, and-true, and-false, and-assoc}
+use mathlib.Core.Bool.{Bool, true, false, _&&_, cond, and-true, and-false, and-assoc, and-eq-true-iff}
 use mathlib.Core.List.{List, [], _∷_, _++_}
 use Prim.Native.Nat.{ℕ, zero, suc, _+_, _-_, _*_, _/_, _%_, _^_, _≤_, _<_}
 use native.Mathlib.Nat.{add-zero, pow-suc}
@@ -14,7 +14,6 @@ use Rattle.text.specs.declared.HexAt.{HexAt}
 use Rattle.text.specs.declared.HexAt.the-variants.{Number, Wrong}
 use Rattle.text.specs.Bytes.{partAt}
 use Rattle.text.specs.Hex.{hexDigitOf, hexValueOf, allHex, hexNumber, hexStandsAt, hexNumberAt, hexAtOf, hexDigits, hexOf}
-use Rattle.text.proofs.Standing.{both-true}
 
 -- k more digits, after those whose number is n
 unfoldable pub digitsIn : List ℕ → ℕ → ℕ → HexAt
@@ -82,8 +81,8 @@ unfolding hexValueOf
 byte-is b = go (leb 0x30 b && leb b 0x39) (leb 0x61 b && leb b 0x66) refl refl
   where
     go : (p q : Bool) → (leb 0x30 b && leb b 0x39) ≡ p → (leb 0x61 b && leb b 0x66) ≡ q → ByteIs b
-    go true q e f = let t = both-true (leb 0x30 b) (leb b 0x39) e in number (leb-true 0x30 b (t .0)) (leb-true b 0x39 (t .1)) (rw e)
-    go false true e f = let t = both-true (leb 0x61 b) (leb b 0x66) f in letter (leb-true 0x61 b (t .0)) (leb-true b 0x66 (t .1)) (rw (e, f))
+    go true q e f = let t = and-eq-true-iff (leb 0x30 b) (leb b 0x39) .0 e in number (leb-true 0x30 b (t .0)) (leb-true b 0x39 (t .1)) (rw e)
+    go false true e f = let t = and-eq-true-iff (leb 0x61 b) (leb b 0x66) .0 f in letter (leb-true 0x61 b (t .0)) (leb-true b 0x66 (t .1)) (rw (e, f))
     go false false e f = other (rw (e, f))
 
 pub value-digit : (b : ℕ) → hexValueOf b < 16 → hexDigitOf (hexValueOf b) ≡ b
@@ -166,7 +165,7 @@ digits-of (suc k) bs e h = last (getD bs k 0) refl (digits-of k (take k bs))
     last : (b : ℕ) → b ≡ getD bs k 0 → (length (take k bs) ≡ k → allHex (take k bs) ≡ true → DigitsOf k (take k bs)) → DigitsOf (suc k) bs
     last b g below =
         let cut : bs ≡ take k bs ++ (b ∷ []) = digits-cut k bs b e g in
-        let both = both-true (allHex (take k bs)) (ltb (hexValueOf b) 16) (sym (all-last (take k bs) b) ∙ ap allHex (sym cut) ∙ h) in
+        let both = and-eq-true-iff (allHex (take k bs)) (ltb (hexValueOf b) 16) .0 (sym (all-last (take k bs) b) ∙ ap allHex (sym cut) ∙ h) in
         let d : DigitsOf k (take k bs) = below (omega (arith, length-take k bs)) (both .0) in
         rw cut (digits-snoc k (take k bs) b d (ltb-true (hexValueOf b) 16 (both .1)))
 
@@ -181,7 +180,7 @@ pub hex-split : (text : List ℕ) (at : ℕ) → hexStandsAt text at ≡ true �
 unfolding hexStandsAt partAt hexOf
 hex-split text at h =
     let rest = drop at text in
-    let both = both-true (eqb (length (take 8 rest)) 8) (allHex (take 8 rest)) h in
+    let both = and-eq-true-iff (eqb (length (take 8 rest)) 8) (allHex (take 8 rest)) .0 h in
     let d : DigitsOf 8 (take 8 rest) = digits-of 8 (take 8 rest) (eqb-true (length (take 8 rest)) 8 (both .0)) (both .1) in
     record {
       number = d .number;

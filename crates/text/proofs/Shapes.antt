@@ -1,7 +1,7 @@
 -- Shapes of texts: a list of classes of bytes, each one byte or any hex digit. The longest beginning of a text that fits a shape: it can be completed
 -- to the whole shape, and it has a newline for each of the shape's lines that is whole. Assumes nothing.
 use mathlib.Core.Path.{_≡_, refl, sym, ap, _∙_}
-use mathlib.Core.Bool.{Bool, true, false, not, _&&_, cond}
+use mathlib.Core.Bool.{Bool, true, false, not, _&&_, cond, and-eq-true-iff}
 use mathlib.Core.List.{List, [], _∷_, _++_, map}
 use Prim.Native.Nat.{ℕ, zero, suc, _+_, _≤_}
 use native.Mathlib.Nat.{zero-add}
@@ -11,7 +11,6 @@ use lib.Dec.{eqb, ltb}
 use lib.ListN.{length}
 use Rattle.text.specs.Hex.{hexValueOf, allHex, hexDigits, hexOf}
 use Rattle.text.specs.Places.{newlines}
-use Rattle.text.proofs.Standing.{both-true}
 use Rattle.text.proofs.Hexes.{DigitsOf, digits-of, digits-hex, hex-digits-length}
 
 -- ---- lists one after another
@@ -112,7 +111,7 @@ fits-digits zero [] e h = none
 fits-digits zero (b ∷ s) e h = absurd (omega arith)
 fits-digits (suc k) [] e h = absurd (omega arith)
 fits-digits (suc k) (b ∷ s) e h =
-    let both = both-true (ltb (hexValueOf b) 16) (allHex s) h in
+    let both = and-eq-true-iff (ltb (hexValueOf b) 16) (allHex s) .0 h in
     more (both .0) (fits-digits k s (omega arith) (both .1))
 
 pub digits-fit : (k : ℕ) (s : List ℕ) → Fits (digits k) s → (length s ≡ k) × (allHex s ≡ true)
@@ -179,7 +178,7 @@ plain-first : (k : Class) (p : List Class) (b : ℕ) → plain (k ∷ p) ≡ tru
 unfolding plain admits hexValueOf
 plain-first (byte a) p b h e =
     let same : b ≡ a = eqb-true b a e in
-    ap (λ (m : ℕ). eqb m 0x0a) same ∙ not-true (eqb a 0x0a) (both-true (not (eqb a 0x0a)) (plain p) h .0)
+    ap (λ (m : ℕ). eqb m 0x0a) same ∙ not-true (eqb a 0x0a) (and-eq-true-iff (not (eqb a 0x0a)) (plain p) .0 h .0)
 plain-first digit p b h e = go (eqb b 0x0a) refl
   where
     go : (t : Bool) → eqb b 0x0a ≡ t → t ≡ false
@@ -188,7 +187,7 @@ plain-first digit p b h e = go (eqb b 0x0a) refl
 
 plain-rest : (k : Class) (p : List Class) → plain (k ∷ p) ≡ true → plain p ≡ true
 unfolding plain
-plain-rest (byte a) p h = both-true (not (eqb a 0x0a)) (plain p) h .1
+plain-rest (byte a) p h = and-eq-true-iff (not (eqb a 0x0a)) (plain p) .0 h .1
 plain-rest digit p h = h
 
 pub plain-newlines : (p : List Class) (s : List ℕ) → plain p ≡ true → Fits p s → newlines s ≡ 0

@@ -1,21 +1,16 @@
 -- Laws of `standsAt`: the text has a fixed string at a place if it has its first byte there and the rest after it; the string then lies inside the text.
 -- Assumes nothing.
 use mathlib.Core.Path.{_≡_, refl, sym, ap, _∙_}
-use mathlib.Core.Bool.{Bool, true, false, _&&_, and-true, and-assoc}
+use mathlib.Core.Bool.{Bool, true, false, _&&_, and-true, and-assoc, and-eq-true-iff}
 use mathlib.Core.List.{List, [], _∷_, _++_}
-use Prim.Native.Nat.{ℕ, zero, suc, _+_, _≤_, _<_}
+use Prim.Native.Nat.{ℕ, suc, _+_, _≤_, _<_}
 use native.Mathlib.Nat.{add-zero}
 use native.Mathlib.Omega.{arith}
 use borrow.Author.Tests.{eqb-true, eq-eqb}
 use lib.Dec.{eqb}
-use lib.ListN.{length, take, drop, getD, length-take, length-drop, take-append-drop}
+use lib.ListN.{length, take, drop, getD, length-take, length-drop, take-append-drop, drop-of-length-le}
 use lib.Seq.{drop-cons, drop-drop, take-append-seam, drop-append-seam}
 use Rattle.text.specs.Bytes.{sameBytes, partAt, standsAt}
-
-pub both-true : (a b : Bool) → a && b ≡ true → (a ≡ true) × (b ≡ true)
-both-true true true h = (refl, refl)
-both-true true false h = absurd (let z : _≡_ {A = ℕ} 0 1 = cc in omega arith)
-both-true false b h = absurd (let z : _≡_ {A = ℕ} 0 1 = cc in omega arith)
 
 -- ---- laws over the bytes from a place on
 abbrev begins : List ℕ → List ℕ → Bool
@@ -31,7 +26,7 @@ unfolding sameBytes
 same-length [] [] h = refl
 same-length [] (b ∷ ys) h = absurd (let z : _≡_ {A = ℕ} 0 1 = cc in omega arith)
 same-length (a ∷ xs) [] h = absurd (let z : _≡_ {A = ℕ} 0 1 = cc in omega arith)
-same-length (a ∷ xs) (b ∷ ys) h = ap suc (same-length xs ys (both-true (eqb a b) (sameBytes xs ys) h .1))
+same-length (a ∷ xs) (b ∷ ys) h = ap suc (same-length xs ys (and-eq-true-iff (eqb a b) (sameBytes xs ys) .0 h .1))
 
 -- ---- laws over a place in the text
 pub stands-nothing : (text : List ℕ) (at : ℕ) → standsAt text at [] ≡ true
@@ -57,15 +52,9 @@ pub byte-stands : (text : List ℕ) (at b : ℕ) → at < length text → stands
 unfolding standsAt partAt sameBytes
 byte-stands text at b h = rw (drop-cons text at 0 h, and-true)
 
-past : (text : List ℕ) (at : ℕ) → length text ≤ at → drop at text ≡ []
-past [] zero h = refl
-past [] (suc at) h = refl
-past (a ∷ text) zero h = absurd (omega arith)
-past (a ∷ text) (suc at) h = past text at (omega arith)
-
 pub byte-past : (text : List ℕ) (at b : ℕ) → length text ≤ at → standsAt text at (b ∷ []) ≡ false
 unfolding standsAt partAt sameBytes
-byte-past text at b h = rw (past text at h)
+byte-past text at b h = rw (drop-of-length-le text h)
 
 -- a fixed string of at least one byte that the text has at a place lies inside the text
 pub stands-inside : (text : List ℕ) (at : ℕ) (fixed : List ℕ) → 0 < length fixed → standsAt text at fixed ≡ true → at + length fixed ≤ length text
@@ -81,7 +70,7 @@ same-bytes [] [] h = refl
 same-bytes [] (b ∷ ys) h = absurd (let z : _≡_ {A = ℕ} 0 1 = cc in omega arith)
 same-bytes (a ∷ xs) [] h = absurd (let z : _≡_ {A = ℕ} 0 1 = cc in omega arith)
 same-bytes (a ∷ xs) (b ∷ ys) h =
-    let both : (eqb a b ≡ true) × (sameBytes xs ys ≡ true) = both-true (eqb a b) (sameBytes xs ys) h in
+    let both : (eqb a b ≡ true) × (sameBytes xs ys ≡ true) = and-eq-true-iff (eqb a b) (sameBytes xs ys) .0 h in
     let first : a ≡ b = eqb-true a b (both .0) in
     let later : xs ≡ ys = same-bytes xs ys (both .1) in
     cc

@@ -54,18 +54,19 @@ use denote.Triple.Clauses.{Lasts, ensured, lasts}
 use denote.Triple.Table.{entered, cited}
 use denote.Triple.Walked.{says, Stay, Stays, stay-dropped, stay-slice, walkOf, goes-dropped, goes-slice, Walks, ends-at, walked, walk-meets}
 use denote.Exit.{yes}
-use Rattle.tables.specs.Tables.{SplineTable, splineTable}
-use Rattle.spline_list.specs.declared.Spline.{Spline}
+use native.Mathlib.Numerals.{add-one}
+use Rattle.tables.specs.Tables.{SplineTable, splineTable, splineAt}
+use Rattle.primitives.specs.declared.SplineRow.{SplineRow}
 use Rattle.spline_list.specs.declared.Copied.{Copied}
-use Rattle.spline_list.specs.Rows.{blank, rowAtOf, equalOf, countOf, outcomeOf, fills}
+use Rattle.spline_list.specs.Rows.{blank, equalOf, countOf, outcomeOf, fills}
 use Rattle.spline_list.proofs.Columns.{front, lend, after}
 use Rattle.spline_list.proofs.Laws.{stores-length}
-use Rattle.spline_list.proofs.Agreed.{Rooms, equal, goes-on, count-small, all-or-none, one-more, Agree, Count, Outcome, to-agree, to-count}
+use Rattle.spline_list.proofs.Agreed.{Rooms, equal, goes-on, count-small, all-or-none, Agree, Count, Outcome, to-agree, to-count}
 use Rattle.spline_list.proofs.Agreed.{to-outcome, goes-agree, goes-count, goes-outcome}
 use Rattle.spline_list.proofs.Copied as C
 use Rattle.spline_list.proofs.Copied.Laws as C′
-use Rattle.spline_list.proofs.Spline as T
-use Rattle.spline_list.proofs.Spline.Laws as T′
+use Rattle.primitives.proofs.SplineRow as T
+use Rattle.primitives.proofs.SplineRow.Laws as T′
 use Rattle.spline_list.proofs.row_at as row-at
 use Rattle.spline_list.proofs.row_at.Symbol as row-at-def
 use Rattle.spline_list.proofs.row_at.Symbol.{name as #spline_list·row-at}
@@ -107,8 +108,8 @@ kept-number = stay-dropped (plain (λ _. usize)) yes
 abbrev stayed : Stays (f.ended .signature .params) (f.ended .kept)
 stayed = (stay-slice (0 ∷ []) tt (plain (λ _. R)), (kept-col, (kept-col, (kept-col, (kept-col, (kept-col, (kept-flags, (kept-number, tt))))))))
 
-fills-len : (k : SplineTable) (i : ℕ) (ys : List Spline) → length (fills k i ys) ≡ length ys
-fills-len k i ys = stores-length (rowAtOf k) ys i
+fills-len : (k : SplineTable) (i : ℕ) (ys : List SplineRow) → length (fills k i ys) ≡ length ys
+fills-len k i ys = stores-length (splineAt k) ys i
 
 abbrev word : Ty
 word = tyInt w64
@@ -126,14 +127,14 @@ records = sliceTy (tyRef (named 0) mut (pointee (R .written)))
 abbrev RowAt : {M : Type 1} (𝓤 : URA M) (H : Heap 𝓤) (A : Atoms 𝓤) (mem : Memory → SProp 𝓤) (run : Routine → Fun 𝓤) → Contract 𝓤
 RowAt 𝓤 H A mem run = tripleOf 𝓤 H A row-at.signature (row-at.spec 𝓤 H A mem run)
 
-abbrev mach : Spline → Val
+abbrev mach : SplineRow → Val
 mach v = LL.tuple-val T.the-type T′.the-laws (T.the-type .to v)
 
 abbrev Floats : Type 0
 Floats = RefT (List Float)
 
 module _ {M : Type 1} (𝓤 : URA M) (H : Heap 𝓤) (A : Atoms 𝓤) (W : Given 𝓤 H A) (mem : Memory → SProp 𝓤) (run : Routine → Fun 𝓤)
-    (κ κ′ : Lft) (q q′ : Share) (b o : ℕ) (γ : GName) (ys : List Spline) (c₂ c₃ c₄ c₅ c₆ : Floats) (c₇ : RefT (List ℕ)) (n : ℕ) where
+    (κ κ′ : Lft) (q q′ : Share) (b o : ℕ) (γ : GName) (ys : List SplineRow) (c₂ c₃ c₄ c₅ c₆ : Floats) (c₇ : RefT (List ℕ)) (n : ℕ) where
   abbrev k : SplineTable
   k = splineTable (now c₂) (now c₃) (now c₄) (now c₅) (now c₆) (now c₇)
 
@@ -144,7 +145,7 @@ module _ {M : Type 1} (𝓤 : URA M) (H : Heap 𝓤) (A : Atoms 𝓤) (W : Given
   abbrev m : ℕ
   m = countOf agreed n
 
-  abbrev list-at : List Spline → RefT (List Spline)
+  abbrev list-at : List SplineRow → RefT (List SplineRow)
   list-at zs = record { ptr = (b, o); name = γ; now = zs }
 
   -- the columns: their types, values and machine values
@@ -316,12 +317,12 @@ module _ {M : Type 1} (𝓤 : URA M) (H : Heap 𝓤) (A : Atoms 𝓤) (W : Given
         (and-then ! (load ! (from ! (stop !)) (look ! 42 refl)) (and-then ! (load ! (from ! (stop !)) (look ! 40 refl))
         (and-then ! (load ! (from ! (stop !)) (look ! 38 refl)) (and-then ! (load ! (from ! (stop !)) (look ! 36 refl))
         (and-then ! (load ! (from ! (stop !)) (look ! 28 refl)) (no-more !)))))))) (λ w.
-        use1 W (later (some (λ (r : Spline). ((‵ (flft κ′ q′) ⊛ ‵ ftrue) ⊛ ‵ (R .own r (w ∷ []))) ⊛
+        use1 W (later (some (λ (r : SplineRow). ((‵ (flft κ′ q′) ⊛ ‵ ftrue) ⊛ ‵ (R .own r (w ∷ []))) ⊛
         raw (ensured 𝓤 H A row-at.ended (row-at.clauses 𝓤 H A mem run) (κ′, tt) (to-row i .0 .3) tt r)))) (id⊢ 𝓤 _) $
         await ! tt $ pick ! (λ r. split ! $ move ! (1 ∷ []) $
         use1 W (some (λ (zs : Lasts row-at.ended (κ′, tt) (to-row i .0 .3)). ‵ (lasts row-at.ended (κ′, tt) (to-row i .0 .3) zs) ⊛
-        raw (fact 𝓤 (r ≡ rowAtOf k i)))) (id⊢ 𝓤 _) $
-        pick ! (λ zs. split ! $ drop ! $ heard ! (r ≡ rowAtOf k i) (λ e. split ! $ move ! (1 ∷ []) $
+        raw (fact 𝓤 (r ≡ splineAt k i)))) (id⊢ 𝓤 _) $
+        pick ! (λ zs. split ! $ drop ! $ heard ! (r ≡ splineAt k i) (λ e. split ! $ move ! (1 ∷ []) $
         facts ! R (Is R) (shows 𝓤 H A R) r (w ∷ []) (λ is. split ! $
         land ! (from ! (stop !)) (init ! 11 refl (LL.lawful T.the-type T′.the-laws 𝓤 H A W .typed r _ is .0)) $
         rewrite ! 11 (λ (u : Val). ‵ (fat fullShare T′.mir l₂₀ 0 u)) (ap only (LL.tells T.the-type T′.the-laws r _ is) ∙ ap mach e) refl $
@@ -332,13 +333,13 @@ module _ {M : Type 1} (𝓤 : URA M) (H : Heap 𝓤) (A : Atoms 𝓤) (W : Given
         move ! (3 ∷ []) $ elem-out ! R (Is R) (shows 𝓤 H A R) (LL.vals T.the-type T′.the-laws) (LL.tells T.the-type T′.the-laws) fullShare (fills k i ys) i
         blank b o (there less) (λ _.
         assigns ! (of-opd ! (load ! (from ! (stop !)) (look ! 13 refl))) (from ! (hop ! (look ! 9 refl) (stop !)))
-        (store-raw ! 0 refl (LL.lawful T.the-type T′.the-laws 𝓤 H A W .typed (rowAtOf k i) _ (new r w e is) .0)) $
-        move ! (1 ∷ []) $ drop ! $ owned ! R (Is R) (LL.makes T.the-type T′.the-plain 𝓤 H A) (rowAtOf k i) _ (new r w e is) $ move ! (1 ∷ 0 ∷ []) $
-        elem-put ! R fullShare (fills k i ys) i (rowAtOf k i) (mach (rowAtOf k i) ∷ []) b o (there less) $
+        (store-raw ! 0 refl (LL.lawful T.the-type T′.the-laws 𝓤 H A W .typed (splineAt k i) _ (new r w e is) .0)) $
+        move ! (1 ∷ []) $ drop ! $ owned ! R (Is R) (LL.makes T.the-type T′.the-plain 𝓤 H A) (splineAt k i) _ (new r w e is) $ move ! (1 ∷ 0 ∷ []) $
+        elem-put ! R fullShare (fills k i ys) i (splineAt k i) (mach (splineAt k i) ∷ []) b o (there less) $
         assigns-last ! (bin ! (load ! (from ! (stop !)) (look ! 29 refl)) (lit ! tt) (next-fits less)) (from ! (stop !))
         (store ! 29 refl (tt, next-fits less)) $
         forget ! 13 refl $ forget ! 11 refl $ forget ! 9 refl $ forget ! 7 refl $
-        rewrite ! 29 (λ (j : ℕ). ‵ (fat fullShare word l₁₁ 0 (vint w64 j))) (one-more i) refl $
+        rewrite ! 29 (λ (j : ℕ). ‵ (fat fullShare word l₁₁ 0 (vint w64 j))) (add-one i) refl $
         keep ! (0 ∷ 4 ∷ 5 ∷ 6 ∷ 3 ∷ 1 ∷ 7 ∷ 8 ∷ 9 ∷ 10 ∷ 11 ∷ 12 ∷ 13 ∷ 14 ∷ 15 ∷ 16 ∷ 17 ∷ 18 ∷ 19 ∷ 20 ∷ 21 ∷ 22 ∷ 23 ∷ 24 ∷ 25 ∷ 26 ∷ 27 ∷ 28 ∷ 29 ∷ 30 ∷
         31 ∷ 32 ∷ 33 ∷ 34 ∷ 35 ∷ 36 ∷ 37 ∷ 38 ∷ 39 ∷ 40 ∷ 41 ∷ 42 ∷ 43 ∷ 44 ∷ 45 ∷ 46 ∷ 47 ∷ 48 ∷ 49 ∷ 50 ∷ 51 ∷ 52 ∷ []) $
         again ! Nearer At t (next less) (nearer less))))))))
@@ -393,8 +394,8 @@ module _ {M : Type 1} (𝓤 : URA M) (H : Heap 𝓤) (A : Atoms 𝓤) (W : Given
         nearer : (less : Holds (ltb i m)) → Nearer (next less) t
         nearer less = let h : i < m = less-is less in omega (arith, h)
 
-        new : (r : Spline) (w : Val) → r ≡ rowAtOf k i → Is R r (w ∷ []) → Is R (rowAtOf k i) (mach (rowAtOf k i) ∷ [])
-        new r w e is = subst (λ (v : Spline). Is R v (mach v ∷ [])) e (subst (Is R r) (LL.tells T.the-type T′.the-laws r _ is) is)
+        new : (r : SplineRow) (w : Val) → r ≡ splineAt k i → Is R r (w ∷ []) → Is R (splineAt k i) (mach (splineAt k i) ∷ [])
+        new r w e is = subst (λ (v : SplineRow). Is R v (mach v ∷ [])) e (subst (Is R r) (LL.tells T.the-type T′.the-laws r _ is) is)
 
   module _ (𝓣 : Tables 𝓤 H) (known : Triple 𝓤 (𝓣 .C #spline_list·row-at) (RowAt 𝓤 H A mem run))
       (says-agree : Triple 𝓤 (𝓣 .C #spline_list·agree) (Agree 𝓤 H A mem run))

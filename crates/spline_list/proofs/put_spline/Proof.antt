@@ -45,10 +45,10 @@ use denote.Triple.Spec.{Meets, tripleOf}
 use denote.Triple.Table.{entered}
 use denote.Triple.Walked.{says, Stays, stay-none, stay-slice, walkOf, goes-none, goes-slice, Walks, ends-at, walked, walk-meets}
 use denote.Exit.{yes}
-use Rattle.spline_list.specs.declared.Spline.{Spline}
+use Rattle.primitives.specs.declared.SplineRow.{SplineRow}
 use Rattle.spline_list.specs.Rows.{blank}
-use Rattle.spline_list.proofs.Spline as T
-use Rattle.spline_list.proofs.Spline.Laws as T′
+use Rattle.primitives.proofs.SplineRow as T
+use Rattle.primitives.proofs.SplineRow.Laws as T′
 use Rattle.spline_list.proofs.put_spline.Key.{name as #spline_list·put-spline}
 use Rattle.spline_list.proofs.put_spline as f
 use Rattle.spline_list.proofs.put_spline.Statement as stated
@@ -62,7 +62,7 @@ abbrev stayed : Stays (f.ended .signature .params) (f.ended .kept)
 stayed = (stay-slice (0 ∷ []) tt (plain (λ _. R)), (stay-none (λ _. usize) yes, (stay-none (λ _. R) yes, tt)))
 
 module _ {M : Type 1} (𝓤 : URA M) (H : Heap 𝓤) (A : Atoms 𝓤) (W : Given 𝓤 H A) (mem : Memory → SProp 𝓤) (run : Routine → Fun 𝓤) (κ : Lft) (q : Share)
-    (b o : ℕ) (γ : GName) (ys : List Spline) (i : ℕ) (v : Spline) where
+    (b o : ℕ) (γ : GName) (ys : List SplineRow) (i : ℕ) (v : SplineRow) where
   abbrev mach : Val
   mach = LL.tuple-val T.the-type T′.the-laws (T.the-type .to v)
 
@@ -75,7 +75,7 @@ module _ {M : Type 1} (𝓤 : URA M) (H : Heap 𝓤) (A : Atoms 𝓤) (W : Given
   abbrev Post : Val → SProp 𝓤
   Post = walkOf 𝓤 H A f.ended stayed (f.clauses 𝓤 H A mem run) .post bound
 
-  abbrev zs : List Spline
+  abbrev zs : List SplineRow
   zs = set ys i v
 
   exits : Room R (length ys) → (t : Bool) → t ≡ ltb i (length ys) → ent 𝓤

@@ -46,7 +46,7 @@ use denote.Triple.Clauses.{Lasts, ensured, lasts}
 use denote.Triple.Table.{entered, cited}
 use denote.Triple.Walked.{says, Stays, stay-none, stay-none-slice, walkOf, goes-none, goes-none-slice, Walks, ends-at, walked, walk-meets}
 use denote.Exit.{yes}
-use Rattle.spline_list.specs.declared.Spline.{Spline}
+use Rattle.primitives.specs.declared.SplineRow.{SplineRow}
 use Rattle.spline_list.specs.declared.Found.{Found}
 use Rattle.spline_list.specs.declared.Found.the-variants.{At, Past}
 use Rattle.spline_list.specs.Rows.{blank, splineAtOf}
@@ -60,8 +60,8 @@ use Rattle.spline_list.proofs.nowhere as nowhere
 use Rattle.spline_list.proofs.nowhere.Symbol as nowhere-def
 use Rattle.spline_list.proofs.nowhere.Symbol.{name as #nowhere}
 use Rattle.spline_list.proofs.nowhere.Met as nowhere-thm
-use Rattle.spline_list.proofs.Spline as T
-use Rattle.spline_list.proofs.Spline.Laws as T′
+use Rattle.primitives.proofs.SplineRow as T
+use Rattle.primitives.proofs.SplineRow.Laws as T′
 use Rattle.spline_list.proofs.spline_at.Key.{name as #spline_list·spline-at}
 use Rattle.spline_list.proofs.spline_at as f
 use Rattle.spline_list.proofs.spline_at.Statement as stated
@@ -85,14 +85,14 @@ abbrev Nowhere : {M : Type 1} (𝓤 : URA M) (H : Heap 𝓤) (A : Atoms 𝓤) (m
 Nowhere 𝓤 H A mem run = tripleOf 𝓤 H A nowhere.signature (nowhere.spec 𝓤 H A mem run)
 
 module _ {M : Type 1} (𝓤 : URA M) (H : Heap 𝓤) (A : Atoms 𝓤) (W : Given 𝓤 H A) (mem : Memory → SProp 𝓤) (run : Routine → Fun 𝓤) (κ : Lft) (q : Share)
-    (b o : ℕ) (γ : GName) (ys : List Spline) (i : ℕ) where
-  abbrev elem : Spline
+    (b o : ℕ) (γ : GName) (ys : List SplineRow) (i : ℕ) where
+  abbrev elem : SplineRow
   elem = getD ys i blank
 
   abbrev mach : Val
   mach = LL.tuple-val T.the-type T′.the-laws (T.the-type .to elem)
 
-  abbrev list-at : RefT (List Spline)
+  abbrev list-at : RefT (List SplineRow)
   list-at = record { ptr = (b, o); name = γ; now = ys }
 
   abbrev at : Vals f.signature (κ, tt)

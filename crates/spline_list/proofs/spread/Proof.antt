@@ -55,22 +55,23 @@ use denote.Triple.Clauses.{Lasts, ensured, lasts}
 use denote.Triple.Table.{entered, cited}
 use denote.Triple.Walked.{says, Stays, stay-dropped, stay-slice, walkOf, goes-dropped, goes-slice, Walks, ends-at, walked, walk-meets}
 use denote.Exit.{yes}
+use native.Mathlib.Numerals.{add-one}
 use Rattle.tables.specs.Tables.{SplineTable, splineTable}
 use Rattle.columns.proofs.flag_byte as flag-byte
 use Rattle.columns.proofs.flag_byte.Symbol as flag-byte-def
 use Rattle.columns.proofs.flag_byte.Symbol.{name as #columns·flag-byte}
 use Rattle.columns.proofs.flag_byte.Met as flag-byte-thm
-use Rattle.spline_list.specs.declared.Spline.{Spline}
+use Rattle.primitives.specs.declared.SplineRow.{SplineRow}
 use Rattle.spline_list.specs.declared.Copied.{Copied}
 use Rattle.spline_list.specs.Rows.{blank, equalOf, countOf, outcomeOf, spreads}
 use Rattle.spline_list.proofs.Columns.{after}
 use Rattle.spline_list.proofs.Laws.{curvature-of, p0x-of, p0y-of, p2x-of, p2y-of, contour-of, puts, puts-length, puts-spreads}
-use Rattle.spline_list.proofs.Agreed.{Equal, Rooms, equal, goes-on, all-or-none, one-more, Agree, Count, Outcome, to-agree, to-count, to-outcome}
+use Rattle.spline_list.proofs.Agreed.{Equal, Rooms, equal, goes-on, all-or-none, Agree, Count, Outcome, to-agree, to-count, to-outcome}
 use Rattle.spline_list.proofs.Agreed.{goes-agree, goes-count, goes-outcome}
 use Rattle.spline_list.proofs.Copied as C
 use Rattle.spline_list.proofs.Copied.Laws as C′
-use Rattle.spline_list.proofs.Spline as T
-use Rattle.spline_list.proofs.Spline.Laws as T′
+use Rattle.primitives.proofs.SplineRow as T
+use Rattle.primitives.proofs.SplineRow.Laws as T′
 use Rattle.spline_list.proofs.agree as agree
 use Rattle.spline_list.proofs.agree.Symbol as agree-def
 use Rattle.spline_list.proofs.agree.Symbol.{name as #spline_list·agree}
@@ -132,7 +133,7 @@ col j τ = sliceTy (tyRef (named j) mut τ)
 abbrev records : Ty
 records = sliceTy (tyRef (named 0) imm (pointee (R .written)))
 
-abbrev mach : Spline → Val
+abbrev mach : SplineRow → Val
 mach v = T′.lowered v
 
 -- the contract that the loop cites
@@ -143,8 +144,8 @@ abbrev Floats : Type 0
 Floats = RefT (List Float)
 
 module _ {M : Type 1} (𝓤 : URA M) (H : Heap 𝓤) (A : Atoms 𝓤) (W : Given 𝓤 H A) (mem : Memory → SProp 𝓤) (run : Routine → Fun 𝓤)
-    (κ₁ κ₂ κ₃ κ₄ κ₅ κ₆ κ₇ : Lft) (q₁ q₂ q₃ q₄ q₅ q₆ q₇ : Share) (x₁ : RefT (List Spline)) (x₂ x₃ x₄ x₅ x₆ : Floats) (x₇ : RefT (List ℕ)) (n : ℕ) where
-  abbrev ys : List Spline
+    (κ₁ κ₂ κ₃ κ₄ κ₅ κ₆ κ₇ : Lft) (q₁ q₂ q₃ q₄ q₅ q₆ q₇ : Share) (x₁ : RefT (List SplineRow)) (x₂ x₃ x₄ x₅ x₆ : Floats) (x₇ : RefT (List ℕ)) (n : ℕ) where
+  abbrev ys : List SplineRow
   ys = now x₁
 
   abbrev k : SplineTable
@@ -207,13 +208,13 @@ module _ {M : Type 1} (𝓤 : URA M) (H : Heap 𝓤) (A : Atoms 𝓤) (W : Given
   Post = walkOf 𝓤 H A f.ended stayed (f.clauses 𝓤 H A mem run) .post bound
 
   -- what the callees' triples bind outside
-  abbrev to-flag : Spline → FlagByte 𝓤 H A mem run .Ghost
+  abbrev to-flag : SplineRow → FlagByte 𝓤 H A mem run .Ghost
   to-flag v = ((tt, tt, tt, (v .contour, tt), (vbool (v .contour) ∷ [], tt)), tt)
 
   abbrev asks : Agree 𝓤 H A mem run .Ghost
   asks = to-agree 𝓤 H A mem run ys k n
 
-  goes-flag : (v : Spline) → ent 𝓤 (emp 𝓤) (FlagByte 𝓤 H A mem run .pre (to-flag v))
+  goes-flag : (v : SplineRow) → ent 𝓤 (emp 𝓤) (FlagByte 𝓤 H A mem run .pre (to-flag v))
   goes-flag v = qed W [] ∵ nothing ! $ owned ! bool (Is bool) (bool-makes 𝓤 H A W) (v .contour) _ refl $ fjoin ! $ nothing ! $ join ! $ frame ! $ done !
 
   -- what holds once i records are stored and the borrows are closed
@@ -486,7 +487,7 @@ module _ {M : Type 1} (𝓤 : URA M) (H : Heap 𝓤) (A : Atoms 𝓤) (W : Given
         (store ! 64 refl (tt, next-fits less)) $
         forget ! 62 refl $ forget ! 46 refl $ forget ! 44 refl $ forget ! 42 refl $ forget ! 40 refl $ forget ! 38 refl $ forget ! 36 refl $
         forget ! 34 refl $ forget ! 32 refl $ forget ! 30 refl $ forget ! 28 refl $ forget ! 26 refl $
-        rewrite ! 64 (λ (j : ℕ). ‵ (fat fullShare word l₁₁ 0 (vint w64 j))) (one-more i) refl $
+        rewrite ! 64 (λ (j : ℕ). ‵ (fat fullShare word l₁₁ 0 (vint w64 j))) (add-one i) refl $
         keep ! (6 ∷ 7 ∷ 5 ∷ 8 ∷ 9 ∷ 10 ∷ 4 ∷ 11 ∷ 12 ∷ 13 ∷ 3 ∷ 14 ∷ 15 ∷ 16 ∷ 2 ∷ 17 ∷ 18 ∷ 19 ∷ 1 ∷ 20 ∷ 21 ∷ 22 ∷ 0 ∷ 23 ∷ 24 ∷ 25 ∷ 26 ∷ 27 ∷ 28 ∷ 29 ∷
         30 ∷ 31 ∷ 32 ∷ 33 ∷ 34 ∷ 35 ∷ 36 ∷ 37 ∷ 38 ∷ 39 ∷ 40 ∷ 41 ∷ 42 ∷ 43 ∷ 44 ∷ 45 ∷ 46 ∷ 47 ∷ 48 ∷ 49 ∷ 50 ∷ 51 ∷ 52 ∷ 53 ∷ 54 ∷ 55 ∷ 56 ∷ 57 ∷ 58 ∷ 59
         ∷ 60 ∷ 61 ∷ 62 ∷ 63 ∷ 64 ∷ 65 ∷ 66 ∷ 67 ∷ 68 ∷ 69 ∷ 70 ∷ 71 ∷ 72 ∷ 73 ∷ 74 ∷ 75 ∷ 76 ∷ 77 ∷ 78 ∷ 79 ∷ 80 ∷ 81 ∷ 82 ∷ 83 ∷ 84 ∷ 85 ∷ 86 ∷ 87 ∷ []) $
@@ -526,7 +527,7 @@ module _ {M : Type 1} (𝓤 : URA M) (H : Heap 𝓤) (A : Atoms 𝓤) (W : Given
         i : ℕ
         i = t .0
 
-        v : Spline
+        v : SplineRow
         v = getD ys i blank
 
         less-is : Holds (ltb i m) → i < m
@@ -541,7 +542,7 @@ module _ {M : Type 1} (𝓤 : URA M) (H : Heap 𝓤) (A : Atoms 𝓤) (W : Given
         inside : Holds (ltb i m) → i < length ys
         inside less = let h : i < n = below less in let e : n ≡ length ys = equal-at less .list-is in omega (arith, h, e)
 
-        in-column : {X : Type 0} (g : Spline → X) (xs : List X) → n ≤ length xs → Holds (ltb i m) → i < length (puts g i ys xs)
+        in-column : {X : Type 0} (g : SplineRow → X) (xs : List X) → n ≤ length xs → Holds (ltb i m) → i < length (puts g i ys xs)
         in-column g xs has less = let h : i < n = below less in let e : length (puts g i ys xs) ≡ length xs = puts-length g i ys xs in
             omega (arith, h, e, has)
 

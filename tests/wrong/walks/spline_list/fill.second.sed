@@ -1,11 +1,11 @@
 # `row_at` is called with 0: after i turns the first i records are the first row.
 s/outcomeOf, fills}/outcomeOf, stores}/
 /^fills-len : /i\
-abbrev fills : SplineTable → ℕ → List Spline → List Spline\
-fills t n ys = stores (λ (j : ℕ). rowAtOf t 0) n ys\
+abbrev fills : SplineTable → ℕ → List SplineRow → List SplineRow\
+fills t n ys = stores (λ (j : ℕ). splineAt t 0) n ys\
 
-s/stores-length (rowAtOf k) ys i/stores-length (λ (j : ℕ). rowAtOf k 0) ys i/
-s/rowAtOf k i/rowAtOf k 0/g
+s/stores-length (splineAt k) ys i/stores-length (λ (j : ℕ). splineAt k 0) ys i/
+s/splineAt k i/splineAt k 0/g
 /^    turns t =/,/again !/{
 s/(to-row i/(to-row 0/g
 s/(goes i)/(goes 0)/

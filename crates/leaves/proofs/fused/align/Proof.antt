@@ -3,7 +3,7 @@ use mathlib.Core.Path.{_≡_, refl, sym, ap, _∙_, subst}
 use mathlib.Core.Logic.{_⊎_, inl, inr, ⊎-elim}
 use mathlib.Core.Bool.{Bool}
 use Prim.Native.Nat.{ℕ, suc, _+_, _-_, _*_, _/_, _%_, _^_, _≤_, _<_}
-use native.Mathlib.Nat.{mul-assoc, lt-of-lt-of-le, le-of-suc-le-suc, div-le-self, le-of-eq}
+use native.Mathlib.Nat.{mul-assoc, lt-of-lt-of-le, le-of-suc-le-suc, div-le-self, le-of-eq, le-of-lt, sub-pos-iff-lt}
 use native.Mathlib.Omega.{arith}
 use borrow.Author.Needs.{needs}
 use lib.Pow.{pow-add, pow-mono, shr-lt}
@@ -96,12 +96,6 @@ high-x q d x Q z X = last (q / 2 ^ d) (div-le-self q (2 ^ d)) Q z X
     last : (r : ℕ) → r ≤ q → q < 2305843009213693952 → q % 137438953472 ≡ 0 → x ≤ r + 1 → x < 2305843009213693952
     last r a b c e = omega arith
 
-less : (a b : ℕ) → a < b → a ≤ b
-less a b h = omega arith
-
-gap : (a b : ℕ) → a < b → 0 < b - a
-gap a b h = omega arith
-
 none : (a : ℕ) → a - a ≡ 0
 none a = omega arith
 
@@ -123,12 +117,12 @@ module _ (s t : Bool) (p pe q qe x y : ℕ) (A : Aligns p pe q qe) where
   product-moves h j k =
       let e : y ≡ q = k .2 (none qe) in
       record {
-        x-lt = low-x p (qe - pe) x (A .p-lt) (gap pe qe h) (j .1);
+        x-lt = low-x p (qe - pe) x (A .p-lt) (sub-pos-iff-lt .1 h) (j .1);
         y-lt = subst (λ (n : ℕ). n < 2 ^ 61) (sym e) (A .q-lt);
         z-lt = A .qe-lt;
         same =
             ap (λ (n : ℕ). sum binary32 s (x * 2 ^ qe) t (n * 2 ^ qe) (2 ^ 311)) e
-            ∙ stands s t p pe q qe x 13 (less pe qe h) (A .p-zeros) (even-q q (A .q-zeros)) (j .0) (low-cond p q qe (qe - pe) x (A .p-lt) (A .q-leads) (j .1));
+            ∙ stands s t p pe q qe x 13 (le-of-lt h) (A .p-zeros) (even-q q (A .q-zeros)) (j .0) (low-cond p q qe (qe - pe) x (A .p-lt) (A .q-leads) (j .1));
       }
 
   addend-moves : qe ≤ pe → Jam p (pe - pe) x → Jam q (pe - qe) y → Brought s t p pe q qe pe x y

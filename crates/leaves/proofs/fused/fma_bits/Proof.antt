@@ -3,7 +3,7 @@ use mathlib.Core.Path.{_≡_, refl, sym, ap, ap₂, _∙_, subst}
 use mathlib.Core.Logic.{_⊎_, inl, inr}
 use mathlib.Core.Bool.{Bool, true, false, cond}
 use Prim.Native.Nat.{ℕ, _+_, _-_, _*_, _%_, _^_, _≤_, _<_}
-use native.Mathlib.Nat.{mul-assoc, mul-comm, mul-left-comm, mul-lt-mul-of-pos-right, mul-le-mul-left, mul-le-mul-right, mul-mod-left, mod-eq-of-lt}
+use native.Mathlib.Nat.{mul-assoc, mul-comm, mul-left-comm, mul-lt-mul-of-pos-right, mul-le-mul-left, mul-le-mul-right, mul-mod-left, mod-eq-of-lt, ne-of-gt}
 use native.Mathlib.Nat.{lt-of-lt-of-le, lt-of-le-of-lt, le-trans, le-of-lt, le-of-eq, mul-one, one-mul, zero-mul, mul-zero, eq-zero-or-pos}
 use native.Mathlib.Omega.{arith}
 use borrow.Author.Needs.{needs}
@@ -61,14 +61,11 @@ module _ (x y i j : ℕ) (X : x < 16777216) (Y : y < 16777216) (I : i ≤ 254) (
       both : i ≡ 0 → j ≡ 0 → i + j ≡ 0
       both a b = omega arith
 
-      none : (n : ℕ) → n ≡ 0 → 0 < n → ⊥
-      none n e h = omega arith
-
       first : (x y : ℕ) → 0 < x * y → 1 ≤ x
-      first x y h = elim (eq-zero-or-pos x) [ inl z ↦ absurd (none (x * y) (ap (λ (n : ℕ). n * y) z ∙ zero-mul y) h) | inr l ↦ l ]
+      first x y h = elim (eq-zero-or-pos x) [ inl z ↦ absurd (ne-of-gt h (ap (λ (n : ℕ). n * y) z ∙ zero-mul y)) | inr l ↦ l ]
 
       second : (x y : ℕ) → 0 < x * y → 1 ≤ y
-      second x y h = elim (eq-zero-or-pos y) [ inl z ↦ absurd (none (x * y) (ap (λ (n : ℕ). x * n) z ∙ mul-zero x) h) | inr l ↦ l ]
+      second x y h = elim (eq-zero-or-pos y) [ inl z ↦ absurd (ne-of-gt h (ap (λ (n : ℕ). x * n) z ∙ mul-zero x)) | inr l ↦ l ]
 
   leading : (cond (eqb (x * y * 8192) 0) 0 (i + j) ≡ 0) ⊎ (68719476736 ≤ x * y * 8192)
   leading = elim (eq-zero-or-pos (x * y)) [

@@ -4,10 +4,11 @@ use mathlib.Core.Path.{_≡_, refl, sym, ap, ap₂, _∙_}
 use mathlib.Core.Logic.{inl, inr}
 use Prim.Native.Nat.{ℕ, suc, _+_, _-_, _*_, _/_, _%_, _^_, _≤_, _<_, zero-le}
 use native.Mathlib.Nat.{zero-mul, one-mul, mul-assoc, mul-comm, mul-left-comm, add-mul, pow-suc, div-mul-le-self, div-le-self, div-one, mul-one, div-add-mod'}
-use native.Mathlib.Nat.{mod-lt, lt-of-lt-of-le, le-refl, le-add-left}
+use native.Mathlib.Nat.{le-add-right, mod-lt, lt-of-lt-of-le, le-refl, le-add-left}
 use native.Mathlib.Omega.{arith}
 use borrow.Author.Needs.{needs}
 use lib.Pow.{pow-pos, pow-mono}
+use Rattle.facts.proofs.Numbers.{halves}
 use Rattle.rounding.specs.Alike.{Alike}
 use Rattle.leaves.proofs.Shifts.{back-is}
 use Rattle.leaves.proofs.parts.jam.Statement.{statement}
@@ -51,24 +52,18 @@ tiny x d X D h = (
 
 module _ (x d : ℕ) (X : x < 2 ^ 64) where
   exact : x / 2 ^ d * 2 ^ d % 2 ^ 64 ≡ x → Alike (suc d) x (x / 2 ^ d * 2 ^ d) × (x / 2 ^ d ≤ x / 2 ^ d + 1)
-  exact e = (inl (sym e ∙ back-is x (2 ^ d) X), more (x / 2 ^ d))
-    where
-      more : (q : ℕ) → q ≤ q + 1
-      more q = omega arith
+  exact e = (inl (sym e ∙ back-is x (2 ^ d) X), le-add-right (x / 2 ^ d) 1)
 
   evens : x / 2 ^ d % 2 ≡ 0 → (x / 2 ^ d * 2 ^ d % 2 ^ 64 ≡ x → ⊥) → Alike (suc d) x ((x / 2 ^ d + 1) * 2 ^ d) × (x / 2 ^ d + 1 ≤ x / 2 ^ d + 1)
   evens e n =
       let w = 2 ^ d in
       let q = x / w in
-      let half : 2 * (q / 2 * w) ≡ q * w = sym (mul-assoc 2 (q / 2) w) ∙ ap (λ (y : ℕ). y * w) (whole q e) in (
+      let half : 2 * (q / 2 * w) ≡ q * w = sym (mul-assoc 2 (q / 2) w) ∙ ap (λ (y : ℕ). y * w) (halves q e) in (
         alike-odd x d (q / 2) (q + 1) (one-up q e) (lower (2 * (q / 2 * w)) (q * w) half (div-mul-le-self x w) (λ k. n (back-is x w X ∙ k)))
             (upper (2 * (q / 2 * w)) (q * w) w half (floor-lt x w (pow-pos d))),
         le-refl (q + 1),
       )
     where
-      whole : (q : ℕ) → q % 2 ≡ 0 → 2 * (q / 2) ≡ q
-      whole q e = omega arith
-
       one-up : (q : ℕ) → q % 2 ≡ 0 → q + 1 ≡ 2 * (q / 2) + 1
       one-up q e = omega arith
 
@@ -86,7 +81,7 @@ module _ (x d : ℕ) (X : x < 2 ^ 64) where
       ∙ ap₂ (λ (a b : ℕ). a + b) (mul-assoc 2 (q / 2) w) (one-mul w) in (
         alike-odd x d (q / 2) q (split q e) (lower (2 * (q / 2 * w)) (q * w) w half (pow-pos d) (div-mul-le-self x w))
             (upper (2 * (q / 2 * w)) (q * w) w half (floor-lt x w (pow-pos d))),
-        more q,
+        le-add-right q 1,
       )
     where
       split : (q : ℕ) → (q % 2 ≡ 0 → ⊥) → q ≡ 2 * (q / 2) + 1
@@ -97,9 +92,6 @@ module _ (x d : ℕ) (X : x < 2 ^ 64) where
 
       upper : (a b w : ℕ) → b ≡ a + w → x < b + w → x < a + 2 * w
       upper a b w e l = omega arith
-
-      more : (q : ℕ) → q ≤ q + 1
-      more q = omega arith
 
 -- ---- a shift by nothing
 unmoved : (x d : ℕ) → d ≡ 0 → x / 2 ^ d ≡ x

@@ -3,12 +3,13 @@ use mathlib.Core.Path.{_≡_, refl, sym, ap, _∙_, subst}
 use mathlib.Core.Logic.{_⊎_, inr}
 use mathlib.Core.Bool.{false}
 use Prim.Native.Nat.{ℕ, zero, suc, _+_, _-_, _*_, _/_, _%_, _^_, _≤_, _<_}
-use native.Mathlib.Nat.{mul-assoc, mul-one, lt-of-lt-of-le, mod-eq-of-lt}
+use native.Mathlib.Nat.{mul-assoc, mul-one, lt-of-lt-of-le, mod-eq-of-lt, mod-lt, zero-lt-suc}
 use native.Mathlib.Omega.{arith}
 use borrow.Author.Needs.{needs}
 use lib.Dec.{lit<, lit≤}
 use lib.Pow.{pow-add}
 use lib.Ieee.{binary32, units}
+use Rattle.facts.proofs.Numbers.{no-digit}
 use Rattle.rounding.specs.Roots.{rooted, IsNear}
 use Rattle.rounding.proofs.RootTest.{near-ge, near-le, rooted-near}
 use Rattle.leaves.proofs.root.root_parts.Statement.{statement}
@@ -28,20 +29,14 @@ module _ (w : ℕ) (lo : 8388608 ≤ w) (hi : w < 16777216) where
   shifted : (t : ℕ) → t < 2 → (w * 8388608 * (1 + t) ≡ w * 2 ^ (23 + t)) × (70368744177664 ≤ w * 8388608 * (1 + t)) × (w * 8388608 * (1 + t) < 281474976710656)
   shifted zero h = (mul-one (w * 8388608), omega (arith, lo), omega (arith, hi))
   shifted (suc zero) h = (mul-assoc w 8388608 2, omega (arith, lo), omega (arith, hi))
-  shifted (suc (suc t)) h = absurd (no t h)
-    where
-      no : (t : ℕ) → suc (suc t) < 2 → ⊥
-      no t h = omega arith
-
-last : (p : ℕ) → p % 2 < 2
-last p = omega arith
+  shifted (suc (suc t)) h = absurd (no-digit t h)
 
 -- w, which is m * 2 ^ l, with p = e + 126 - l
 module _ (w p r : ℕ) (lo : 8388608 ≤ w) (hi : w < 16777216) (v : IsNear (w * 8388608 * (1 + p % 2)) r) where
   asked : p < 1150 → (r ≤ 16777216) × (p / 2 < 65536) × ((p / 2 ≡ 0) ⊎ (8388608 ≤ r))
   asked l =
       let n = w * 8388608 * (1 + p % 2) in
-      let z = shifted w lo hi (p % 2) (last p) in
+      let z = shifted w lo hi (p % 2) (mod-lt p (zero-lt-suc 1)) in
       (near-le n r v (z .2), small p l, inr (near-ge n r v (z .1) (z .2)))
     where
       small : (p : ℕ) → p < 1150 → p / 2 < 65536
@@ -51,7 +46,7 @@ module _ (w p r : ℕ) (lo : 8388608 ≤ w) (hi : w < 16777216) (v : IsNear (w *
   value m e l s q h =
       let n = w * 8388608 * (1 + p % 2) in
       let k = p / 2 in
-      let z = shifted w lo hi (p % 2) (last p) in
+      let z = shifted w lo hi (p % 2) (mod-lt p (zero-lt-suc 1)) in
       sym (subst (λ (x : ℕ). rooted binary32 (n * (2 ^ x * 2 ^ x)) ≡ units binary32 false r x) (up p e l q h) (rooted-near n r ((p - 2) / 2) v (z .1) (z .2)))
       ∙ ap (λ (x : ℕ). rooted binary32 x)
       (ap (λ (x : ℕ). x * (2 ^ k * 2 ^ k)) (z .0 ∙ ap (λ (x : ℕ). x * 2 ^ (23 + p % 2)) s) ∙ regroup m e l (23 + p % 2) k (even p e l q h))
@@ -74,7 +69,7 @@ module _ (m l : ℕ) (lo : 2 ^ 23 ≤ m * 2 ^ l) (hi : m * 2 ^ l < 2 ^ 24) where
   high = subst (λ (x : ℕ). x < 16777216) (sym same) hi
 
   n-bounds : (p : ℕ) → (70368744177664 ≤ m * 2 ^ l % 2 ^ 64 * 8388608 * (1 + p % 2)) × (m * 2 ^ l % 2 ^ 64 * 8388608 * (1 + p % 2) < 281474976710656)
-  n-bounds p = let z = shifted (m * 2 ^ l % 2 ^ 64) low high (p % 2) (last p) in (z .1, z .2)
+  n-bounds p = let z = shifted (m * 2 ^ l % 2 ^ 64) low high (p % 2) (mod-lt p (zero-lt-suc 1)) in (z .1, z .2)
 
 lift-requires : tie.Need-lift-requires
 lift-requires c κs = search needs

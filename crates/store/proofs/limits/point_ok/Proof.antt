@@ -1,6 +1,6 @@
 -- `store::limits::point_ok` meets its contract: both coordinates. Assumes nothing.
 use borrow.Author.Needs.{needs}
-use Rattle.store.proofs.Tests.{and-true}
+use mathlib.Core.Bool.{and-true}
 use Rattle.store.proofs.limits.point_ok.Statement.{statement}
 use Rattle.store.proofs.limits.point_ok.Tie as tie
 use Rattle.store.specs.Drawing.{every}

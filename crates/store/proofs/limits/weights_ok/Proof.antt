@@ -1,6 +1,6 @@
 -- `store::limits::weights_ok` meets its contract: by the case of the call. Assumes nothing.
 use borrow.Author.Needs.{needs}
-use Rattle.store.proofs.Tests.{and-true}
+use mathlib.Core.Bool.{and-true}
 use Rattle.store.proofs.limits.weights_ok.Statement.{statement}
 use Rattle.store.proofs.limits.weights_ok.Tie as tie
 use Rattle.store.specs.Drawing.{every, weightsOf}
