@@ -1,8 +1,8 @@
--- `flatten_cases::comparing::draw` meets its contract: it ends. Assumes nothing.
+-- `flatten_cases::calls::draw` meets its contract: it ends. Assumes nothing.
 use Prim.Native.Nat.{_≤_}
 use borrow.Author.Needs.{needs}
-use Rattle.flatten_cases.proofs.comparing.draw.Statement.{statement}
-use Rattle.flatten_cases.proofs.comparing.draw.Tie as tie
+use Rattle.flatten_cases.proofs.calls.draw.Statement.{statement}
+use Rattle.flatten_cases.proofs.calls.draw.Tie as tie
 
 abbrev Inv-loop : tie.InvT-loop
 Inv-loop x₀ y₀ weight₀ commands₀ calls drawn₀ left₀ x y weight commands drawn left = left ≤ calls
