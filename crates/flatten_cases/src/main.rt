@@ -1,14 +1,29 @@
 // Replays the original Rust's answers, from standard input: draws each listed drawing, flattens it and compares the store, both tables, words and points, number
-// by number. It writes the number of each drawing that differs, and how many hold. tests/rust/answers/README.md says how the list is laid out and made.
-mod comparing;
-mod reading;
+// by number. Then it flattens the small ones, in both settings, with each column of the tables full before each entry in turn. Last come the drawings past a limit.
+// It writes the number of each drawing that differs, and how many hold. tests/rust/answers/README.md says how the list is laid out and made.
+mod calls;
+mod flattening;
+mod layout;
+mod limits;
+mod longest;
+mod refusing;
 
+use flattening::NONE;
+use layout::ALL;
+use layout::rows_follow;
 use libc::STDOUT_FILENO;
 use point::Setting;
+use refusing::each_column;
+use replay::Tally;
 use store::StoreState;
 
-// The counts and the open index of a drawing's first row.
+// As many drawings from the first on, all small, are flattened with full columns too.
+const FULL: u32 = 242;
+
+// The first row of a drawing: its setting, and how many of each there are.
 struct Expected {
+    setting: u32,
+    calls: u32,
     points: u32,
     commands: u32,
     opening: u32,
@@ -17,14 +32,29 @@ struct Expected {
     words: u32,
 }
 
+// Whether a drawing is as listed, and its runs with a full column; then the same of all drawings.
+struct Replayed {
+    same: bool,
+    full: Tally,
+}
+
+struct Total {
+    same: Tally,
+    full: Tally,
+}
+
 fn counts() -> Expected {
-    let points = reading::number();
-    let commands = reading::number();
-    let opening = reading::number();
-    let quads = reading::number();
-    let splines = reading::number();
-    let words = reading::number();
+    let setting = replay::number();
+    let calls = replay::number();
+    let points = replay::number();
+    let commands = replay::number();
+    let opening = replay::number();
+    let quads = replay::number();
+    let splines = replay::number();
+    let words = replay::number();
     Expected {
+        setting,
+        calls,
         points,
         commands,
         opening,
@@ -42,226 +72,135 @@ fn setting_of(number: u32) -> Setting {
 }
 
 // Done, with as many of each as expected.
-fn is_expected(r: flatten::Flattened, expected: Expected) -> bool {
+fn is_expected(r: flatten::Flattened, due: Expected) -> bool {
     let answer = r.answer;
     let done = answer::is_done(answer);
     done
-        & (r.quads == expected.quads as usize)
-        & (r.splines == expected.splines as usize)
-        & (r.points == expected.words as usize)
+        & (r.quads == due.quads as usize)
+        & (r.splines == due.splines as usize)
+        & (r.points == due.words as usize)
 }
 
-// Flattens into these columns: whether it is done, with as many of each as expected.
-fn flattened(
-    x: &[f32],
-    y: &[f32],
-    weight: &[f32],
-    commands: &[u8],
-    quad_x: &mut [f32; 384],
-    quad_y: &mut [f32; 384],
-    quad_weight: &mut [f32; 384],
-    x0: &mut [f32; 128],
-    dx_recip: &mut [f32; 128],
-    k0: &mut [f32; 128],
-    dk: &mut [f32; 128],
-    curvatures_recip: &mut [f32; 128],
-    partial_curvatures: &mut [f32; 128],
-    partial_splines: &mut [u32; 128],
-    curvature: &mut [f32; 64],
-    p0x: &mut [f32; 64],
-    p0y: &mut [f32; 64],
-    p2x: &mut [f32; 64],
-    p2y: &mut [f32; 64],
-    contour: &mut [u8; 64],
-    words: &mut [u32; 1024],
-    out_x: &mut [f32; 1024],
-    out_y: &mut [f32; 1024],
-    out_end: &mut [u8; 1024],
-    st: StoreState,
-    setting: Setting,
-    expected: Expected,
-) -> bool {
-    let r = flatten::flatten(
-        setting,
-        st,
-        x,
-        y,
-        weight,
-        commands,
-        quad_x,
-        quad_y,
-        quad_weight,
-        x0,
-        dx_recip,
-        k0,
-        dk,
-        curvatures_recip,
-        partial_curvatures,
-        partial_splines,
-        curvature,
-        p0x,
-        p0y,
-        p2x,
-        p2y,
-        contour,
-        words,
-        out_x,
-        out_y,
-        out_end,
-    );
-    is_expected(r, expected)
+fn is_stored(st: StoreState, due: Expected) -> bool {
+    (st.points == due.points as usize)
+        & (st.commands == due.commands as usize)
+        & (st.opening == due.opening as usize)
 }
 
-// Flattens and compares all that it leaves.
-fn flattens(
-    x: &[f32],
-    y: &[f32],
-    weight: &[f32],
-    commands: &[u8],
-    st: StoreState,
-    setting: Setting,
-    expected: Expected,
-) -> bool {
-    let mut quad_x = [0.0f32; 384];
-    let mut quad_y = [0.0f32; 384];
-    let mut quad_weight = [0.0f32; 384];
-    let mut x0 = [0.0f32; 128];
-    let mut dx_recip = [0.0f32; 128];
-    let mut k0 = [0.0f32; 128];
-    let mut dk = [0.0f32; 128];
-    let mut curvatures_recip = [0.0f32; 128];
-    let mut partial_curvatures = [0.0f32; 128];
-    let mut partial_splines = [0u32; 128];
-    let mut curvature = [0.0f32; 64];
-    let mut p0x = [0.0f32; 64];
-    let mut p0y = [0.0f32; 64];
-    let mut p2x = [0.0f32; 64];
-    let mut p2y = [0.0f32; 64];
-    let mut contour = [0u8; 64];
-    let mut words = [0u32; 1024];
-    let mut out_x = [0.0f32; 1024];
-    let mut out_y = [0.0f32; 1024];
-    let mut out_end = [0u8; 1024];
-    let done = flattened(
-        x,
-        y,
-        weight,
-        commands,
-        &mut quad_x,
-        &mut quad_y,
-        &mut quad_weight,
-        &mut x0,
-        &mut dx_recip,
-        &mut k0,
-        &mut dk,
-        &mut curvatures_recip,
-        &mut partial_curvatures,
-        &mut partial_splines,
-        &mut curvature,
-        &mut p0x,
-        &mut p0y,
-        &mut p2x,
-        &mut p2y,
-        &mut contour,
-        &mut words,
-        &mut out_x,
-        &mut out_y,
-        &mut out_end,
-        st,
-        setting,
-        expected,
-    );
-    let quads = comparing::quads_are(
-        &quad_x,
-        &quad_y,
-        &quad_weight,
-        &x0,
-        &dx_recip,
-        &k0,
-        &dk,
-        &curvatures_recip,
-        &partial_curvatures,
-        &partial_splines,
-        expected.quads,
-    );
-    let splines = comparing::splines_are(
-        &curvature,
-        &p0x,
-        &p0y,
-        &p2x,
-        &p2y,
-        &contour,
-        expected.splines,
-    );
-    let outputs = comparing::outputs_are(&words, &out_x, &out_y, &out_end, expected.words);
-    done & quads & splines & outputs
+// The rows of the store, of both tables and of the outputs.
+fn all_follow(seen: &[u32; ALL], due: Expected) -> bool {
+    let points = rows_follow(seen, 0, 3, due.points);
+    let commands = rows_follow(seen, 3, 4, due.commands);
+    let quads = rows_follow(seen, layout::QUADS, layout::SPLINES, due.quads);
+    let splines = rows_follow(seen, layout::SPLINES, layout::OUTPUTS, due.splines);
+    let outputs = rows_follow(seen, layout::OUTPUTS, layout::END, due.words);
+    points & commands & quads & splines & outputs
 }
 
-// The store as it was drawn, then the flattening.
+// The store as it was drawn, and the flattening.
 fn holds(
     x: &[f32; 256],
     y: &[f32; 256],
     weight: &[f32; 256],
     commands: &[u8; 256],
     st: StoreState,
-    setting: Setting,
-    expected: Expected,
+    due: Expected,
 ) -> bool {
-    let counted = (st.points == expected.points as usize)
-        & (st.commands == expected.commands as usize)
-        & (st.opening == expected.opening as usize);
-    let stored = comparing::points_are(x, y, weight, expected.points);
-    let commanded = comparing::commands_are(commands, expected.commands);
-    let flat = flattens(x, y, weight, commands, st, setting, expected);
-    counted & stored & commanded & flat
+    let mut seen = [0u32; ALL];
+    flattening::put_store(&mut seen, x, y, weight, commands);
+    let setting = setting_of(due.setting);
+    let r = flattening::flattened(x, y, weight, commands, st, setting, NONE, 0, &mut seen);
+    let followed = all_follow(&seen, due);
+    is_stored(st, due) & is_expected(r, due) & followed
+}
+
+// A drawing of the screen setting, which is listed in the other setting only where that differs.
+fn full(
+    x: &[f32; 256],
+    y: &[f32; 256],
+    weight: &[f32; 256],
+    commands: &[u8; 256],
+    st: StoreState,
+    due: Expected,
+) -> Tally {
+    if due.setting > 0 {
+        return replay::none();
+    }
+    let screen = each_column(x, y, weight, commands, st, Setting::Screen);
+    let knife = each_column(x, y, weight, commands, st, Setting::Knife);
+    replay::both(screen, knife)
 }
 
 // One drawing of the list.
-fn case() -> bool {
-    let setting = setting_of(reading::number());
-    let calls = reading::number();
-    let expected = counts();
+fn case(k: u32) -> Replayed {
+    let due = counts();
     let mut x = [0.0f32; 256];
     let mut y = [0.0f32; 256];
     let mut weight = [0.0f32; 256];
     let mut commands = [0u8; 256];
-    let drawn = comparing::draw(&mut x, &mut y, &mut weight, &mut commands, calls);
+    let drawn = calls::draw(&mut x, &mut y, &mut weight, &mut commands, due.calls);
     let st = drawn.state;
     let answer = drawn.answer;
     let done = answer::is_done(answer);
-    let same = holds(&x, &y, &weight, &commands, st, setting, expected);
-    done & same
+    let held = holds(&x, &y, &weight, &commands, st, due);
+    let runs = if k < FULL {
+        full(&x, &y, &weight, &commands, st, due)
+    } else {
+        replay::none()
+    };
+    Replayed {
+        same: done & held,
+        full: runs,
+    }
 }
 
-fn differs(k: u32) {
+// Names a drawing that differs.
+fn told(k: u32, c: Replayed) {
+    if c.same & (c.full.right == c.full.all) {
+        return;
+    }
     io::write_all(STDOUT_FILENO, b"drawing ");
     io::print_decimal(STDOUT_FILENO, k as u64);
     io::write_all(STDOUT_FILENO, b" differs\n");
 }
 
-// How many of the n drawings hold.
-fn cases(n: u32) -> u32 {
-    let mut right = 0u32;
+fn cases(n: u32) -> Total {
+    let mut same = replay::none();
+    let mut full = replay::none();
     let mut k = 0u32;
     while k < n {
-        if case() {
-            right = std::num::wrapping_add_u32(right, 1);
-        } else {
-            differs(k);
-        }
+        let c = case(k);
+        let runs = c.full;
+        same = replay::counted(same, c.same);
+        full = replay::both(full, runs);
+        told(k, c);
         k += 1;
     }
-    right
+    Total { same, full }
 }
 
 fn main() {
-    let n = reading::number();
-    let right = cases(n);
-    io::print_decimal(STDOUT_FILENO, right as u64);
-    io::write_all(STDOUT_FILENO, b" of ");
-    io::print_decimal(STDOUT_FILENO, n as u64);
+    let r = cases(replay::number());
+    let same = r.same;
+    replay::print_of(same);
     io::write_all(
         STDOUT_FILENO,
         b" drawings are as the original Rust flattens them\n",
+    );
+    let full = r.full;
+    replay::print_of(full);
+    io::write_all(
+        STDOUT_FILENO,
+        b" runs with a full column are refused and keep what was pushed\n",
+    );
+    replay::print_of(limits::each_setting());
+    io::write_all(
+        STDOUT_FILENO,
+        b" runs past a limit are refused and keep what was pushed\n",
+    );
+    replay::print_of(longest::rows());
+    io::write_all(
+        STDOUT_FILENO,
+        b" rows of quads are flattened up to a sum of 65,536 and refused beyond\n",
     );
 }

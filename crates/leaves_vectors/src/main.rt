@@ -1,30 +1,7 @@
 // Runs the hard vectors of the float leaves, from standard input, and writes how many of each leaf
 // hold. A line is the leaf's letter, three patterns and the pattern expected, in eight hex digits.
-use libc::STDIN_FILENO;
 use libc::STDOUT_FILENO;
-ghost use Prim.Native.Nat.{_≤_};
-
-// A hex digit's value; 0 for any other byte.
-fn digit(b: u8) -> u32 {
-    match b {
-        b'0'..=b'9' => (b - b'0') as u32,
-        b'a'..=b'f' => (b - b'a' + 10) as u32,
-        _ => 0,
-    }
-}
-
-// The number written in the eight bytes from `at` on.
-fn number(line: &[u8; 38], at: usize) -> u32
-    requires { ⌜ at ≤ 30 ⌝ }
-{
-    let mut n = 0u32;
-    let mut i = 0usize;
-    while i < 8 {
-        n = (n << 4) | digit(line[at + i]);
-        i += 1;
-    }
-    n
-}
+use replay::Tally;
 
 fn of_three(leaf: u8, a: f32, b: f32, c: f32) -> u32 {
     match leaf {
@@ -53,62 +30,51 @@ fn is_of_one(leaf: u8) -> bool {
     }
 }
 
-// What the leaf gives for the patterns in the line.
-fn given(line: &[u8; 38], leaf: u8) -> u32 {
-    let a = leaves::from_bits(number(line, 2));
+// What the leaf gives for the patterns of a line.
+fn given(leaf: u8, a: f32, b: f32, c: f32) -> u32 {
     if is_of_one(leaf) {
         return of_one(leaf, a);
     }
-    of_three(
-        leaf,
-        a,
-        leaves::from_bits(number(line, 11)),
-        leaves::from_bits(number(line, 20)),
-    )
+    of_three(leaf, a, b, c)
 }
 
-// Reads a line and says whether it is of this leaf and holds. The first that does not is written.
-fn holds(leaf: u8, is_first: bool) -> bool {
-    let mut line = [0u8; 38];
-    let got = io::read_full(STDIN_FILENO, &mut line);
-    if got == 38 {
-        if line[0] == leaf {
-            let r = given(&line, leaf);
-            if r == number(&line, 29) {
-                return true;
-            }
-            if is_first {
-                io::print_hex(STDOUT_FILENO, r as u64, 8);
-                io::write_all(STDOUT_FILENO, b" is given at ");
-            }
-        }
-    }
-    if is_first {
-        io::write_all(STDOUT_FILENO, &line);
-    }
-    false
+// The first vector of a leaf that does not hold, by its number from 1.
+fn write_first(number: u64, given: u32, due: u32) {
+    io::write_all(STDOUT_FILENO, b"vector ");
+    io::print_decimal(STDOUT_FILENO, number);
+    io::write_all(STDOUT_FILENO, b" gives ");
+    io::print_hex(STDOUT_FILENO, given as u64, 8);
+    io::write_all(STDOUT_FILENO, b" where the list has ");
+    io::print_hex(STDOUT_FILENO, due as u64, 8);
+    io::write_all(STDOUT_FILENO, b"\n");
 }
 
-// Of the next `count` lines, how many hold.
-fn count_right(leaf: u8, count: u64) -> u64 {
-    let mut right = 0u64;
+// The next `count` lines, each of which is to be of this leaf.
+fn holding(leaf: u8, count: u64) -> Tally {
+    let mut tally = replay::none();
     let mut i = 0u64;
     while i < count {
-        if holds(leaf, right == i) {
-            right = std::num::wrapping_add_u64(right, 1);
-        }
+        let letter = replay::letter();
+        let a = replay::float();
+        let b = replay::float();
+        let c = replay::float();
+        let due = replay::number();
+        let r = given(leaf, a, b, c);
+        let holds = (letter == leaf) & (r == due);
         i += 1;
+        if !holds & (tally.right == tally.all) {
+            write_first(i, r, due);
+        }
+        tally = replay::counted(tally, holds);
     }
-    right
+    tally
 }
 
 fn run(name: &[u8], leaf: u8, count: u64) {
-    let right = count_right(leaf, count);
+    let tally = holding(leaf, count);
     io::write_all(STDOUT_FILENO, name);
     io::write_all(STDOUT_FILENO, b" ");
-    io::print_decimal(STDOUT_FILENO, right);
-    io::write_all(STDOUT_FILENO, b" of ");
-    io::print_decimal(STDOUT_FILENO, count);
+    replay::print_of(tally);
     io::write_all(STDOUT_FILENO, b"\n");
 }
 

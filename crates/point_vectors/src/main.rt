@@ -7,6 +7,9 @@ use point::Angle;
 use point::Point;
 use point::Setting;
 use point::WeightedPoint;
+use replay::Tally;
+use replay::float;
+use replay::number as word;
 
 // What is given, and what the list has for it.
 struct Check {
@@ -26,31 +29,6 @@ impl Check {
         }
         self
     }
-}
-
-// A hex digit's value; 0 for any other byte.
-fn digit(b: u8) -> u32 {
-    match b {
-        b'0'..=b'9' => (b - b'0') as u32,
-        b'a'..=b'f' => (b - b'a' + 10) as u32,
-        _ => 0,
-    }
-}
-
-fn word() -> u32 {
-    let mut text = [0u8; 9];
-    io::read_full(STDIN_FILENO, &mut text);
-    let mut n = 0u32;
-    let mut i = 0usize;
-    while i < 8 {
-        n = (n << 4) | digit(text[i]);
-        i += 1;
-    }
-    n
-}
-
-fn float() -> f32 {
-    leaves::from_bits(word())
 }
 
 // Against the next word of the list.
@@ -184,29 +162,27 @@ fn write_first(number: u64, c: Check) {
     io::write_all(STDOUT_FILENO, b"\n");
 }
 
-// Of the next `count` vectors of a function, how many agree.
-fn agreeing(function: u8, count: u64) -> u64 {
-    let mut right = 0u64;
+// The next `count` vectors of a function.
+fn agreeing(function: u8, count: u64) -> Tally {
+    let mut tally = replay::none();
     let mut i = 0u64;
     while i < count {
         let c = one(function);
-        if c.agrees() {
-            right += 1;
-        } else if right == i {
-            write_first(i + 1, c);
-        }
+        let agrees = c.agrees();
         i += 1;
+        if !agrees & (tally.right == tally.all) {
+            write_first(i, c);
+        }
+        tally = replay::counted(tally, agrees);
     }
-    right
+    tally
 }
 
 fn run(name: &[u8], function: u8, count: u64) {
-    let right = agreeing(function, count);
+    let tally = agreeing(function, count);
     io::write_all(STDOUT_FILENO, name);
     io::write_all(STDOUT_FILENO, b" ");
-    io::print_decimal(STDOUT_FILENO, right);
-    io::write_all(STDOUT_FILENO, b" of ");
-    io::print_decimal(STDOUT_FILENO, count);
+    replay::print_of(tally);
     io::write_all(STDOUT_FILENO, b"\n");
 }
 

@@ -1,14 +1,16 @@
 // Replays drawing calls that were made with the original Rust: reads them and what must be seen after each, and writes how many
 // answers, states and entries agree. A line is a letter and its words, each of eight hex digits; tests/rust/answers has the list's letters.
-use libc::STDIN_FILENO;
 use libc::STDOUT_FILENO;
 use point::Point;
+use replay::Tally;
+use replay::float;
+use replay::letter;
+use replay::number as word;
 use store::Drawn;
 use store::StoreState;
-use text::HexAt;
 ghost use Prim.Native.Nat.{_≤_};
 
-// The store's state, the lengths of its columns that are lent, the line of the list, and how many of the lines that compare agreed.
+// The store's state, the lengths of its columns that are lent, the line of the list, and how many of the lines that compare agree.
 struct Run {
     state: StoreState,
     x: usize,
@@ -16,24 +18,7 @@ struct Run {
     weight: usize,
     commands: usize,
     line: u64,
-    right: u64,
-    compared: u64,
-}
-
-fn word() -> u32 {
-    let mut digits = [0u8; 9];
-    io::read_full(STDIN_FILENO, &mut digits);
-    let HexAt::Number(n) = text::hex_at(&digits, 0) else {
-        return 0;
-    };
-    n
-}
-
-// The letter of a line; 0 at the end.
-fn letter() -> u8 {
-    let mut start = [0u8; 2];
-    io::read_full(STDIN_FILENO, &mut start);
-    start[0]
+    compared: Tally,
 }
 
 // A word of all ones means the largest count.
@@ -47,10 +32,6 @@ fn count() -> usize {
 
 fn byte() -> u8 {
     (word() % 256) as u8
-}
-
-fn float() -> f32 {
-    leaves::from_bits(word())
 }
 
 fn point() -> Point {
@@ -171,14 +152,13 @@ fn same_point(x: &[f32], y: &[f32], weight: &[f32]) -> bool {
 
 // One more comparison. The first that differs is written, by its line.
 fn told(mut run: Run, agreed: bool) -> Run {
-    if agreed {
-        run.right = std::num::wrapping_add_u64(run.right, 1);
-    } else if run.right == run.compared {
+    let compared = run.compared;
+    if !agreed & (compared.right == compared.all) {
         io::write_all(STDOUT_FILENO, b"the first that differs is line ");
         io::print_decimal(STDOUT_FILENO, run.line);
         io::write_all(STDOUT_FILENO, b"\n");
     }
-    run.compared = std::num::wrapping_add_u64(run.compared, 1);
+    run.compared = replay::counted(compared, agreed);
     run
 }
 
@@ -284,9 +264,8 @@ fn step(
 }
 
 fn report(run: Run) {
-    io::print_decimal(STDOUT_FILENO, run.right);
-    io::write_all(STDOUT_FILENO, b" of ");
-    io::print_decimal(STDOUT_FILENO, run.compared);
+    let compared = run.compared;
+    replay::print_of(compared);
     io::write_all(STDOUT_FILENO, b" agree\n");
 }
 
@@ -307,8 +286,7 @@ fn main() {
         weight: 0,
         commands: 0,
         line: 0,
-        right: 0,
-        compared: 0,
+        compared: replay::none(),
     };
     let mut i = 0u64;
     while i < 100000 {

@@ -5,10 +5,16 @@ use Rattle.flatten_cases.proofs.cases.Statement.{statement}
 use Rattle.flatten_cases.proofs.cases.Tie as tie
 
 abbrev Inv-loop : tie.InvT-loop
-Inv-loop n right₀ k₀ right k = k ≤ n
+Inv-loop n same₀ full₀ k₀ same full k = k ≤ n
 
 abbrev μ-loop : tie.MeasureT-loop
-μ-loop n right₀ k₀ right k = n - k
+μ-loop n same₀ full₀ k₀ same full k = n - k
+
+none-requires : tie.Need-none-requires Inv-loop μ-loop
+none-requires c κs = search needs
+
+none-requires-2 : tie.Need-none-requires-2 Inv-loop μ-loop
+none-requires-2 c κs = search needs
 
 loop-holds : tie.Need-loop-holds Inv-loop μ-loop
 loop-holds c = search needs
@@ -16,11 +22,14 @@ loop-holds c = search needs
 case-requires : tie.Need-case-requires Inv-loop μ-loop
 case-requires c κs = search needs
 
-wrapping-add-u32-requires : tie.Need-wrapping-add-u32-requires Inv-loop μ-loop
-wrapping-add-u32-requires c κs = search needs
+counted-requires : tie.Need-counted-requires Inv-loop μ-loop
+counted-requires c κs = search needs
 
-differs-requires : tie.Need-differs-requires Inv-loop μ-loop
-differs-requires c κs = search needs
+both-requires : tie.Need-both-requires Inv-loop μ-loop
+both-requires c κs = search needs
+
+told-requires : tie.Need-told-requires Inv-loop μ-loop
+told-requires c κs = search needs
 
 add-k : tie.Need-add-k Inv-loop μ-loop
 add-k c = search needs
@@ -40,10 +49,13 @@ cases-spec =
     (tie.spec
     Inv-loop
     μ-loop
+    none-requires
+    none-requires-2
     loop-holds
     case-requires
-    wrapping-add-u32-requires
-    differs-requires
+    counted-requires
+    both-requires
+    told-requires
     add-k
     loop-less
     loop-again

@@ -1,16 +1,17 @@
--- `point_vectors::agreeing` is safe and ends: no more agree than were read, and no more are read than there are. Assumes nothing.
-use Prim.Native.Nat.{_≤_, _-_}
-use native.Mathlib.Omega.{arith}
-use mathlib.Core.Logic.{⊎-elim}
+-- `point_vectors::agreeing` meets its contract: it ends. Assumes nothing.
+use Prim.Native.Nat.{_-_, _≤_}
 use borrow.Author.Needs.{needs}
 use Rattle.point_vectors.proofs.agreeing.Statement.{statement}
 use Rattle.point_vectors.proofs.agreeing.Tie as tie
 
 abbrev Inv-loop : tie.InvT-loop
-Inv-loop function count right₀ i₀ right i = (right ≤ i) × (i ≤ count)
+Inv-loop function count tally₀ i₀ tally i = i ≤ count
 
 abbrev μ-loop : tie.MeasureT-loop
-μ-loop function count right₀ i₀ right i = count - i
+μ-loop function count tally₀ i₀ tally i = count - i
+
+none-requires : tie.Need-none-requires Inv-loop μ-loop
+none-requires c κs = search needs
 
 loop-holds : tie.Need-loop-holds Inv-loop μ-loop
 loop-holds c = search needs
@@ -21,23 +22,20 @@ one-requires c κs = search needs
 agrees-requires : tie.Need-agrees-requires Inv-loop μ-loop
 agrees-requires c κs = search needs
 
-add-right : tie.Need-add-right Inv-loop μ-loop
-add-right c = search needs
-
-add-write-first : tie.Need-add-write-first Inv-loop μ-loop
-add-write-first c = search needs
+add-i : tie.Need-add-i Inv-loop μ-loop
+add-i c = search needs
 
 write-first-requires : tie.Need-write-first-requires Inv-loop μ-loop
 write-first-requires c κs = search needs
 
-add-i : tie.Need-add-i Inv-loop μ-loop
-add-i c = search needs
+counted-requires : tie.Need-counted-requires Inv-loop μ-loop
+counted-requires c κs = search needs
 
 loop-less : tie.Need-loop-less Inv-loop μ-loop
 loop-less c = search needs
 
 loop-again : tie.Need-loop-again Inv-loop μ-loop
-loop-again c = ⊎-elim (λ w. omega arith) (⊎-elim (λ w. omega arith) (λ w. omega arith)) (c .if1 .came)
+loop-again c = search needs
 
 returns : tie.Need-returns Inv-loop μ-loop
 returns c = search needs
@@ -48,13 +46,13 @@ agreeing-spec =
     (tie.spec
     Inv-loop
     μ-loop
+    none-requires
     loop-holds
     one-requires
     agrees-requires
-    add-right
-    add-write-first
-    write-first-requires
     add-i
+    write-first-requires
+    counted-requires
     loop-less
     loop-again
     returns)

@@ -47,8 +47,8 @@ call-requires c κs = search needs
 number-requires : tie.Need-number-requires
 number-requires c κs = search needs
 
-word-requires : tie.Need-word-requires
-word-requires c κs = search needs
+number-requires-2 : tie.Need-number-requires-2
+number-requires-2 c κs = search needs
 
 told-requires : tie.Need-told-requires
 told-requires c κs = search needs
@@ -86,7 +86,7 @@ called-spec =
     slice-aggregate-call-4
     call-requires
     number-requires
-    word-requires
+    number-requires-2
     told-requires
     same-length
     same-length-2

@@ -10,6 +10,9 @@ Inv-loop x₀ y₀ weight₀ commands₀ run₀ i₀ x y weight commands run i =
 abbrev μ-loop : tie.MeasureT-loop
 μ-loop x₀ y₀ weight₀ commands₀ run₀ i₀ x y weight commands run i = 100000 - i
 
+none-requires : tie.Need-none-requires Inv-loop μ-loop
+none-requires c κs = search needs
+
 loop-holds : tie.Need-loop-holds Inv-loop μ-loop
 loop-holds c = search needs
 
@@ -40,7 +43,7 @@ main-spec =
     (tie.spec
     Inv-loop
     μ-loop
-    loop-holds
+    none-requires loop-holds
     letter-requires
     add-i
     step-requires

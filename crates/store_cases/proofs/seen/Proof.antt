@@ -68,8 +68,8 @@ slice-aggregate-drawable-4 c = sym (length-take-le (c .before .before .before .b
 drawable-requires : tie.Need-drawable-requires
 drawable-requires c κs = search needs
 
-word-requires : tie.Need-word-requires
-word-requires c κs = search needs
+number-requires : tie.Need-number-requires
+number-requires c κs = search needs
 
 told-requires-4 : tie.Need-told-requires-4
 told-requires-4 c κs = search needs
@@ -102,6 +102,6 @@ seen-spec =
     slice-aggregate-drawable-3
     slice-aggregate-drawable-4
     drawable-requires
-    word-requires
+    number-requires
     told-requires-4
     returns-4)

@@ -1,4 +1,4 @@
-//! Whole drawings with what the original makes of them, for `flatten_cases` and `tables_cases`. answers/README.md says how they are laid out.
+//! Whole drawings with what the original makes of them, for `flatten_cases`. answers/README.md says how they are laid out.
 
 use super::row;
 use crate::{
@@ -25,10 +25,9 @@ fn call_row(call: &Call) -> [u32; 9] {
     [kind, a.x.to_bits(), a.y.to_bits(), b.x.to_bits(), b.y.to_bits(), c.x.to_bits(), c.y.to_bits(), v.to_bits(), w.to_bits()]
 }
 
-/// One drawing. Without points, a list for the tables alone.
-fn drawing(text: &mut String, setting: u32, calls: &[Call], store: &Store, seen: &Seen, points: bool) {
+/// One drawing.
+fn drawing(text: &mut String, setting: u32, calls: &[Call], store: &Store, seen: &Seen) {
     let t = &seen.tables;
-    let words = if points { seen.words.len() as u32 } else { 0 };
     row(
         text,
         &[
@@ -39,7 +38,7 @@ fn drawing(text: &mut String, setting: u32, calls: &[Call], store: &Store, seen:
             store.opening as u32,
             t.x0.len() as u32,
             t.curvature.len() as u32,
-            words,
+            seen.words.len() as u32,
         ],
     );
     for call in calls {
@@ -82,10 +81,8 @@ fn drawing(text: &mut String, setting: u32, calls: &[Call], store: &Store, seen:
             &[t.curvature[i].to_bits(), t.p0x[i].to_bits(), t.p0y[i].to_bits(), t.p2x[i].to_bits(), t.p2y[i].to_bits(), t.contour[i] as u32],
         );
     }
-    if points {
-        for i in 0..seen.words.len() {
-            row(text, &[seen.words[i], seen.x[i].to_bits(), seen.y[i].to_bits(), seen.end[i] as u32]);
-        }
+    for i in 0..seen.words.len() {
+        row(text, &[seen.words[i], seen.x[i].to_bits(), seen.y[i].to_bits(), seen.end[i] as u32]);
     }
 }
 
@@ -123,15 +120,15 @@ pub fn many(drawings: u32, seed: u64) -> String {
         let calls = random(&mut rng, k);
         if fits(&calls, &LARGE) {
             let seen = if n % 2 == 0 { screen::flatten(&calls) } else { knife::flatten(&calls) };
-            drawing(&mut text, n % 2, &calls, &screen::store(&calls), &seen, true);
+            drawing(&mut text, n % 2, &calls, &screen::store(&calls), &seen);
             n += 1;
         }
     }
     text
 }
 
-/// The lists of `flatten_cases` and `tables_cases`; says which rules decided how often.
-pub fn fixed() -> (String, String) {
+/// The list of `flatten_cases`; says which rules decided how often.
+pub fn fixed() -> String {
     let mut room = Room::new(4096, 4096, 1 << 16);
     let mut n = Counts::default();
 
@@ -173,29 +170,22 @@ pub fn fixed() -> (String, String) {
         consider(calls, false, &LARGE, 3);
     }
 
-    let mut flatten = String::new();
-    let mut tables = String::new();
-    let (mut screens, mut knives, mut tabled) = (0, 0, 0);
+    let mut text = String::new();
+    let (mut screens, mut knives) = (0, 0);
     for calls in &chosen {
         let store = screen::store(calls);
         let [a, b] = [screen::flatten(calls), knife::flatten(calls)];
-        drawing(&mut flatten, 0, calls, &store, &a, true);
+        drawing(&mut text, 0, calls, &store, &a);
         screens += 1;
         if a.words != b.words {
-            drawing(&mut flatten, 1, calls, &store, &b, true);
+            drawing(&mut text, 1, calls, &store, &b);
             knives += 1;
         }
-        if tabled < 240 && a.tables.x0.len() <= 10 {
-            drawing(&mut tables, 0, calls, &store, &a, false);
-            tabled += 1;
-        }
     }
-    // the first number says how many drawings there are
-    let counted = |n: u32, text: String| format!("{n:08x}\n{text}");
-    let (flatten, tables) = (counted(screens + knives, flatten), counted(tabled, tables));
-    println!("{} drawings for flatten_cases, {screens} in the screen setting and {knives} in the knife setting; {tabled} for tables_cases", screens + knives);
+    println!("{} drawings for flatten_cases, {screens} in the screen setting and {knives} in the knife setting", screens + knives);
     for (name, often) in cover::NAMES.iter().zip(seen_often) {
         println!("{often:6} drawings  {name}");
     }
-    (flatten, tables)
+    // the first number says how many drawings there are
+    format!("{:08x}\n{text}", screens + knives)
 }

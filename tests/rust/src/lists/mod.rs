@@ -22,12 +22,10 @@ fn bits(v: f32) -> u32 {
 
 /// Each list and the file below crates/ where it is stored. `flattener` has the first listing, the program's example: the doubled point (docs/PROMISES.md, Examples).
 pub fn all() -> Vec<(&'static str, Vec<u8>)> {
-    let (flatten, tables) = drawn::fixed();
     let listing::Listings { given, due } = listing::fixed();
     let (example, shown) = listing::example();
     vec![
-        ("flatten_cases/stdin", flatten.into_bytes()),
-        ("tables_cases/stdin", tables.into_bytes()),
+        ("flatten_cases/stdin", drawn::fixed().into_bytes()),
         ("point_vectors/stdin", point::fixed().into_bytes()),
         ("store_cases/stdin", store::fixed().into_bytes()),
         ("listing_cases/stdin", given),

@@ -1,0 +1,124 @@
+// The longest row of straight quads, whose sum is 65,536, and the row with one more, which is refused.
+use point::Point;
+use point::Setting;
+use replay::Tally;
+use store::Call;
+use store::StoreState;
+ghost use Prim.Native.Nat.{_≤_};
+
+// Room for 32,769 quads, and their walk.
+const POINTS: usize = 65_600;
+
+const COMMANDS: usize = 32_800;
+
+const QUADS: usize = 32_800;
+
+const THREES: usize = 98_400;
+
+const SPLINES: usize = 16;
+
+// n straight quads of length 1 in a row, then closed.
+fn row(x: &mut [f32], y: &mut [f32], weight: &mut [f32], commands: &mut [u8], n: u32) -> StoreState
+    requires { ⌜ n ≤ 65536 ⌝ }
+{
+    let fresh = store::fresh(x, y, weight, commands);
+    let mut st = fresh.state;
+    let mut k: u32 = 0;
+    while k < n {
+        let a = k as f32;
+        let d = store::quad_to(
+            x,
+            y,
+            weight,
+            commands,
+            st,
+            Point::new(a + 0.5, 0.0),
+            Point::new(a + 1.0, 0.0),
+        );
+        st = d.state;
+        k += 1;
+    }
+    let built = store::build(x, y, weight, commands, st);
+    built.state
+}
+
+// A Start, then steps of size 1.0, and the End; no word where no point is due.
+fn stepped(words: &[u32; POINTS], points: usize) -> bool {
+    if points < 2 {
+        return replay::all_are(words, 0, POINTS, 0);
+    }
+    let start = replay::number_at(words, 0, 0) == 0x7f80_0000;
+    start & replay::all_are(words, 1, points - 2, 0x3f80_0000)
+}
+
+// Whether the row of n quads stores as many points, gives this answer for the first 32,768 of them, and writes as many points.
+fn is(n: u32, stored: usize, number: u32, points: usize) -> bool
+    requires { ⌜ n ≤ 65536 ⌝ }
+{
+    let mut x = [0.0f32; POINTS];
+    let mut y = [0.0f32; POINTS];
+    let mut weight = [0.0f32; POINTS];
+    let mut commands = [0u8; COMMANDS];
+    let st = row(&mut x, &mut y, &mut weight, &mut commands, n);
+    let mut quad_x = [0.0f32; THREES];
+    let mut quad_y = [0.0f32; THREES];
+    let mut quad_weight = [0.0f32; THREES];
+    let mut x0 = [0.0f32; QUADS];
+    let mut dx_recip = [0.0f32; QUADS];
+    let mut k0 = [0.0f32; QUADS];
+    let mut dk = [0.0f32; QUADS];
+    let mut curvatures_recip = [0.0f32; QUADS];
+    let mut partial_curvatures = [0.0f32; QUADS];
+    let mut partial_splines = [0u32; QUADS];
+    let mut curvature = [0.0f32; SPLINES];
+    let mut p0x = [0.0f32; SPLINES];
+    let mut p0y = [0.0f32; SPLINES];
+    let mut p2x = [0.0f32; SPLINES];
+    let mut p2y = [0.0f32; SPLINES];
+    let mut contour = [0u8; SPLINES];
+    let mut words = [0u32; POINTS];
+    let mut out_x = [0.0f32; POINTS];
+    let mut out_y = [0.0f32; POINTS];
+    let mut out_end = [0u8; POINTS];
+    let r = flatten::flatten(
+        Setting::Screen,
+        st,
+        &x,
+        &y,
+        &weight,
+        &commands,
+        &mut quad_x,
+        &mut quad_y,
+        &mut quad_weight,
+        &mut x0,
+        &mut dx_recip,
+        &mut k0,
+        &mut dk,
+        &mut curvatures_recip,
+        &mut partial_curvatures,
+        &mut partial_splines,
+        &mut curvature,
+        &mut p0x,
+        &mut p0y,
+        &mut p2x,
+        &mut p2y,
+        &mut contour,
+        &mut words,
+        &mut out_x,
+        &mut out_y,
+        &mut out_end,
+    );
+    let answer = r.answer;
+    let answered = answer::number(answer) == number;
+    let counted = (st.points == stored)
+        & (r.splines == 1)
+        & (r.quads == 32_768)
+        & (r.points == points);
+    answered & counted & stepped(&words, points)
+}
+
+pub fn rows() -> Tally {
+    let held = is(32_768, 65_538, 0, 65_537);
+    let refused = is(32_769, 65_540, 8, 0);
+    replay::counted(replay::counted(replay::none(), held), refused)
+}
