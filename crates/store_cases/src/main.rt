@@ -238,7 +238,7 @@ fn seen(x: &[f32], y: &[f32], weight: &[f32], commands: &[u8], run: Run, l: u8) 
     }
     if l == b'o' {
         let i = count();
-        return told(run, columns::read_u8(commands, i) == byte());
+        return told(run, columns::read_u8(commands, i) as u32 == word());
     }
     let nx = lent(run.x, x.len());
     let ny = lent(run.y, y.len());

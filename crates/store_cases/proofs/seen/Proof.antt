@@ -32,8 +32,11 @@ count-requires c κs = search needs
 read-u8-requires : tie.Need-read-u8-requires
 read-u8-requires c κs = search needs
 
-byte-requires : tie.Need-byte-requires
-byte-requires c κs = search needs
+cast-told : tie.Need-cast-told
+cast-told c = search needs
+
+number-requires : tie.Need-number-requires
+number-requires c κs = search needs
 
 told-requires-3 : tie.Need-told-requires-3
 told-requires-3 c κs = search needs
@@ -68,8 +71,8 @@ slice-aggregate-drawable-4 c = sym (length-take-le (c .before .before .before .b
 drawable-requires : tie.Need-drawable-requires
 drawable-requires c κs = search needs
 
-number-requires : tie.Need-number-requires
-number-requires c κs = search needs
+number-requires-2 : tie.Need-number-requires-2
+number-requires-2 c κs = search needs
 
 told-requires-4 : tie.Need-told-requires-4
 told-requires-4 c κs = search needs
@@ -90,7 +93,8 @@ seen-spec =
     returns-2
     count-requires
     read-u8-requires
-    byte-requires
+    cast-told
+    number-requires
     told-requires-3
     returns-3
     lent-requires
@@ -102,6 +106,6 @@ seen-spec =
     slice-aggregate-drawable-3
     slice-aggregate-drawable-4
     drawable-requires
-    number-requires
+    number-requires-2
     told-requires-4
     returns-4)
