@@ -18,7 +18,13 @@ const THREES: usize = 98_400;
 const SPLINES: usize = 16;
 
 // n straight quads of length 1 in a row, then closed.
-fn row(x: &mut [f32], y: &mut [f32], weight: &mut [f32], commands: &mut [u8], n: u32) -> StoreState
+fn row(
+    x: &mut [f32; POINTS],
+    y: &mut [f32; POINTS],
+    weight: &mut [f32; POINTS],
+    commands: &mut [u8; COMMANDS],
+    n: u32,
+) -> StoreState
     requires { ⌜ n ≤ 65536 ⌝ }
 {
     let fresh = store::fresh(x, y, weight, commands);
@@ -26,16 +32,10 @@ fn row(x: &mut [f32], y: &mut [f32], weight: &mut [f32], commands: &mut [u8], n:
     let mut k: u32 = 0;
     while k < n {
         let a = k as f32;
-        let d = store::quad_to(
-            x,
-            y,
-            weight,
-            commands,
-            st,
-            Point::new(a + 0.5, 0.0),
-            Point::new(a + 1.0, 0.0),
-        );
-        st = d.state;
+        let middle = Point::new(a + 0.5, 0.0);
+        let end = Point::new(a + 1.0, 0.0);
+        let drawn = store::quad_to(x, y, weight, commands, st, middle, end);
+        st = drawn.state;
         k += 1;
     }
     let built = store::build(x, y, weight, commands, st);
@@ -51,15 +51,16 @@ fn stepped(words: &[u32; POINTS], points: usize) -> bool {
     start & replay::all_are(words, 1, points - 2, 0x3f80_0000)
 }
 
-// Whether the row of n quads stores as many points, gives this answer for the first 32,768 of them, and writes as many points.
-fn is(n: u32, stored: usize, number: u32, points: usize) -> bool
-    requires { ⌜ n ≤ 65536 ⌝ }
-{
-    let mut x = [0.0f32; POINTS];
-    let mut y = [0.0f32; POINTS];
-    let mut weight = [0.0f32; POINTS];
-    let mut commands = [0u8; COMMANDS];
-    let st = row(&mut x, &mut y, &mut weight, &mut commands, n);
+// Whether a row gives this answer for the first 32,768 of its quads, and writes as many points.
+fn gives(
+    x: &[f32; POINTS],
+    y: &[f32; POINTS],
+    weight: &[f32; POINTS],
+    commands: &[u8; COMMANDS],
+    st: StoreState,
+    number: u32,
+    points: usize,
+) -> bool {
     let mut quad_x = [0.0f32; THREES];
     let mut quad_y = [0.0f32; THREES];
     let mut quad_weight = [0.0f32; THREES];
@@ -83,10 +84,10 @@ fn is(n: u32, stored: usize, number: u32, points: usize) -> bool
     let r = flatten::flatten(
         Setting::Screen,
         st,
-        &x,
-        &y,
-        &weight,
-        &commands,
+        x,
+        y,
+        weight,
+        commands,
         &mut quad_x,
         &mut quad_y,
         &mut quad_weight,
@@ -110,11 +111,20 @@ fn is(n: u32, stored: usize, number: u32, points: usize) -> bool
     );
     let answer = r.answer;
     let answered = answer::number(answer) == number;
-    let counted = (st.points == stored)
-        & (r.splines == 1)
-        & (r.quads == 32_768)
-        & (r.points == points);
+    let counted = (r.splines == 1) & (r.quads == 32_768) & (r.points == points);
     answered & counted & stepped(&words, points)
+}
+
+// The same of the row of n quads, which also stores as many points.
+fn is(n: u32, stored: usize, number: u32, points: usize) -> bool
+    requires { ⌜ n ≤ 65536 ⌝ }
+{
+    let mut x = [0.0f32; POINTS];
+    let mut y = [0.0f32; POINTS];
+    let mut weight = [0.0f32; POINTS];
+    let mut commands = [0u8; COMMANDS];
+    let st = row(&mut x, &mut y, &mut weight, &mut commands, n);
+    (st.points == stored) & gives(&x, &y, &weight, &commands, st, number, points)
 }
 
 pub fn rows() -> Tally {

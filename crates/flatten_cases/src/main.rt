@@ -1,6 +1,6 @@
-// Replays the original Rust's answers, from standard input: draws each listed drawing, flattens it and compares the store, both tables, words and points, number
-// by number. Then it flattens the small ones, in both settings, with each column of the tables full before each entry in turn. Last come the drawings past a limit.
-// It writes the number of each drawing that differs, and how many hold. tests/rust/answers/README.md says how the list is laid out and made.
+// Replays the original Rust's answers, from standard input: draws each listed drawing, flattens it and compares the store, both tables, words and points,
+// number by number. Then it flattens the first ones, in both settings, with each column of the tables full before each entry in turn. Last come drawings past
+// a limit. It writes the number of each drawing that differs, and how many hold. tests/rust/answers/README.md says how the list is laid out and made.
 mod calls;
 mod flattening;
 mod layout;

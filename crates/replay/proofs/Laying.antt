@@ -30,8 +30,13 @@ module _ {A : Type 0} (number : A → ℕ) where
       let q : at ≡ at + 0 = omega arith in
       ap (λ (m : ℕ). laid number m at column numbers) p ∙ ap (λ (m : ℕ). laid number (n - 0) m column numbers) q
 
-  module _ (n at i : ℕ) (column : List A) (numbers₀ numbers : List ℕ) (whole : laid number n at column numbers₀ ≡ laid number (n - i) (at + i) (drop i column) numbers) where
-    pub lay-on : (d : A) (after : List ℕ) (v : ℕ) → i < n → i < length column → after ≡ set numbers (at + i) v → v ≡ number (getD column i d) → laid number n at column numbers₀ ≡ laid number (n - (i + 1)) (at + (i + 1)) (drop (i + 1) column) after
+  -- of n entries i are laid: the numbers now, and what is left
+  abbrev pub Left : ℕ → ℕ → List A → List ℕ → List ℕ → ℕ → Type 0
+  Left n at column numbers₀ numbers i = laid number n at column numbers₀ ≡ laid number (n - i) (at + i) (drop i column) numbers
+
+  module _ (n at i : ℕ) (column : List A) (numbers₀ numbers : List ℕ) (whole : Left n at column numbers₀ numbers i) where
+    pub lay-on : (d : A) (after : List ℕ) (v : ℕ) → i < n → i < length column → after ≡ set numbers (at + i) v → v ≡ number (getD column i d)
+        → Left n at column numbers₀ after (i + 1)
     lay-on d after v h k put e =
         let kept : after ≡ set numbers (at + i) (number (getD column i d)) = put ∙ ap (λ (w : ℕ). set numbers (at + i) w) e in
         let p : n - i ≡ suc (n - (i + 1)) = omega (arith, h) in

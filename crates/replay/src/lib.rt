@@ -1,5 +1,5 @@
-// What the gate's programs share that replay stored lists: numbers read from standard input, columns laid out as numbers and compared, and counting. No crate of
-// the product uses it.
+// What the gate's programs share that replay stored lists: numbers read from standard input, columns laid out as numbers and compared, and counting. No crate
+// of the product uses it.
 
 mod counting;
 mod numbers;

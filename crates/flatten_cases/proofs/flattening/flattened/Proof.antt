@@ -1,4 +1,4 @@
--- `flatten_cases::flattening::flattened` meets its contract: it ends. A part that is lent has as many entries as its count says, since the room has. Assumes nothing.
+-- `flatten_cases::flattening::flattened` meets its contract: it ends. A part that is lent has as many entries as its count says. Assumes nothing.
 use mathlib.Core.Path.{sym}
 use lib.Seq.{length-take-le}
 use borrow.Author.Needs.{needs}
