@@ -135,6 +135,10 @@ def fma_inputs():
         yield a, b, rng.getrandbits(1) << 31 | rng.getrandbits(24 if rng.getrandbits(1) else 3)
     for _ in range(120):  # subnormal factors
         yield rng.getrandbits(23) | rng.getrandbits(1) << 31, number(100, 250), rng.getrandbits(rng.choice([1, 23, 25])) | rng.getrandbits(1) << 31
+    # products that are ties, one that goes down and one that goes up, broken the other way by an addend at every distance
+    down, up = ONE + (1 << 11), ONE + 3 * (1 << 11)
+    for d in range(24, 127):
+        yield from ((down, down, ONE - (d << 23)), (down, up, SIGN | ONE - (d << 23)))
 
 
 # ---- sqrt

@@ -79,7 +79,7 @@ fn run(name: &[u8], leaf: u8, count: u64) {
 }
 
 fn main() {
-    run(b"fma", b'f', 3653);
+    run(b"fma", b'f', 3859);
     run(b"sqrt", b's', 2461);
     run(b"sixth_root", b'x', 2361);
     run(b"abs", b'a', 21);
