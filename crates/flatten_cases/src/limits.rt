@@ -68,7 +68,7 @@ fn rounds(
 }
 
 // Refused by this answer, with one spline of so many quads.
-fn is(r: Flattened, number: u32, quads: usize) -> bool {
+fn is_refused(r: Flattened, number: u32, quads: usize) -> bool {
     let answer = r.answer;
     (answer::number(answer) == number) & (r.splines == 1) & (r.quads == quads) & (r.points == 0)
 }
@@ -125,9 +125,9 @@ fn stops(setting: Setting, n: u32, last: Call, answer: u32, full: u32) -> bool {
         quads,
         &mut none,
     );
-    let held = is(a, 9, quads);
-    let roomy = is(b, answer, quads) & same_tables(&room, &before);
-    let filled = is(c, full, quads) & same_tables(&none, &before);
+    let held = is_refused(a, 9, quads);
+    let roomy = is_refused(b, answer, quads) & same_tables(&room, &before);
+    let filled = is_refused(c, full, quads) & same_tables(&none, &before);
     held & roomy & filled
 }
 

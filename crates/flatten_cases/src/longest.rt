@@ -42,13 +42,14 @@ fn row(
     built.state
 }
 
-// A Start, then steps of size 1.0, and the End; no word where no point is due.
+// A Start, then steps of size 1.0, and a flagged End; no word if there is to be no point.
 fn stepped(words: &[u32; POINTS], points: usize) -> bool {
     if points < 2 {
         return replay::all_are(words, 0, POINTS, 0);
     }
     let start = replay::number_at(words, 0, 0) == 0x7f80_0000;
-    start & replay::all_are(words, 1, points - 2, 0x3f80_0000)
+    let end = replay::number_at(words, points - 1, 0) == 0xffc0_0000;
+    start & end & replay::all_are(words, 1, points - 2, 0x3f80_0000)
 }
 
 // Whether a row gives this answer for the first 32,768 of its quads, and writes as many points.
@@ -116,7 +117,7 @@ fn gives(
 }
 
 // The same of the row of n quads, which also stores as many points.
-fn is(n: u32, stored: usize, number: u32, points: usize) -> bool
+fn row_gives(n: u32, stored: usize, number: u32, points: usize) -> bool
     requires { ⌜ n ≤ 65536 ⌝ }
 {
     let mut x = [0.0f32; POINTS];
@@ -128,7 +129,7 @@ fn is(n: u32, stored: usize, number: u32, points: usize) -> bool
 }
 
 pub fn rows() -> Tally {
-    let held = is(32_768, 65_538, 0, 65_537);
-    let refused = is(32_769, 65_540, 8, 0);
+    let held = row_gives(32_768, 65_538, 0, 65_537);
+    let refused = row_gives(32_769, 65_540, 8, 0);
     replay::counted(replay::counted(replay::none(), held), refused)
 }

@@ -155,7 +155,7 @@ fn case(k: u32) -> Replayed {
 }
 
 // Names a drawing that differs.
-fn told(k: u32, c: Replayed) {
+fn name_if_other(k: u32, c: Replayed) {
     if c.same & (c.full.right == c.full.all) {
         return;
     }
@@ -173,7 +173,7 @@ fn cases(n: u32) -> Total {
         let runs = c.full;
         same = replay::counted(same, c.same);
         full = replay::both(full, runs);
-        told(k, c);
+        name_if_other(k, c);
         k += 1;
     }
     Total { same, full }

@@ -15,13 +15,9 @@ use crate::layout::first;
 use crate::layout::room;
 use flatten::Flattened;
 use point::Setting;
+use primitives::below;
 use replay::Tally;
 use store::StoreState;
-
-// The whole number before, and 0 before 0.
-fn below(n: usize) -> usize {
-    if n == 0 { 0 } else { n - 1 }
-}
 
 // The first `same` rows of a column are the whole run's, and those from `n` on are untouched.
 fn kept(got: &[u32; ALL], whole: &[u32; ALL], column: u32, same: usize, n: usize) -> bool {

@@ -1,4 +1,4 @@
--- Numbers compared one by one: what is left of them, behind those that agree. Assumes nothing.
+-- Numbers compared one by one: what is left of them, after those that agree. Assumes nothing.
 use Prim.{⊥}
 use Prim.Native.Nat.{ℕ, suc, _+_, _-_, _≤_, _<_}
 use mathlib.Core.Path.{_≡_, refl, sym, ap, _∙_}

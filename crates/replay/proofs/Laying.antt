@@ -1,4 +1,4 @@
--- A column laid out entry by entry: what is left of it, laid behind what is. Assumes nothing.
+-- A column laid out entry by entry: what is left of it, laid after what already is. Assumes nothing.
 use Prim.Native.Nat.{ℕ, zero, suc, _+_, _-_, _≤_, _<_}
 use mathlib.Core.Path.{_≡_, refl, sym, ap, _∙_}
 use mathlib.Core.List.{List, [], _∷_}

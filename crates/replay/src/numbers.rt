@@ -1,4 +1,4 @@
-// Columns laid out as numbers, one behind another in one lent slice, and compared there: a float is its bits, with one NaN.
+// Columns laid out as numbers, one after another in one lent slice, and compared there: a float is its bits, with one NaN.
 ghost use mathlib.Core.Path.{_≡_};
 ghost use Prim.Native.Nat.{_+_};
 ghost use lib.ListN.{getD, set};
@@ -8,7 +8,7 @@ use columns::read_f32;
 use columns::read_u8;
 use columns::read_u32;
 
-// The number i places behind a place; 0 past the end. The sum of the two may wrap, so it is made only inside.
+// The number i places after a place; 0 past the end. The sum of the two may wrap, so it is taken only inside.
 pub fn number_at(numbers: &[u32], at: usize, i: usize) -> u32
     ensures { λ r. ⌜ r ≡ getD (now (numbers .entry)) (at + i) 0 ⌝ }
 {

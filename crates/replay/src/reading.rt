@@ -1,9 +1,10 @@
-// Numbers from standard input. A number is eight lowercase hex digits and one byte after them, so that each takes nine bytes and no row is looked for.
+// Numbers from standard input. A number is eight lowercase hex digits and one byte after them, so each takes nine bytes, and no line
+// end has to be looked for. The kit's `io` says nothing of what is read, so neither can a contract here: tests/replay tries these functions.
 use crate::numbers::number_at;
 use libc::STDIN_FILENO;
 use text::HexAt;
 
-// The next number; 0 where none stands, and behind the end.
+// The next number; 0 if the bytes are no number, or at the end of the input.
 pub fn number() -> u32 {
     let mut digits = [0u8; 9];
     io::read_full(STDIN_FILENO, &mut digits);
@@ -25,7 +26,7 @@ pub fn letter() -> u8 {
     start[0]
 }
 
-// Whether the next n numbers are those from a place on. All of them are read, also behind a difference.
+// Whether the next n numbers are those from a place on. All of them are read, even after a difference.
 pub fn follow(numbers: &[u32], at: usize, n: usize) -> bool {
     let mut good = true;
     let mut i = 0usize;

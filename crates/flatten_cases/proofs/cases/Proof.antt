@@ -28,8 +28,8 @@ counted-requires c κs = search needs
 both-requires : tie.Need-both-requires Inv-loop μ-loop
 both-requires c κs = search needs
 
-told-requires : tie.Need-told-requires Inv-loop μ-loop
-told-requires c κs = search needs
+name-if-other-requires : tie.Need-name-if-other-requires Inv-loop μ-loop
+name-if-other-requires c κs = search needs
 
 add-k : tie.Need-add-k Inv-loop μ-loop
 add-k c = search needs
@@ -55,7 +55,7 @@ cases-spec =
     case-requires
     counted-requires
     both-requires
-    told-requires
+    name-if-other-requires
     add-k
     loop-less
     loop-again

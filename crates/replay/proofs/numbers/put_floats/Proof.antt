@@ -1,4 +1,4 @@
--- `replay::put_floats` meets its contract: what is left of the column is laid behind what is. Assumes nothing.
+-- `replay::put_floats` meets its contract: what is left of the column is laid after what already is. Assumes nothing.
 use mathlib.Core.Path.{_≡_, refl, sym, ap, _∙_}
 use Prim.Native.Nat.{ℕ, _+_, _-_, _≤_}
 use native.Mathlib.Omega.{arith}
