@@ -26,26 +26,24 @@ pub record Finished : Type 0 where
 abbrev pub finished : Point → Bool → Finished
 finished point end = record { point = point; end = end }
 
-unfoldable pub controlPointOf : QuadTable → ℕ → WeightedPoint
-controlPointOf q i = weighted (pointAt (getD (q .x) i nan) (getD (q .y) i nan)) (getD (q .weight) i nan)
-
 -- the sum of the quad before i in the same spline, or 0
-unfoldable pub previousSumOf : List Float → List ℕ → ℕ → Float
-previousSumOf sums splines i = cond (leb 1 i && eqb (getD splines (i - 1) 0) (getD splines i 0)) (getD sums (i - 1) nan) zero32
+unfoldable pub previousSumOf : (ℕ → QuadRow) → ℕ → Float
+previousSumOf rows i = cond (leb 1 i && eqb (rows (i - 1) .spline) (rows i .spline)) (rows (i - 1) .«partial_curvature») zero32
 
--- what a step reads of its quad i
-abbrev pub stepQuadOf : QuadTable → ℕ → StepQuad
-stepQuadOf q i =
+-- what a step reads of its quad i; `rows` gives the row of each quad
+abbrev pub stepQuadOf : (ℕ → QuadRow) → ℕ → StepQuad
+stepQuadOf rows i =
+    let row = rows i in
     record {
-      p0 = controlPointOf q (3 * i);
-      p1 = controlPointOf q (3 * i + 1);
-      p2 = controlPointOf q (3 * i + 2);
-      x0 = getD (q .x0) i nan;
-      «dx_recip» = getD (q .dx-recip) i nan;
-      k0 = getD (q .k0) i nan;
-      dk = getD (q .dk) i nan;
-      «curvature_recip» = getD (q .curvatures-recip) i nan;
-      «previous_sum» = previousSumOf (q .partial-curvatures) (q .partial-splines) i;
+      p0 = weighted (pointAt (row .x .a) (row .y .a)) (row .weight .a);
+      p1 = weighted (pointAt (row .x .b) (row .y .b)) (row .weight .b);
+      p2 = weighted (pointAt (row .x .c) (row .y .c)) (row .weight .c);
+      x0 = row .x0;
+      «dx_recip» = row .«dx_recip»;
+      k0 = row .k0;
+      dk = row .dk;
+      «curvature_recip» = row .«curvature_recip»;
+      «previous_sum» = previousSumOf rows i;
     }
 
 -- t of step p of this size on its quad
@@ -58,13 +56,13 @@ parameterOf quad size p =
 unfoldable pub stepPointOf : StepQuad → Float → ℕ → Point
 stepPointOf quad size p = evalQuadOf (parameterOf quad size p) (quad .p0) (quad .p1) (quad .p2)
 
-unfoldable pub commandPointOf : QuadTable → SplineTable → PointCommand → ℕ → ℕ → Finished
-commandPointOf q s (Start k) p i = finished (splineAt s k .p0) false
-commandPointOf q s (Incr size) p i = finished (stepPointOf (stepQuadOf q i) size p) false
-commandPointOf q s (End k flag) p i = finished (splineAt s k .p2) flag
+unfoldable pub commandPointOf : (ℕ → QuadRow) → SplineTable → PointCommand → ℕ → ℕ → Finished
+commandPointOf rows s (Start k) p i = finished (splineAt s k .p0) false
+commandPointOf rows s (Incr size) p i = finished (stepPointOf (stepQuadOf rows i) size p) false
+commandPointOf rows s (End k flag) p i = finished (splineAt s k .p2) flag
 
-unfoldable pub itemPointOf : QuadTable → SplineTable → Item → Finished
-itemPointOf q s i = commandPointOf q s (i .command) (i .step) (i .quad)
+unfoldable pub itemPointOf : (ℕ → QuadRow) → SplineTable → Item → Finished
+itemPointOf rows s i = commandPointOf rows s (i .command) (i .step) (i .quad)
 
-unfoldable pub pointsOf : QuadTable → SplineTable → List Item → List Finished
-pointsOf q s items = map (itemPointOf q s) items
+unfoldable pub pointsOf : (ℕ → QuadRow) → SplineTable → List Item → List Finished
+pointsOf rows s items = map (itemPointOf rows s) items

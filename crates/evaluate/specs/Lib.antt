@@ -1,4 +1,3 @@
-pub mod Three
 pub mod Evaluate
 pub mod Output
 pub mod Delivery

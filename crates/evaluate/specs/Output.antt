@@ -6,9 +6,10 @@ use lib.Dec.{leb}
 use lib.Ieee.{Float}
 use lib.ListN.{length, drop}
 use Rattle.columns.specs.Flags.{flagByteOf}
-use Rattle.tables.specs.Tables.{QuadTable, SplineTable}
+use Rattle.tables.specs.Tables.{SplineTable}
 use Rattle.walk.specs.Walk.{Item, wordsOf}
 use Rattle.evaluate.specs.Evaluate.{pointsOf}
+use Rattle.primitives.specs.declared.QuadRow.{QuadRow}
 
 -- the words and the outputs: x, y, and 1 for a flagged End
 pub record Output : Type 0 where
@@ -27,8 +28,8 @@ over new old = new ++ drop (length new) old
 unfoldable pub fitsOutput : ℕ → Output → Bool
 fitsOutput n o = leb n (length (o .words)) && leb n (length (o .x)) && leb n (length (o .y)) && leb n (length (o .end))
 
-unfoldable pub writeOutput : QuadTable → SplineTable → List Item → Output → Output
-writeOutput q s items o =
-    let points = pointsOf q s items in
+unfoldable pub writeOutput : (ℕ → QuadRow) → SplineTable → List Item → Output → Output
+writeOutput rows s items o =
+    let points = pointsOf rows s items in
     output (over (wordsOf items) (o .words)) (over (map (λ p. p .point .x) points) (o .x)) (over (map (λ p. p .point .y) points) (o .y))
     (over (map (λ p. flagByteOf (p .end)) points) (o .end))

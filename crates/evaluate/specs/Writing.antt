@@ -10,12 +10,13 @@ use Rattle.command.specs.declared.PointCommand.the-variants.{Start, Incr, End}
 use Rattle.command.specs.Packing.{packOf}
 use Rattle.columns.specs.Flags.{flagByteOf}
 use Rattle.primitives.specs.declared.SplineRow.{SplineRow}
-use Rattle.tables.specs.Tables.{QuadTable, SplineTable, splineAt}
+use Rattle.tables.specs.Tables.{SplineTable, splineAt}
 use Rattle.walk.specs.Walk.{cursorAt, startsAfterOf}
 use Rattle.walk.specs.Length.{stepsOf, sizeOf}
 use Rattle.evaluate.specs.declared.Place.{Place}
 use Rattle.evaluate.specs.Evaluate.{Finished, finished, stepQuadOf, stepPointOf}
 use Rattle.evaluate.specs.Output.{Output, output}
+use Rattle.primitives.specs.declared.QuadRow.{QuadRow}
 
 -- the outputs, and the place that comes next
 pub record Written : Type 0 where
@@ -39,32 +40,32 @@ writeStartOf k last row from o =
     (written o from)
 
 -- n steps from step p on
-unfoldable pub writeStepsFrom : QuadTable → Float → ℕ → ℕ → Place → Output → Written
-writeStepsFrom q size zero p from o = written o from
-writeStepsFrom q size (suc n) p from o =
-    let i = cursorAt q p (from .cursor) in
-    writeStepsFrom q size n (p + 1) (placeAt (from .at + 1) i)
-    (writeEntryOf (from .at) (packOf (Incr size)) (finished (stepPointOf (stepQuadOf q i) size p) false) o)
+unfoldable pub writeStepsFrom : (ℕ → QuadRow) → Float → ℕ → ℕ → Place → Output → Written
+writeStepsFrom rows size zero p from o = written o from
+writeStepsFrom rows size (suc n) p from o =
+    let i = cursorAt rows p (from .cursor) in
+    writeStepsFrom rows size n (p + 1) (placeAt (from .at + 1) i)
+    (writeEntryOf (from .at) (packOf (Incr size)) (finished (stepPointOf (stepQuadOf rows i) size p) false) o)
 
-unfoldable pub writeStepsOf : QuadTable → Float → ℕ → Place → Output → Written
-writeStepsOf q size n from o = writeStepsFrom q size n 1 from o
+unfoldable pub writeStepsOf : (ℕ → QuadRow) → Float → ℕ → Place → Output → Written
+writeStepsOf rows size n from o = writeStepsFrom rows size n 1 from o
 
 -- "and by one after each spline with m over 0"
 unfoldable pub endPlaceOf : Float → Place → Place
 endPlaceOf sum from = placeAt (from .at + 1) (cond (eqb (wholeUpOf sum) 0) (from .cursor) (from .cursor + 1))
 
-unfoldable pub writeSplineOf : QuadTable → ℕ → SplineRow → SplineRow → Place → Output → Written
-writeSplineOf q k last row from o =
+unfoldable pub writeSplineOf : (ℕ → QuadRow) → ℕ → SplineRow → SplineRow → Place → Output → Written
+writeSplineOf rows k last row from o =
     let a = writeStartOf k last row from o in
-    let b = writeStepsOf q (sizeOf (row .curvature)) (stepsOf (row .curvature)) (a .place) (a .output) in
+    let b = writeStepsOf rows (sizeOf (row .curvature)) (stepsOf (row .curvature)) (a .place) (a .output) in
     written (writeEntryOf (b .place .at) (packOf (End k (row .contour))) (finished (row .p2) (row .contour)) (b .output)) (endPlaceOf (row .curvature) (b .place))
 
 -- n splines from spline k on
-unfoldable pub writeWalkFrom : QuadTable → SplineTable → ℕ → ℕ → Place → Output → Output
-writeWalkFrom q s zero k from o = o
-writeWalkFrom q s (suc n) k from o =
-    let w = writeSplineOf q k (splineAt s (k - 1)) (splineAt s k) from o in
-    writeWalkFrom q s n (k + 1) (w .place) (w .output)
+unfoldable pub writeWalkFrom : (ℕ → QuadRow) → SplineTable → ℕ → ℕ → Place → Output → Output
+writeWalkFrom rows s zero k from o = o
+writeWalkFrom rows s (suc n) k from o =
+    let w = writeSplineOf rows k (splineAt s (k - 1)) (splineAt s k) from o in
+    writeWalkFrom rows s n (k + 1) (w .place) (w .output)
 
-unfoldable pub writeWalkOf : QuadTable → SplineTable → ℕ → Output → Output
-writeWalkOf q s n o = writeWalkFrom q s n 0 (placeAt 0 0) o
+unfoldable pub writeWalkOf : (ℕ → QuadRow) → SplineTable → ℕ → Output → Output
+writeWalkOf rows s n o = writeWalkFrom rows s n 0 (placeAt 0 0) o

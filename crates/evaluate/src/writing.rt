@@ -1,7 +1,7 @@
 // The pass that writes: words and points together, in the order of the walk, after its length was tested.
 ghost use mathlib.Core.Path.{_≡_};
 ghost use Prim.Native.Nat.{_≤_};
-ghost use Rattle.tables.specs.Tables.{quadTable, splineTable};
+ghost use Rattle.tables.specs.Tables.{quadTable, splineTable, quadRowAt};
 ghost use Rattle.evaluate.specs.Evaluate.{finished};
 ghost use Rattle.evaluate.specs.Output.{output, fitsOutput};
 ghost use Rattle.evaluate.specs.Writing.{written, writeEntryOf, writeStartOf, writeStepsOf, endPlaceOf, writeSplineOf, writeWalkOf};
@@ -67,15 +67,7 @@ fn write_start(
 
 // The n steps of a spline.
 fn write_steps(
-    x: &[f32],
-    y: &[f32],
-    weight: &[f32],
-    x0: &[f32],
-    dx_recip: &[f32],
-    k0: &[f32],
-    dk: &[f32],
-    curvatures_recip: &[f32],
-    partial_curvatures: &[f32],
+    quad_rows: &[f32],
     partial_splines: &[u32],
     words: &mut [u32],
     out_x: &mut [f32],
@@ -86,7 +78,7 @@ fn write_steps(
     from: Place,
 ) -> Place
     requires { ⌜ (n ≤ 65536) × (from .at ≤ 0x4000_0000_0000_0001) ⌝ }
-    ensures { λ r. ⌜ written (output (now (words .exit)) (now («out_x» .exit)) (now («out_y» .exit)) (now («out_end» .exit))) r ≡ writeStepsOf (quadTable (now (x .entry)) (now (y .entry)) (now (weight .entry)) (now (x0 .entry)) (now («dx_recip» .entry)) (now (k0 .entry)) (now (dk .entry)) (now («curvatures_recip» .entry)) (now («partial_curvatures» .entry)) (now («partial_splines» .entry))) size n from (output (now (words .entry)) (now («out_x» .entry)) (now («out_y» .entry)) (now («out_end» .entry))) ⌝ }
+    ensures { λ r. ⌜ written (output (now (words .exit)) (now («out_x» .exit)) (now («out_y» .exit)) (now («out_end» .exit))) r ≡ writeStepsOf (quadRowAt (quadTable (now («quad_rows» .entry)) (now («partial_splines» .entry)))) size n from (output (now (words .entry)) (now («out_x» .entry)) (now («out_y» .entry)) (now («out_end» .entry))) ⌝ }
 {
     let word = PointCommand::Incr(size).pack();
     let mut at = from.at;
@@ -94,20 +86,8 @@ fn write_steps(
     let mut p: u32 = 1;
     let mut left = n;
     while left > 0 {
-        cursor = step::step_cursor(partial_curvatures, p, cursor);
-        let quad = step::step_quad(
-            x,
-            y,
-            weight,
-            x0,
-            dx_recip,
-            k0,
-            dk,
-            curvatures_recip,
-            partial_curvatures,
-            partial_splines,
-            cursor,
-        );
+        cursor = step::step_cursor(quad_rows, p, cursor);
+        let quad = step::step_quad(quad_rows, partial_splines, cursor);
         let point = step::step_point(quad, size, p);
         write_entry(words, out_x, out_y, out_end, at, word, point, false);
         at += 1;
@@ -133,15 +113,7 @@ fn end_place(sum: f32, from: Place) -> Place
 
 // Spline k, which comes after `last`.
 fn write_spline(
-    x: &[f32],
-    y: &[f32],
-    weight: &[f32],
-    x0: &[f32],
-    dx_recip: &[f32],
-    k0: &[f32],
-    dk: &[f32],
-    curvatures_recip: &[f32],
-    partial_curvatures: &[f32],
+    quad_rows: &[f32],
     partial_splines: &[u32],
     words: &mut [u32],
     out_x: &mut [f32],
@@ -153,22 +125,14 @@ fn write_spline(
     from: Place,
 ) -> Place
     requires { ⌜ (from .at ≤ 0x4000_0000_0000_0000) × (from .cursor ≤ 0x4000_0000_0000_0000) ⌝ }
-    ensures { λ r. ⌜ written (output (now (words .exit)) (now («out_x» .exit)) (now («out_y» .exit)) (now («out_end» .exit))) r ≡ writeSplineOf (quadTable (now (x .entry)) (now (y .entry)) (now (weight .entry)) (now (x0 .entry)) (now («dx_recip» .entry)) (now (k0 .entry)) (now (dk .entry)) (now («curvatures_recip» .entry)) (now («partial_curvatures» .entry)) (now («partial_splines» .entry))) k last row from (output (now (words .entry)) (now («out_x» .entry)) (now («out_y» .entry)) (now («out_end» .entry))) ⌝ }
+    ensures { λ r. ⌜ written (output (now (words .exit)) (now («out_x» .exit)) (now («out_y» .exit)) (now («out_end» .exit))) r ≡ writeSplineOf (quadRowAt (quadTable (now («quad_rows» .entry)) (now («partial_splines» .entry)))) k last row from (output (now (words .entry)) (now («out_x» .entry)) (now («out_y» .entry)) (now («out_end» .entry))) ⌝ }
 {
     let sum = row.curvature;
     let start = write_start(words, out_x, out_y, out_end, k, last, row, from);
     let size = walk::size(sum);
     let n = walk::steps(sum);
     let to = write_steps(
-        x,
-        y,
-        weight,
-        x0,
-        dx_recip,
-        k0,
-        dk,
-        curvatures_recip,
-        partial_curvatures,
+        quad_rows,
         partial_splines,
         words,
         out_x,
@@ -187,15 +151,7 @@ fn write_spline(
 
 // All splines. The place stays small: at most 65,538 entries for each of fewer than 2^32.
 fn write_walk(
-    x: &[f32],
-    y: &[f32],
-    weight: &[f32],
-    x0: &[f32],
-    dx_recip: &[f32],
-    k0: &[f32],
-    dk: &[f32],
-    curvatures_recip: &[f32],
-    partial_curvatures: &[f32],
+    quad_rows: &[f32],
     partial_splines: &[u32],
     curvature: &[f32],
     p0x: &[f32],
@@ -209,7 +165,7 @@ fn write_walk(
     out_end: &mut [u8],
     n: u32,
 )
-    ensures { λ _. ⌜ output (now (words .exit)) (now («out_x» .exit)) (now («out_y» .exit)) (now («out_end» .exit)) ≡ writeWalkOf (quadTable (now (x .entry)) (now (y .entry)) (now (weight .entry)) (now (x0 .entry)) (now («dx_recip» .entry)) (now (k0 .entry)) (now (dk .entry)) (now («curvatures_recip» .entry)) (now («partial_curvatures» .entry)) (now («partial_splines» .entry))) (splineTable (now (curvature .entry)) (now (p0x .entry)) (now (p0y .entry)) (now (p2x .entry)) (now (p2y .entry)) (now (contour .entry))) n (output (now (words .entry)) (now («out_x» .entry)) (now («out_y» .entry)) (now («out_end» .entry))) ⌝ }
+    ensures { λ _. ⌜ output (now (words .exit)) (now («out_x» .exit)) (now («out_y» .exit)) (now («out_end» .exit)) ≡ writeWalkOf (quadRowAt (quadTable (now («quad_rows» .entry)) (now («partial_splines» .entry)))) (splineTable (now (curvature .entry)) (now (p0x .entry)) (now (p0y .entry)) (now (p2x .entry)) (now (p2y .entry)) (now (contour .entry))) n (output (now (words .entry)) (now («out_x» .entry)) (now («out_y» .entry)) (now («out_end» .entry))) ⌝ }
 {
     let mut last = spline_at(curvature, p0x, p0y, p2x, p2y, contour, 0);
     let mut place = Place { at: 0, cursor: 0 };
@@ -218,15 +174,7 @@ fn write_walk(
     while left > 0 {
         let row = spline_at(curvature, p0x, p0y, p2x, p2y, contour, k as usize);
         place = write_spline(
-            x,
-            y,
-            weight,
-            x0,
-            dx_recip,
-            k0,
-            dk,
-            curvatures_recip,
-            partial_curvatures,
+            quad_rows,
             partial_splines,
             words,
             out_x,
@@ -255,15 +203,7 @@ fn holds(words: &[u32], out_x: &[f32], out_y: &[f32], out_end: &[u8], length: u6
 
 // The walk over n splines, written if it fits. It is the same in both settings.
 pub fn deliver(
-    x: &[f32],
-    y: &[f32],
-    weight: &[f32],
-    x0: &[f32],
-    dx_recip: &[f32],
-    k0: &[f32],
-    dk: &[f32],
-    curvatures_recip: &[f32],
-    partial_curvatures: &[f32],
+    quad_rows: &[f32],
     partial_splines: &[u32],
     curvature: &[f32],
     p0x: &[f32],
@@ -278,7 +218,7 @@ pub fn deliver(
     setting: Setting,
     n: u32,
 ) -> Delivered
-    ensures { λ r. ⌜ delivery (r .fits) (r .points) (output (now (words .exit)) (now («out_x» .exit)) (now («out_y» .exit)) (now («out_end» .exit))) ≡ deliverOf setting (quadTable (now (x .entry)) (now (y .entry)) (now (weight .entry)) (now (x0 .entry)) (now («dx_recip» .entry)) (now (k0 .entry)) (now (dk .entry)) (now («curvatures_recip» .entry)) (now («partial_curvatures» .entry)) (now («partial_splines» .entry))) (splineTable (now (curvature .entry)) (now (p0x .entry)) (now (p0y .entry)) (now (p2x .entry)) (now (p2y .entry)) (now (contour .entry))) n (output (now (words .entry)) (now («out_x» .entry)) (now («out_y» .entry)) (now («out_end» .entry))) ⌝ }
+    ensures { λ r. ⌜ delivery (r .fits) (r .points) (output (now (words .exit)) (now («out_x» .exit)) (now («out_y» .exit)) (now («out_end» .exit))) ≡ deliverOf setting (quadRowAt (quadTable (now («quad_rows» .entry)) (now («partial_splines» .entry)))) (splineTable (now (curvature .entry)) (now (p0x .entry)) (now (p0y .entry)) (now (p2x .entry)) (now (p2y .entry)) (now (contour .entry))) n (output (now (words .entry)) (now («out_x» .entry)) (now («out_y» .entry)) (now («out_end» .entry))) ⌝ }
 {
     let length = walk::walk_length(curvature, p0x, p0y, p2x, p2y, contour, n);
     if !holds(&words[..], &out_x[..], &out_y[..], &out_end[..], length) {
@@ -288,15 +228,7 @@ pub fn deliver(
         };
     }
     write_walk(
-        x,
-        y,
-        weight,
-        x0,
-        dx_recip,
-        k0,
-        dk,
-        curvatures_recip,
-        partial_curvatures,
+        quad_rows,
         partial_splines,
         curvature,
         p0x,

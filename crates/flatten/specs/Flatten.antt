@@ -13,7 +13,7 @@ use Rattle.store.specs.declared.StoreState.{StoreState}
 use Rattle.store.specs.Columns.{Columns}
 use Rattle.store.specs.Drawable.{drawableOf}
 use Rattle.columns.specs.Flags.{flagByteOf}
-use Rattle.tables.specs.Tables.{QuadTable, SplineTable}
+use Rattle.tables.specs.Tables.{QuadTable, SplineTable, quadRowAt}
 use Rattle.tables.specs.Run.{World}
 use Rattle.tables.specs.Commands.{tablesOf}
 use Rattle.walk.specs.Walk.{Item, walkOf, wordsOf}
@@ -38,12 +38,12 @@ flattening result q s o = record { result = result; quads = q; splines = s; outp
 unfoldable pub walked : Bool → World → List Item → Output → Flattening
 walked false w items o = flattening (flattened OutputShort (w .state .splines) (w .state .quads) 0) (w .quads) (w .splines) o
 walked true w items o =
-    flattening (flattened Done (w .state .splines) (w .state .quads) (length items)) (w .quads) (w .splines) (writeOutput (w .quads) (w .splines) items o)
+    flattening (flattened Done (w .state .splines) (w .state .quads) (length items)) (w .quads) (w .splines) (writeOutput (quadRowAt (w .quads)) (w .splines) items o)
 
 -- "On 5 to 8 the tables hold all that was pushed before the refused primitive"
 unfoldable pub tabled : Setting → Bool → World → Output → Flattening
 tabled setting false w o = flattening (flattened (w .state .answer) (w .state .splines) (w .state .quads) 0) (w .quads) (w .splines) o
-tabled setting true w o = let items = walkOf setting (w .quads) (w .splines) (w .state .splines) in walked (fitsOutput (length items) o) w items o
+tabled setting true w o = let items = walkOf setting (quadRowAt (w .quads)) (w .splines) (w .state .splines) in walked (fitsOutput (length items) o) w items o
 
 -- "On 3 no buffer is written and all counts are 0."
 unfoldable pub flattenDrawable : Bool → Setting → StoreState → Columns → QuadTable → SplineTable → Output → Flattening

@@ -24,15 +24,7 @@ pub fn flatten(
     y: &[f32],
     weight: &[f32],
     commands: &[u8],
-    quad_x: &mut [f32],
-    quad_y: &mut [f32],
-    quad_weight: &mut [f32],
-    x0: &mut [f32],
-    dx_recip: &mut [f32],
-    k0: &mut [f32],
-    dk: &mut [f32],
-    curvatures_recip: &mut [f32],
-    partial_curvatures: &mut [f32],
+    quad_rows: &mut [f32],
     partial_splines: &mut [u32],
     curvature: &mut [f32],
     p0x: &mut [f32],
@@ -45,7 +37,7 @@ pub fn flatten(
     out_y: &mut [f32],
     out_end: &mut [u8],
 ) -> Flattened
-    ensures { λ r. ⌜ flattening r (quadTable (now («quad_x» .exit)) (now («quad_y» .exit)) (now («quad_weight» .exit)) (now (x0 .exit)) (now («dx_recip» .exit)) (now (k0 .exit)) (now (dk .exit)) (now («curvatures_recip» .exit)) (now («partial_curvatures» .exit)) (now («partial_splines» .exit))) (splineTable (now (curvature .exit)) (now (p0x .exit)) (now (p0y .exit)) (now (p2x .exit)) (now (p2y .exit)) (now (contour .exit))) (output (now (words .exit)) (now («out_x» .exit)) (now («out_y» .exit)) (now («out_end» .exit))) ≡ flattenOf setting st (columns (now (x .entry)) (now (y .entry)) (now (weight .entry)) (now (commands .entry))) (quadTable (now («quad_x» .entry)) (now («quad_y» .entry)) (now («quad_weight» .entry)) (now (x0 .entry)) (now («dx_recip» .entry)) (now (k0 .entry)) (now (dk .entry)) (now («curvatures_recip» .entry)) (now («partial_curvatures» .entry)) (now («partial_splines» .entry))) (splineTable (now (curvature .entry)) (now (p0x .entry)) (now (p0y .entry)) (now (p2x .entry)) (now (p2y .entry)) (now (contour .entry))) (output (now (words .entry)) (now («out_x» .entry)) (now («out_y» .entry)) (now («out_end» .entry))) ⌝ }
+    ensures { λ r. ⌜ flattening r (quadTable (now («quad_rows» .exit)) (now («partial_splines» .exit))) (splineTable (now (curvature .exit)) (now (p0x .exit)) (now (p0y .exit)) (now (p2x .exit)) (now (p2y .exit)) (now (contour .exit))) (output (now (words .exit)) (now («out_x» .exit)) (now («out_y» .exit)) (now («out_end» .exit))) ≡ flattenOf setting st (columns (now (x .entry)) (now (y .entry)) (now (weight .entry)) (now (commands .entry))) (quadTable (now («quad_rows» .entry)) (now («partial_splines» .entry))) (splineTable (now (curvature .entry)) (now (p0x .entry)) (now (p0y .entry)) (now (p2x .entry)) (now (p2y .entry)) (now (contour .entry))) (output (now (words .entry)) (now («out_x» .entry)) (now («out_y» .entry)) (now («out_end» .entry))) ⌝ }
 {
     if !store::drawable(x, y, weight, commands, st) {
         return refused(Answer::Unusable, 0, 0);
@@ -55,15 +47,7 @@ pub fn flatten(
         y,
         weight,
         commands,
-        quad_x,
-        quad_y,
-        quad_weight,
-        x0,
-        dx_recip,
-        k0,
-        dk,
-        curvatures_recip,
-        partial_curvatures,
+        quad_rows,
         partial_splines,
         curvature,
         p0x,
@@ -79,15 +63,7 @@ pub fn flatten(
         return refused(answer, state.splines, state.quads);
     }
     let delivered = evaluate::deliver(
-        &quad_x[..],
-        &quad_y[..],
-        &quad_weight[..],
-        &x0[..],
-        &dx_recip[..],
-        &k0[..],
-        &dk[..],
-        &curvatures_recip[..],
-        &partial_curvatures[..],
+        &quad_rows[..],
         &partial_splines[..],
         &curvature[..],
         &p0x[..],

@@ -170,19 +170,7 @@ pub fn flattened(
         &mut out_y,
         &mut out_end,
     );
-    put_quads(
-        seen,
-        &quad_x,
-        &quad_y,
-        &quad_weight,
-        &x0,
-        &dx_recip,
-        &k0,
-        &dk,
-        &curvatures_recip,
-        &partial_curvatures,
-        &partial_splines,
-    );
+    put_quads(seen, &quad_rows, &partial_splines);
     put_splines(seen, &curvature, &p0x, &p0y, &p2x, &p2y, &contour);
     put_outputs(seen, &words, &out_x, &out_y, &out_end);
     r

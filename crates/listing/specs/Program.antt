@@ -29,7 +29,7 @@ unfoldable pub programColumns : Columns
 programColumns = columns (zeros 512) (zeros 512) (zeros 512) (replicate 512 0)
 
 unfoldable pub programQuads : QuadTable
-programQuads = quadTable (zeros 768) (zeros 768) (zeros 768) (zeros 256) (zeros 256) (zeros 256) (zeros 256) (zeros 256) (zeros 256) (replicate 256 0)
+programQuads = quadTable (zeros 3840) (replicate 256 0)
 
 unfoldable pub programSplines : SplineTable
 programSplines = splineTable (zeros 256) (zeros 256) (zeros 256) (zeros 256) (zeros 256) (replicate 256 0)

@@ -45,15 +45,7 @@ fn flat(
 ) -> Listed
     ensures { λ r. ⌜ listed r (now (output .exit)) ≡ listedAs (inBytes (flatOf st (columns (now (x .entry)) (now (y .entry)) (now (weight .entry)) (now (commands .entry))))) (now (output .entry)) ⌝ }
 {
-    let mut quad_x = [0.0f32; 768];
-    let mut quad_y = [0.0f32; 768];
-    let mut quad_weight = [0.0f32; 768];
-    let mut x0 = [0.0f32; 256];
-    let mut dx_recip = [0.0f32; 256];
-    let mut k0 = [0.0f32; 256];
-    let mut dk = [0.0f32; 256];
-    let mut curvatures_recip = [0.0f32; 256];
-    let mut partial_curvatures = [0.0f32; 256];
+    let mut quad_rows = [0.0f32; 3840];
     let mut partial_splines = [0u32; 256];
     let mut curvature = [0.0f32; 256];
     let mut p0x = [0.0f32; 256];
@@ -72,15 +64,7 @@ fn flat(
         y,
         weight,
         commands,
-        &mut quad_x,
-        &mut quad_y,
-        &mut quad_weight,
-        &mut x0,
-        &mut dx_recip,
-        &mut k0,
-        &mut dk,
-        &mut curvatures_recip,
-        &mut partial_curvatures,
+        &mut quad_rows,
         &mut partial_splines,
         &mut curvature,
         &mut p0x,

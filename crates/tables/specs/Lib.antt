@@ -1,3 +1,4 @@
 pub mod Tables
+pub mod Threes
 pub mod Run
 pub mod Commands

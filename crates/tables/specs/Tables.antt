@@ -1,10 +1,11 @@
 -- RULES, The tables: the quad table and the spline table as records of columns, their capacities, and what an edit stores. Assumes nothing.
 use Prim.Native.Nat.{ℕ, _+_, _-_, _*_, _/_, min}
 use mathlib.Core.Bool.{Bool, true, false, cond}
-use mathlib.Core.List.{List}
-use lib.Dec.{eqb}
+use mathlib.Core.List.{List, [], _∷_}
+use lib.Dec.{eqb, ltb}
 use lib.Ieee.{Float, nan}
 use lib.ListN.{length, getD, set}
+use lib.Seq.{sets}
 use Rattle.columns.specs.Flags.{flagByteOf, isFlagOf}
 use Rattle.leaves.specs.Single.{zero32}
 use Rattle.point.specs.Point.{pointAt}
@@ -15,17 +16,9 @@ use Rattle.primitives.specs.declared.SplineRow.{SplineRow}
 use Rattle.primitives.specs.declared.SplineEdit.{SplineEdit}
 use Rattle.primitives.specs.declared.Capacities.{Capacities}
 
--- x, y and weight have three numbers for each quad; partial-splines has the number of its spline
+-- quad i has the numbers 15·i to 15·i + 14 of the rows, and entry i of partial-splines, the number of its spline
 pub record QuadTable : Type 0 where
-  pub x : List Float
-  pub y : List Float
-  pub weight : List Float
-  pub x0 : List Float
-  pub dx-recip : List Float
-  pub k0 : List Float
-  pub dk : List Float
-  pub curvatures-recip : List Float
-  pub partial-curvatures : List Float
+  pub rows : List Float
   pub partial-splines : List ℕ
 
 -- curvature is the spline's sum; contour has its flags
@@ -37,37 +30,20 @@ pub record SplineTable : Type 0 where
   pub p2y : List Float
   pub contour : List ℕ
 
-abbrev pub quadTable : List Float → List Float → List Float → List Float → List Float → List Float → List Float → List Float → List Float → List ℕ → QuadTable
-quadTable x y weight x0 dx-recip k0 dk curvatures-recip partial-curvatures partial-splines =
-    record {
-      x = x;
-      y = y;
-      weight = weight;
-      x0 = x0;
-      dx-recip = dx-recip;
-      k0 = k0;
-      dk = dk;
-      curvatures-recip = curvatures-recip;
-      partial-curvatures = partial-curvatures;
-      partial-splines = partial-splines;
-    }
+abbrev pub quadTable : List Float → List ℕ → QuadTable
+quadTable rows partial-splines = record { rows = rows; partial-splines = partial-splines }
 
 abbrev pub splineTable : List Float → List Float → List Float → List Float → List Float → List ℕ → SplineTable
 splineTable curvature p0x p0y p2x p2y contour =
     record { curvature = curvature; p0x = p0x; p0y = p0y; p2x = p2x; p2y = p2y; contour = contour }
 
--- ---- "A table's capacity is its shortest column; a column with three numbers for each quad counts whole threes."
+-- how many rows are whole; an incomplete row at the end is never read and never written
+abbrev pub wholeRowsOf : List Float → ℕ
+wholeRowsOf rows = length rows / 15
+
+-- ---- "Capacity is then the whole rows that fit or the length of the spline number's column, the smaller of the two"
 unfoldable pub quadCapacityOf : QuadTable → ℕ
-quadCapacityOf q =
-    min (length (q .x) / 3)
-    (min (length (q .y) / 3)
-    (min (length (q .weight) / 3)
-    (min (length (q .x0))
-    (min (length (q .dx-recip))
-    (min (length (q .k0))
-    (min (length (q .dk))
-    (min (length (q .curvatures-recip))
-    (min (length (q .partial-curvatures)) (length (q .partial-splines))))))))))
+quadCapacityOf q = min (wholeRowsOf (q .rows)) (length (q .partial-splines))
 
 -- "the spline table is full, or holds 4,194,304"
 unfoldable pub splineCapacityOf : SplineTable → ℕ
@@ -83,22 +59,44 @@ unfoldable pub capacitiesOf : QuadTable → SplineTable → Capacities
 capacitiesOf q s = record { quads = quadCapacityOf q; splines = splineCapacityOf s }
 
 -- ---- rows
-abbrev pub setThree : List Float → ℕ → Three → List Float
-setThree column i v = set (set (set column (3 * i) (v .a)) (3 * i + 1) (v .b)) (3 * i + 2) (v .c)
+-- "three x, three y, three weights, x0, dx_recip, k0, dk, the reciprocal, the sum"
+unfoldable pub numbersOf : QuadRow → List Float
+numbersOf row =
+    row .x .a ∷ row .x .b ∷ row .x .c
+    ∷ row .y .a ∷ row .y .b ∷ row .y .c
+    ∷ row .weight .a ∷ row .weight .b ∷ row .weight .c
+    ∷ row .x0 ∷ row .«dx_recip» ∷ row .k0 ∷ row .dk ∷ row .«curvature_recip» ∷ row .«partial_curvature» ∷ []
 
+-- past the capacity nothing is written
 unfoldable pub putQuad : QuadTable → ℕ → QuadRow → QuadTable
 putQuad q i row =
+    cond (ltb i (quadCapacityOf q)) (quadTable (sets (q .rows) (15 * i) (numbersOf row)) (set (q .partial-splines) i (row .spline))) q
+
+-- number k of row i, or NaN where the row is not whole
+unfoldable pub numberAt : List Float → ℕ → ℕ → Float
+numberAt rows i k = cond (ltb i (wholeRowsOf rows)) (getD rows (15 * i + k) nan) nan
+
+abbrev pub threeAt : List Float → ℕ → ℕ → Three
+threeAt rows i k = record { a = numberAt rows i k; b = numberAt rows i (k + 1); c = numberAt rows i (k + 2) }
+
+-- the sum, the last number of a row
+abbrev pub sumAtOf : List Float → ℕ → Float
+sumAtOf rows i = numberAt rows i 14
+
+unfoldable pub quadRowAt : QuadTable → ℕ → QuadRow
+quadRowAt q i =
+    let rows = q .rows in
     record {
-      x = setThree (q .x) i (row .x);
-      y = setThree (q .y) i (row .y);
-      weight = setThree (q .weight) i (row .weight);
-      x0 = set (q .x0) i (row .x0);
-      dx-recip = set (q .dx-recip) i (row .«dx_recip»);
-      k0 = set (q .k0) i (row .k0);
-      dk = set (q .dk) i (row .dk);
-      curvatures-recip = set (q .curvatures-recip) i (row .«curvature_recip»);
-      partial-curvatures = set (q .partial-curvatures) i (row .«partial_curvature»);
-      partial-splines = set (q .partial-splines) i (row .spline);
+      x = threeAt rows i 0;
+      y = threeAt rows i 3;
+      weight = threeAt rows i 6;
+      x0 = numberAt rows i 9;
+      «dx_recip» = numberAt rows i 10;
+      k0 = numberAt rows i 11;
+      dk = numberAt rows i 12;
+      «curvature_recip» = numberAt rows i 13;
+      «partial_curvature» = sumAtOf rows i;
+      spline = getD (q .partial-splines) i 0;
     }
 
 -- the flag of the spline before k, cleared if the edit clears it

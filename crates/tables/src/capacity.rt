@@ -1,7 +1,7 @@
 // How many quads and splines the lent columns take.
 ghost use mathlib.Core.Path.{_≡_};
 ghost use Prim.Native.Nat.{min};
-ghost use Rattle.tables.specs.Tables.{quadTable, splineTable, quadCapacityOf, splineCapacityOf};
+ghost use Rattle.tables.specs.Tables.{quadTable, splineTable, wholeRowsOf, quadCapacityOf, splineCapacityOf};
 use command::PointCommand;
 
 pub fn least(a: usize, b: usize) -> usize
@@ -10,27 +10,17 @@ pub fn least(a: usize, b: usize) -> usize
     if a < b { a } else { b }
 }
 
-pub fn quad_capacity(
-    x: &[f32],
-    y: &[f32],
-    weight: &[f32],
-    x0: &[f32],
-    dx_recip: &[f32],
-    k0: &[f32],
-    dk: &[f32],
-    curvatures_recip: &[f32],
-    partial_curvatures: &[f32],
-    partial_splines: &[u32],
-) -> usize
-    ensures { λ r. ⌜ r ≡ quadCapacityOf (quadTable (now (x .entry)) (now (y .entry)) (now (weight .entry)) (now (x0 .entry)) (now («dx_recip» .entry)) (now (k0 .entry)) (now (dk .entry)) (now («curvatures_recip» .entry)) (now («partial_curvatures» .entry)) (now («partial_splines» .entry))) ⌝ }
+// How many rows of 15 numbers are whole.
+pub fn whole_rows(quad_rows: &[f32]) -> usize
+    ensures { λ r. ⌜ r ≡ wholeRowsOf (now («quad_rows» .entry)) ⌝ }
 {
-    let sums = least(partial_curvatures.len(), partial_splines.len());
-    let bent = least(dk.len(), least(curvatures_recip.len(), sums));
-    let curved = least(x0.len(), least(dx_recip.len(), least(k0.len(), bent)));
-    least(
-        x.len() / 3,
-        least(y.len() / 3, least(weight.len() / 3, curved)),
-    )
+    quad_rows.len() / 15
+}
+
+pub fn quad_capacity(quad_rows: &[f32], partial_splines: &[u32]) -> usize
+    ensures { λ r. ⌜ r ≡ quadCapacityOf (quadTable (now («quad_rows» .entry)) (now («partial_splines» .entry))) ⌝ }
+{
+    least(whole_rows(quad_rows), partial_splines.len())
 }
 
 pub fn spline_capacity(

@@ -80,15 +80,7 @@ fn push_command(
     x: &[f32],
     y: &[f32],
     weight: &[f32],
-    quad_x: &mut [f32],
-    quad_y: &mut [f32],
-    quad_weight: &mut [f32],
-    x0: &mut [f32],
-    dx_recip: &mut [f32],
-    k0: &mut [f32],
-    dk: &mut [f32],
-    curvatures_recip: &mut [f32],
-    partial_curvatures: &mut [f32],
+    quad_rows: &mut [f32],
     partial_splines: &mut [u32],
     curvature: &mut [f32],
     p0x: &mut [f32],
@@ -103,20 +95,12 @@ fn push_command(
     j: usize,
 ) -> State
     requires { ⌜ j < 2 ^ 63 ⌝ }
-    ensures { λ r. ⌜ world r (quadTable (now («quad_x» .exit)) (now («quad_y» .exit)) (now («quad_weight» .exit)) (now (x0 .exit)) (now («dx_recip» .exit)) (now (k0 .exit)) (now (dk .exit)) (now («curvatures_recip» .exit)) (now («partial_curvatures» .exit)) (now («partial_splines» .exit))) (splineTable (now (curvature .exit)) (now (p0x .exit)) (now (p0y .exit)) (now (p2x .exit)) (now (p2y .exit)) (now (contour .exit))) ≡ runOf setting caps (commandPrimitivesOf (columns (now (x .entry)) (now (y .entry)) (now (weight .entry)) []) k j) (world st (quadTable (now («quad_x» .entry)) (now («quad_y» .entry)) (now («quad_weight» .entry)) (now (x0 .entry)) (now («dx_recip» .entry)) (now (k0 .entry)) (now (dk .entry)) (now («curvatures_recip» .entry)) (now («partial_curvatures» .entry)) (now («partial_splines» .entry))) (splineTable (now (curvature .entry)) (now (p0x .entry)) (now (p0y .entry)) (now (p2x .entry)) (now (p2y .entry)) (now (contour .entry)))) ⌝ }
+    ensures { λ r. ⌜ world r (quadTable (now («quad_rows» .exit)) (now («partial_splines» .exit))) (splineTable (now (curvature .exit)) (now (p0x .exit)) (now (p0y .exit)) (now (p2x .exit)) (now (p2y .exit)) (now (contour .exit))) ≡ runOf setting caps (commandPrimitivesOf (columns (now (x .entry)) (now (y .entry)) (now (weight .entry)) []) k j) (world st (quadTable (now («quad_rows» .entry)) (now («partial_splines» .entry))) (splineTable (now (curvature .entry)) (now (p0x .entry)) (now (p0y .entry)) (now (p2x .entry)) (now (p2y .entry)) (now (contour .entry)))) ⌝ }
 {
     if k < CUBIC {
         let p = command_primitive(x, y, weight, k, j);
         return push(
-            quad_x,
-            quad_y,
-            quad_weight,
-            x0,
-            dx_recip,
-            k0,
-            dk,
-            curvatures_recip,
-            partial_curvatures,
+            quad_rows,
             partial_splines,
             curvature,
             p0x,
@@ -132,15 +116,7 @@ fn push_command(
     }
     let c = cubic_from(x, y, weight, below(j));
     push_cubic(
-        quad_x,
-        quad_y,
-        quad_weight,
-        x0,
-        dx_recip,
-        k0,
-        dk,
-        curvatures_recip,
-        partial_curvatures,
+        quad_rows,
         partial_splines,
         curvature,
         p0x,
@@ -161,15 +137,7 @@ pub fn fill(
     y: &[f32],
     weight: &[f32],
     commands: &[u8],
-    quad_x: &mut [f32],
-    quad_y: &mut [f32],
-    quad_weight: &mut [f32],
-    x0: &mut [f32],
-    dx_recip: &mut [f32],
-    k0: &mut [f32],
-    dk: &mut [f32],
-    curvatures_recip: &mut [f32],
-    partial_curvatures: &mut [f32],
+    quad_rows: &mut [f32],
     partial_splines: &mut [u32],
     curvature: &mut [f32],
     p0x: &mut [f32],
@@ -180,21 +148,10 @@ pub fn fill(
     setting: Setting,
     store: StoreState,
 ) -> State
-    ensures { λ r. ⌜ world r (quadTable (now («quad_x» .exit)) (now («quad_y» .exit)) (now («quad_weight» .exit)) (now (x0 .exit)) (now («dx_recip» .exit)) (now (k0 .exit)) (now (dk .exit)) (now («curvatures_recip» .exit)) (now («partial_curvatures» .exit)) (now («partial_splines» .exit))) (splineTable (now (curvature .exit)) (now (p0x .exit)) (now (p0y .exit)) (now (p2x .exit)) (now (p2y .exit)) (now (contour .exit))) ≡ tablesOf setting store (columns (now (x .entry)) (now (y .entry)) (now (weight .entry)) (now (commands .entry))) (quadTable (now («quad_x» .entry)) (now («quad_y» .entry)) (now («quad_weight» .entry)) (now (x0 .entry)) (now («dx_recip» .entry)) (now (k0 .entry)) (now (dk .entry)) (now («curvatures_recip» .entry)) (now («partial_curvatures» .entry)) (now («partial_splines» .entry))) (splineTable (now (curvature .entry)) (now (p0x .entry)) (now (p0y .entry)) (now (p2x .entry)) (now (p2y .entry)) (now (contour .entry))) ⌝ }
+    ensures { λ r. ⌜ world r (quadTable (now («quad_rows» .exit)) (now («partial_splines» .exit))) (splineTable (now (curvature .exit)) (now (p0x .exit)) (now (p0y .exit)) (now (p2x .exit)) (now (p2y .exit)) (now (contour .exit))) ≡ tablesOf setting store (columns (now (x .entry)) (now (y .entry)) (now (weight .entry)) (now (commands .entry))) (quadTable (now («quad_rows» .entry)) (now («partial_splines» .entry))) (splineTable (now (curvature .entry)) (now (p0x .entry)) (now (p0y .entry)) (now (p2x .entry)) (now (p2y .entry)) (now (contour .entry))) ⌝ }
 {
     let caps = Capacities {
-        quads: quad_capacity(
-            &quad_x[..],
-            &quad_y[..],
-            &quad_weight[..],
-            &x0[..],
-            &dx_recip[..],
-            &k0[..],
-            &dk[..],
-            &curvatures_recip[..],
-            &partial_curvatures[..],
-            &partial_splines[..],
-        ),
+        quads: quad_capacity(&quad_rows[..], &partial_splines[..]),
         splines: spline_capacity(
             &curvature[..],
             &p0x[..],
@@ -221,15 +178,7 @@ pub fn fill(
             x,
             y,
             weight,
-            quad_x,
-            quad_y,
-            quad_weight,
-            x0,
-            dx_recip,
-            k0,
-            dk,
-            curvatures_recip,
-            partial_curvatures,
+            quad_rows,
             partial_splines,
             curvature,
             p0x,

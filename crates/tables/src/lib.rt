@@ -10,6 +10,8 @@ pub use commands::fill;
 pub use rows::last_spline;
 pub use rows::put_quad;
 pub use rows::put_spline;
+pub use rows::quad_row_at;
 pub use rows::spline_at;
+pub use rows::sum_at;
 pub use run::push;
 pub use run::push_cubic;

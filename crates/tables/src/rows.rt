@@ -1,6 +1,12 @@
 // One row of a table, written and read. An index past the end of a column writes nothing there, and reads NaN or 0.
 ghost use mathlib.Core.Path.{_≡_};
-ghost use Rattle.tables.specs.Tables.{quadTable, splineTable, setThree, putQuad, clearFlag, putSpline, splineAt, lastSplineOf};
+ghost use Prim.Native.Nat.{_+_, _≤_};
+ghost use lib.ListN.{length};
+ghost use lib.Seq.{sets};
+ghost use Rattle.tables.specs.Tables.{quadTable, splineTable, numbersOf, putQuad, sumAtOf, quadRowAt, clearFlag, putSpline, splineAt, lastSplineOf};
+ghost use Rattle.tables.specs.Threes.{setThree, threeFrom, rowFrom, noRow};
+use crate::capacity::quad_capacity;
+use crate::capacity::whole_rows;
 use columns::flag_byte;
 use columns::is_flag;
 use columns::put_f32;
@@ -8,6 +14,7 @@ use columns::put_u8;
 use columns::put_u32;
 use columns::read_f32;
 use columns::read_u8;
+use columns::read_u32;
 use point::Point;
 use primitives::QuadRow;
 use primitives::SplineEdit;
@@ -15,50 +22,138 @@ use primitives::SplineRow;
 use primitives::Three;
 use primitives::below;
 
-// The three numbers of quad i.
-fn set_three(column: &mut [f32], i: usize, v: Three)
-    ensures { λ _. ⌜ now (column .exit) ≡ setThree (now (column .entry)) i v ⌝ }
+// How many numbers a quad has.
+const WIDTH: usize = 15;
+
+fn put_three(quad_rows: &mut [f32], j: usize, v: Three)
+    requires { ⌜ j + 3 ≤ length (now «quad_rows») ⌝ }
+    ensures { λ _. ⌜ now («quad_rows» .exit) ≡ setThree (now («quad_rows» .entry)) j v ⌝ }
 {
-    // Past the length there is nothing to write, and 3 * i could wrap.
-    if i < column.len() {
-        let j = 3 * i;
-        let k = j + 1;
-        let l = j + 2;
-        put_f32(column, j, v.a);
-        put_f32(column, k, v.b);
-        put_f32(column, l, v.c);
+    let k = j + 1;
+    let l = j + 2;
+    quad_rows[j] = v.a;
+    quad_rows[k] = v.b;
+    quad_rows[l] = v.c;
+}
+
+// The row whose first number is at j: five times three numbers.
+fn put_row(quad_rows: &mut [f32], j: usize, row: QuadRow)
+    requires { ⌜ j + 15 ≤ length (now «quad_rows») ⌝ }
+    ensures { λ _. ⌜ now («quad_rows» .exit) ≡ sets (now («quad_rows» .entry)) j (numbersOf row) ⌝ }
+{
+    let fourth = Three {
+        a: row.x0,
+        b: row.dx_recip,
+        c: row.k0,
+    };
+    let fifth = Three {
+        a: row.dk,
+        b: row.curvature_recip,
+        c: row.partial_curvature,
+    };
+    let j3 = j + 3;
+    let j6 = j + 6;
+    let j9 = j + 9;
+    let j12 = j + 12;
+    put_three(quad_rows, j, row.x);
+    put_three(quad_rows, j3, row.y);
+    put_three(quad_rows, j6, row.weight);
+    put_three(quad_rows, j9, fourth);
+    put_three(quad_rows, j12, fifth);
+}
+
+pub fn put_quad(quad_rows: &mut [f32], partial_splines: &mut [u32], i: usize, row: QuadRow)
+    ensures { λ _. ⌜ quadTable (now («quad_rows» .exit)) (now («partial_splines» .exit)) ≡ putQuad (quadTable (now («quad_rows» .entry)) (now («partial_splines» .entry))) i row ⌝ }
+{
+    if i < quad_capacity(&quad_rows[..], &partial_splines[..]) {
+        let j = WIDTH * i;
+        put_row(quad_rows, j, row);
+        put_u32(partial_splines, i, row.spline);
     }
 }
 
-pub fn put_quad(
-    x: &mut [f32],
-    y: &mut [f32],
-    weight: &mut [f32],
-    x0: &mut [f32],
-    dx_recip: &mut [f32],
-    k0: &mut [f32],
-    dk: &mut [f32],
-    curvatures_recip: &mut [f32],
-    partial_curvatures: &mut [f32],
-    partial_splines: &mut [u32],
-    i: usize,
-    row: QuadRow,
-)
-    ensures { λ _. ⌜ quadTable (now (x .exit)) (now (y .exit)) (now (weight .exit)) (now (x0 .exit)) (now («dx_recip» .exit)) (now (k0 .exit)) (now (dk .exit)) (now («curvatures_recip» .exit)) (now («partial_curvatures» .exit)) (now («partial_splines» .exit)) ≡ putQuad (quadTable (now (x .entry)) (now (y .entry)) (now (weight .entry)) (now (x0 .entry)) (now («dx_recip» .entry)) (now (k0 .entry)) (now (dk .entry)) (now («curvatures_recip» .entry)) (now («partial_curvatures» .entry)) (now («partial_splines» .entry))) i row ⌝ }
+fn three_from(quad_rows: &[f32], j: usize) -> Three
+    requires { ⌜ j + 3 ≤ length (now «quad_rows») ⌝ }
+    ensures { λ r. ⌜ r ≡ threeFrom (now («quad_rows» .entry)) j ⌝ }
 {
-    let xs = row.x;
-    let ys = row.y;
-    let weights = row.weight;
-    set_three(x, i, xs);
-    set_three(y, i, ys);
-    set_three(weight, i, weights);
-    put_f32(x0, i, row.x0);
-    put_f32(dx_recip, i, row.dx_recip);
-    put_f32(k0, i, row.k0);
-    put_f32(dk, i, row.dk);
-    put_f32(curvatures_recip, i, row.curvature_recip);
-    put_f32(partial_curvatures, i, row.partial_curvature);
-    put_u32(partial_splines, i, row.spline);
+    let k = j + 1;
+    let l = j + 2;
+    Three {
+        a: quad_rows[j],
+        b: quad_rows[k],
+        c: quad_rows[l],
+    }
+}
+
+// The row whose first number is at j.
+fn whole_row(quad_rows: &[f32], j: usize, spline: u32) -> QuadRow
+    requires { ⌜ j + 15 ≤ length (now «quad_rows») ⌝ }
+    ensures { λ r. ⌜ r ≡ rowFrom (now («quad_rows» .entry)) j spline ⌝ }
+{
+    let j3 = j + 3;
+    let j6 = j + 6;
+    let j9 = j + 9;
+    let j12 = j + 12;
+    let fourth = three_from(quad_rows, j9);
+    let fifth = three_from(quad_rows, j12);
+    QuadRow {
+        x: three_from(quad_rows, j),
+        y: three_from(quad_rows, j3),
+        weight: three_from(quad_rows, j6),
+        x0: fourth.a,
+        dx_recip: fourth.b,
+        k0: fourth.c,
+        dk: fifth.a,
+        curvature_recip: fifth.b,
+        partial_curvature: fifth.c,
+        spline,
+    }
+}
+
+// What is read where a row is not whole.
+fn no_row(spline: u32) -> QuadRow
+    ensures { λ r. ⌜ r ≡ noRow spline ⌝ }
+{
+    let nan = 0.0 / 0.0;
+    let three = Three {
+        a: nan,
+        b: nan,
+        c: nan,
+    };
+    QuadRow {
+        x: three,
+        y: three,
+        weight: three,
+        x0: nan,
+        dx_recip: nan,
+        k0: nan,
+        dk: nan,
+        curvature_recip: nan,
+        partial_curvature: nan,
+        spline,
+    }
+}
+
+pub fn quad_row_at(quad_rows: &[f32], partial_splines: &[u32], i: usize) -> QuadRow
+    ensures { λ r. ⌜ r ≡ quadRowAt (quadTable (now («quad_rows» .entry)) (now («partial_splines» .entry))) i ⌝ }
+{
+    let spline = read_u32(partial_splines, i);
+    if i < whole_rows(quad_rows) {
+        return whole_row(quad_rows, WIDTH * i, spline);
+    }
+    no_row(spline)
+}
+
+// The sum of quad i, or NaN where its row is not whole.
+pub fn sum_at(quad_rows: &[f32], i: usize) -> f32
+    ensures { λ r. ⌜ r ≡ sumAtOf (now («quad_rows» .entry)) i ⌝ }
+{
+    if i < whole_rows(quad_rows) {
+        let j = WIDTH * i;
+        let k = j + 14;
+        return quad_rows[k];
+    }
+    0.0 / 0.0
 }
 
 // If `clears` is true, the flag of the spline before k is cleared.

@@ -23,15 +23,7 @@ const MAX_PIECES: u32 = 1024;
 
 // The few changes of an edit, in the tables.
 fn apply(
-    quad_x: &mut [f32],
-    quad_y: &mut [f32],
-    quad_weight: &mut [f32],
-    x0: &mut [f32],
-    dx_recip: &mut [f32],
-    k0: &mut [f32],
-    dk: &mut [f32],
-    curvatures_recip: &mut [f32],
-    partial_curvatures: &mut [f32],
+    quad_rows: &mut [f32],
     partial_splines: &mut [u32],
     curvature: &mut [f32],
     p0x: &mut [f32],
@@ -41,7 +33,7 @@ fn apply(
     contour: &mut [u8],
     edit: Edit,
 ) -> State
-    ensures { λ r. ⌜ world r (quadTable (now («quad_x» .exit)) (now («quad_y» .exit)) (now («quad_weight» .exit)) (now (x0 .exit)) (now («dx_recip» .exit)) (now (k0 .exit)) (now (dk .exit)) (now («curvatures_recip» .exit)) (now («partial_curvatures» .exit)) (now («partial_splines» .exit))) (splineTable (now (curvature .exit)) (now (p0x .exit)) (now (p0y .exit)) (now (p2x .exit)) (now (p2y .exit)) (now (contour .exit))) ≡ applyOf edit (quadTable (now («quad_x» .entry)) (now («quad_y» .entry)) (now («quad_weight» .entry)) (now (x0 .entry)) (now («dx_recip» .entry)) (now (k0 .entry)) (now (dk .entry)) (now («curvatures_recip» .entry)) (now («partial_curvatures» .entry)) (now («partial_splines» .entry))) (splineTable (now (curvature .entry)) (now (p0x .entry)) (now (p0y .entry)) (now (p2x .entry)) (now (p2y .entry)) (now (contour .entry))) ⌝ }
+    ensures { λ r. ⌜ world r (quadTable (now («quad_rows» .exit)) (now («partial_splines» .exit))) (splineTable (now (curvature .exit)) (now (p0x .exit)) (now (p0y .exit)) (now (p2x .exit)) (now (p2y .exit)) (now (contour .exit))) ≡ applyOf edit (quadTable (now («quad_rows» .entry)) (now («partial_splines» .entry))) (splineTable (now (curvature .entry)) (now (p0x .entry)) (now (p0y .entry)) (now (p2x .entry)) (now (p2y .entry)) (now (contour .entry))) ⌝ }
 {
     match edit {
         Edit::Keep(st) => st,
@@ -50,20 +42,7 @@ fn apply(
             spline.next
         }
         Edit::Bend(spline, i, row) => {
-            put_quad(
-                quad_x,
-                quad_y,
-                quad_weight,
-                x0,
-                dx_recip,
-                k0,
-                dk,
-                curvatures_recip,
-                partial_curvatures,
-                partial_splines,
-                i,
-                row,
-            );
+            put_quad(quad_rows, partial_splines, i, row);
             put_spline(curvature, p0x, p0y, p2x, p2y, contour, spline);
             spline.next
         }
@@ -72,15 +51,7 @@ fn apply(
 
 // One primitive, if nothing was refused before it.
 pub fn push(
-    quad_x: &mut [f32],
-    quad_y: &mut [f32],
-    quad_weight: &mut [f32],
-    x0: &mut [f32],
-    dx_recip: &mut [f32],
-    k0: &mut [f32],
-    dk: &mut [f32],
-    curvatures_recip: &mut [f32],
-    partial_curvatures: &mut [f32],
+    quad_rows: &mut [f32],
     partial_splines: &mut [u32],
     curvature: &mut [f32],
     p0x: &mut [f32],
@@ -93,7 +64,7 @@ pub fn push(
     st: State,
     p: Primitive,
 ) -> State
-    ensures { λ r. ⌜ world r (quadTable (now («quad_x» .exit)) (now («quad_y» .exit)) (now («quad_weight» .exit)) (now (x0 .exit)) (now («dx_recip» .exit)) (now (k0 .exit)) (now (dk .exit)) (now («curvatures_recip» .exit)) (now («partial_curvatures» .exit)) (now («partial_splines» .exit))) (splineTable (now (curvature .exit)) (now (p0x .exit)) (now (p0y .exit)) (now (p2x .exit)) (now (p2y .exit)) (now (contour .exit))) ≡ runOf setting caps (p ∷ []) (world st (quadTable (now («quad_x» .entry)) (now («quad_y» .entry)) (now («quad_weight» .entry)) (now (x0 .entry)) (now («dx_recip» .entry)) (now (k0 .entry)) (now (dk .entry)) (now («curvatures_recip» .entry)) (now («partial_curvatures» .entry)) (now («partial_splines» .entry))) (splineTable (now (curvature .entry)) (now (p0x .entry)) (now (p0y .entry)) (now (p2x .entry)) (now (p2y .entry)) (now (contour .entry)))) ⌝ }
+    ensures { λ r. ⌜ world r (quadTable (now («quad_rows» .exit)) (now («partial_splines» .exit))) (splineTable (now (curvature .exit)) (now (p0x .exit)) (now (p0y .exit)) (now (p2x .exit)) (now (p2y .exit)) (now (contour .exit))) ≡ runOf setting caps (p ∷ []) (world st (quadTable (now («quad_rows» .entry)) (now («partial_splines» .entry))) (splineTable (now (curvature .entry)) (now (p0x .entry)) (now (p0y .entry)) (now (p2x .entry)) (now (p2y .entry)) (now (contour .entry)))) ⌝ }
 {
     let answer = st.answer;
     if !is_done(answer) {
@@ -110,15 +81,7 @@ pub fn push(
     );
     let edit = plan(setting, caps, st, last, p);
     apply(
-        quad_x,
-        quad_y,
-        quad_weight,
-        x0,
-        dx_recip,
-        k0,
-        dk,
-        curvatures_recip,
-        partial_curvatures,
+        quad_rows,
         partial_splines,
         curvature,
         p0x,
@@ -132,15 +95,7 @@ pub fn push(
 
 // The pieces of a cubic, or the refusal of too many of them.
 pub fn push_cubic(
-    quad_x: &mut [f32],
-    quad_y: &mut [f32],
-    quad_weight: &mut [f32],
-    x0: &mut [f32],
-    dx_recip: &mut [f32],
-    k0: &mut [f32],
-    dk: &mut [f32],
-    curvatures_recip: &mut [f32],
-    partial_curvatures: &mut [f32],
+    quad_rows: &mut [f32],
     partial_splines: &mut [u32],
     curvature: &mut [f32],
     p0x: &mut [f32],
@@ -153,20 +108,12 @@ pub fn push_cubic(
     st: State,
     c: Cubic,
 ) -> State
-    ensures { λ r. ⌜ world r (quadTable (now («quad_x» .exit)) (now («quad_y» .exit)) (now («quad_weight» .exit)) (now (x0 .exit)) (now («dx_recip» .exit)) (now (k0 .exit)) (now (dk .exit)) (now («curvatures_recip» .exit)) (now («partial_curvatures» .exit)) (now («partial_splines» .exit))) (splineTable (now (curvature .exit)) (now (p0x .exit)) (now (p0y .exit)) (now (p2x .exit)) (now (p2y .exit)) (now (contour .exit))) ≡ runOf setting caps (cubicQuadsOf c) (world st (quadTable (now («quad_x» .entry)) (now («quad_y» .entry)) (now («quad_weight» .entry)) (now (x0 .entry)) (now («dx_recip» .entry)) (now (k0 .entry)) (now (dk .entry)) (now («curvatures_recip» .entry)) (now («partial_curvatures» .entry)) (now («partial_splines» .entry))) (splineTable (now (curvature .entry)) (now (p0x .entry)) (now (p0y .entry)) (now (p2x .entry)) (now (p2y .entry)) (now (contour .entry)))) ⌝ }
+    ensures { λ r. ⌜ world r (quadTable (now («quad_rows» .exit)) (now («partial_splines» .exit))) (splineTable (now (curvature .exit)) (now (p0x .exit)) (now (p0y .exit)) (now (p2x .exit)) (now (p2y .exit)) (now (contour .exit))) ≡ runOf setting caps (cubicQuadsOf c) (world st (quadTable (now («quad_rows» .entry)) (now («partial_splines» .entry))) (splineTable (now (curvature .entry)) (now (p0x .entry)) (now (p0y .entry)) (now (p2x .entry)) (now (p2y .entry)) (now (contour .entry)))) ⌝ }
 {
     let n = cubic_pieces(c);
     if n > MAX_PIECES {
         return push(
-            quad_x,
-            quad_y,
-            quad_weight,
-            x0,
-            dx_recip,
-            k0,
-            dk,
-            curvatures_recip,
-            partial_curvatures,
+            quad_rows,
             partial_splines,
             curvature,
             p0x,
@@ -191,15 +138,7 @@ pub fn push_cubic(
         let end = cubic_point(c, t);
         let quad = piece(c, start, end, t - 0.5 * incr);
         state = push(
-            quad_x,
-            quad_y,
-            quad_weight,
-            x0,
-            dx_recip,
-            k0,
-            dk,
-            curvatures_recip,
-            partial_curvatures,
+            quad_rows,
             partial_splines,
             curvature,
             p0x,

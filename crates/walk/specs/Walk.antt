@@ -3,8 +3,7 @@ use Prim.Native.Nat.{ℕ, zero, suc, _+_, _-_}
 use mathlib.Core.Bool.{Bool, _||_, cond}
 use mathlib.Core.List.{List, [], _∷_, _++_, map}
 use lib.Dec.{eqb}
-use lib.Ieee.{Float, nan, lt}
-use lib.ListN.{getD}
+use lib.Ieee.{Float, lt}
 use Rattle.leaves.specs.Single.{_⊘_, whole32}
 use Rattle.leaves.specs.Whole.{wholeUpOf}
 use Rattle.point.specs.declared.Setting.{Setting}
@@ -12,9 +11,10 @@ use Rattle.point.specs.Point.{minusOf, lenOf}
 use Rattle.command.specs.declared.PointCommand.{PointCommand}
 use Rattle.command.specs.declared.PointCommand.the-variants.{Start, Incr, End}
 use Rattle.command.specs.Packing.{packOf}
+use Rattle.primitives.specs.declared.QuadRow.{QuadRow}
 use Rattle.primitives.specs.declared.SplineRow.{SplineRow}
 use Rattle.primitives.specs.Splines.{maxError}
-use Rattle.tables.specs.Tables.{QuadTable, SplineTable, splineAt}
+use Rattle.tables.specs.Tables.{SplineTable, splineAt}
 
 -- a Start and an End are no step; their items have step and quad 0, as in `populate_buffers`
 pub record Item : Type 0 where
@@ -41,40 +41,41 @@ unfoldable pub startsOf : SplineTable → ℕ → Bool
 startsOf s k = startsAfterOf k (splineAt s (k - 1)) (splineAt s k)
 
 -- "The quad cursor goes on by one at step p when p exceeds the cursor's sum"
-abbrev pub cursorAtOf : List Float → Float → ℕ → ℕ
-cursorAtOf sums p cursor = cond (lt (getD sums cursor nan) p) (cursor + 1) cursor
+abbrev pub cursorAtOf : Float → Float → ℕ → ℕ
+cursorAtOf sum p cursor = cond (lt sum p) (cursor + 1) cursor
 
-unfoldable pub cursorAt : QuadTable → ℕ → ℕ → ℕ
-cursorAt q p cursor = cursorAtOf (q .partial-curvatures) (whole32 p) cursor
+-- `rows` gives the row of each quad, whatever way the table lies
+unfoldable pub cursorAt : (ℕ → QuadRow) → ℕ → ℕ → ℕ
+cursorAt rows p cursor = cursorAtOf (rows cursor .«partial_curvature») (whole32 p) cursor
 
 -- n steps from step p on
-unfoldable pub stepsFrom : QuadTable → Float → ℕ → ℕ → ℕ → List Item
-stepsFrom q size zero p cursor = []
-stepsFrom q size (suc n) p cursor = let i = cursorAt q p cursor in item (Incr size) p i ∷ stepsFrom q size n (p + 1) i
+unfoldable pub stepsFrom : (ℕ → QuadRow) → Float → ℕ → ℕ → ℕ → List Item
+stepsFrom rows size zero p cursor = []
+stepsFrom rows size (suc n) p cursor = let i = cursorAt rows p cursor in item (Incr size) p i ∷ stepsFrom rows size n (p + 1) i
 
 -- the cursor after n steps from step p on
-unfoldable pub cursorFrom : QuadTable → ℕ → ℕ → ℕ → ℕ
-cursorFrom q zero p cursor = cursor
-cursorFrom q (suc n) p cursor = cursorFrom q n (p + 1) (cursorAt q p cursor)
+unfoldable pub cursorFrom : (ℕ → QuadRow) → ℕ → ℕ → ℕ → ℕ
+cursorFrom rows zero p cursor = cursor
+cursorFrom rows (suc n) p cursor = cursorFrom rows n (p + 1) (cursorAt rows p cursor)
 
 -- "and by one after each spline with m over 0"
-unfoldable pub cursorAfter : QuadTable → SplineTable → ℕ → ℕ → ℕ
-cursorAfter q s k cursor = cond (eqb (subdivisionsOf s k) 0) cursor (cursorFrom q (subdivisionsOf s k - 1) 1 cursor + 1)
+unfoldable pub cursorAfter : (ℕ → QuadRow) → SplineTable → ℕ → ℕ → ℕ
+cursorAfter rows s k cursor = cond (eqb (subdivisionsOf s k) 0) cursor (cursorFrom rows (subdivisionsOf s k - 1) 1 cursor + 1)
 
 -- "Then m-1 steps of size c/m; none when m is 0, and then 0/0 is not stored. Then End k."
-unfoldable pub splineItemsOf : QuadTable → SplineTable → ℕ → ℕ → List Item
-splineItemsOf q s k cursor =
+unfoldable pub splineItemsOf : (ℕ → QuadRow) → SplineTable → ℕ → ℕ → List Item
+splineItemsOf rows s k cursor =
     cond (startsOf s k) (item (Start k) 0 0 ∷ []) []
-    ++ (stepsFrom q (stepSizeOf s k) (subdivisionsOf s k - 1) 1 cursor
+    ++ (stepsFrom rows (stepSizeOf s k) (subdivisionsOf s k - 1) 1 cursor
     ++ (item (End k (splineAt s k .contour)) 0 0 ∷ []))
 
 -- n splines from spline k on
-unfoldable pub walkFrom : Setting → QuadTable → SplineTable → ℕ → ℕ → ℕ → List Item
-walkFrom setting q s zero k cursor = []
-walkFrom setting q s (suc n) k cursor = splineItemsOf q s k cursor ++ walkFrom setting q s n (k + 1) (cursorAfter q s k cursor)
+unfoldable pub walkFrom : Setting → (ℕ → QuadRow) → SplineTable → ℕ → ℕ → ℕ → List Item
+walkFrom setting rows s zero k cursor = []
+walkFrom setting rows s (suc n) k cursor = splineItemsOf rows s k cursor ++ walkFrom setting rows s n (k + 1) (cursorAfter rows s k cursor)
 
-unfoldable pub walkOf : Setting → QuadTable → SplineTable → ℕ → List Item
-walkOf setting q s n = walkFrom setting q s n 0 0
+unfoldable pub walkOf : Setting → (ℕ → QuadRow) → SplineTable → ℕ → List Item
+walkOf setting rows s n = walkFrom setting rows s n 0 0
 
 unfoldable pub wordOf : Item → ℕ
 wordOf i = packOf (i .command)

@@ -1,11 +1,12 @@
 // The walk over the splines: where a Start is written, how many steps there are, where the quad cursor goes, and how long the whole is: what
 // `populate_buffers` of path.rs does.
 ghost use mathlib.Core.Path.{_≡_};
-ghost use Rattle.tables.specs.Tables.{splineTable};
+ghost use Rattle.tables.specs.Tables.{splineTable, sumAtOf};
 ghost use Rattle.walk.specs.Walk.{startsAfterOf, cursorAtOf};
 ghost use Rattle.walk.specs.Length.{stepsOf, sizeOf, splineLengthOf, walkLengthOf};
 use primitives::SplineRow;
 use tables::spline_at;
+use tables::sum_at;
 
 // A gap over this starts a new line.
 const MAX_ERROR: f32 = 0.0625;
@@ -37,14 +38,11 @@ pub fn size(sum: f32) -> f32
 }
 
 // The cursor for step p: it goes on by one, and no further, if p exceeds the sum of its quad.
-pub fn cursor_at(partial_curvatures: &[f32], p: f32, cursor: usize) -> usize
-    ensures { λ r. ⌜ r ≡ cursorAtOf (now («partial_curvatures» .entry)) p cursor ⌝ }
+pub fn cursor_at(quad_rows: &[f32], p: f32, cursor: usize) -> usize
+    ensures { λ r. ⌜ r ≡ cursorAtOf (sumAtOf (now («quad_rows» .entry)) cursor) p cursor ⌝ }
 {
-    if cursor < partial_curvatures.len() {
-        let sum = partial_curvatures[cursor];
-        if p > sum {
-            return cursor + 1;
-        }
+    if p > sum_at(quad_rows, cursor) {
+        return cursor + 1;
     }
     cursor
 }
