@@ -5,25 +5,8 @@ use Prim.Native.Nat.{ℕ}
 use lib.Ieee.{Float}
 use lib.ListN.{set}
 use Rattle.columns.specs.Flags.{flagByteOf}
-use Rattle.primitives.specs.declared.QuadRow.{QuadRow}
 use Rattle.primitives.specs.declared.SplineEdit.{SplineEdit}
-use Rattle.tables.specs.Tables.{QuadTable, SplineTable, quadTable, splineTable, setThree, clearFlag, putQuad, putSpline}
-
-pub quad-put :
-    (q : QuadTable) (i : ℕ) (row : QuadRow) {x y weight x0 dx-recip k0 dk curvatures-recip partial-curvatures : List Float} {partial-splines : List ℕ}
-    → x ≡ setThree (q .x) i (row .x)
-    → y ≡ setThree (q .y) i (row .y)
-    → weight ≡ setThree (q .weight) i (row .weight)
-    → x0 ≡ set (q .x0) i (row .x0)
-    → dx-recip ≡ set (q .dx-recip) i (row .«dx_recip»)
-    → k0 ≡ set (q .k0) i (row .k0)
-    → dk ≡ set (q .dk) i (row .dk)
-    → curvatures-recip ≡ set (q .curvatures-recip) i (row .«curvature_recip»)
-    → partial-curvatures ≡ set (q .partial-curvatures) i (row .«partial_curvature»)
-    → partial-splines ≡ set (q .partial-splines) i (row .spline)
-    → quadTable x y weight x0 dx-recip k0 dk curvatures-recip partial-curvatures partial-splines ≡ putQuad q i row
-unfolding putQuad
-quad-put q i row e1 e2 e3 e4 e5 e6 e7 e8 e9 e10 = rw (e1, e2, e3, e4, e5, e6, e7, e8, e9, e10)
+use Rattle.tables.specs.Tables.{SplineTable, splineTable, clearFlag, putSpline}
 
 pub spline-put :
     (s : SplineTable) (edit : SplineEdit) {curvature p0x p0y p2x p2y : List Float} {contour cleared : List ℕ} {byte : ℕ}
