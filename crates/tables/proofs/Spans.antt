@@ -6,9 +6,8 @@ use Prim.Native.Nat.{ℕ, zero, suc, _+_, _-_, _*_, _≤_, _<_, zero-le}
 use native.Mathlib.Nat.{le-trans, le-of-eq, le-refl, le-of-lt, lt-of-lt-of-le, lt-of-le-of-lt, lt-irrefl, eq-or-lt-of-le, le-of-suc-le-suc, suc-inj}
 use native.Mathlib.Omega.{arith}
 use lib.Dec.{T}
-use lib.Ieee.{Float, nan, le}
+use lib.Ieee.{Float, le}
 use lib.Ieee.Positive.{num, den}
-use lib.ListN.{getD}
 use Rattle.leaves.specs.Single.{_⊕_, zero32}
 use Rattle.leaves.specs.Whole.{limit32}
 use Rattle.primitives.specs.declared.QuadRow.{QuadRow}
@@ -34,6 +33,12 @@ pub record Span (rows : ℕ → QuadRow) (total : Float) (lo hi j : ℕ) : Type 
 abbrev pub Agree : (ℕ → QuadRow) → (ℕ → QuadRow) → ℕ → Type 0
 Agree rows rows' k = (i : ℕ) → i < k → rows' i ≡ rows i
 
+pub same-sum : {r r' : QuadRow} → r ≡ r' → r .«partial_curvature» ≡ r' .«partial_curvature»
+same-sum = ap (λ (r : QuadRow). r .«partial_curvature»)
+
+pub same-owner : {r r' : QuadRow} → r ≡ r' → r .spline ≡ r' .spline
+same-owner = ap (λ (r : QuadRow). r .spline)
+
 -- ---- no quad
 nothing : (lo i : ℕ) → lo ≤ i → i < lo → ⊥
 nothing lo i h k = omega arith
@@ -55,11 +60,11 @@ module _ (rows rows' : ℕ → QuadRow) (total total' : Float) (lo hi j : ℕ) (
   span-agree =
       record {
         ordered = S .ordered;
-        owned = λ i h k. ap (λ (r : QuadRow). r .spline) (A i k) ∙ S .owned i h k;
-        sums = λ i h k. subst Sum (sym (ap (λ (r : QuadRow). r .«partial_curvature») (A i k))) (S .sums i h k);
-        grows = λ i h k. subst₂ Reaches (sym (ap (λ (r : QuadRow). r .«partial_curvature») (A i (le-of-lt k)))) (sym (A .sum (suc i) k)) (S .grows i h k);
+        owned = λ i h k. same-owner (A i k) ∙ S .owned i h k;
+        sums = λ i h k. subst Sum (sym (same-sum (A i k))) (S .sums i h k);
+        grows = λ i h k. subst₂ Reaches (sym (same-sum (A i (le-of-lt k)))) (sym (same-sum (A (suc i) k))) (S .grows i h k);
         none = λ z. e ∙ S .none z;
-        last = λ i h z. e ∙ S .last i h z ∙ sym (ap (λ (r : QuadRow). r .«partial_curvature») (A i (le-of-eq z)));
+        last = λ i h z. e ∙ S .last i h z ∙ sym (same-sum (A i (le-of-eq z)));
       }
 
 -- ---- the sum of a spline: zero, or its last quad's
@@ -99,13 +104,13 @@ module _ (rows rows' : ℕ → QuadRow) (total c : Float) (lo k j : ℕ) (S : Sp
   span-more =
       record {
         ordered = le-trans (S .ordered) (le-of-lt (le-refl (suc k)));
-        owned = λ i h l. or-new (λ (x : ℕ). ownerAt rows' x ≡ j) i l (λ g. ap (λ (r : QuadRow). r .spline) (A i g) ∙ S .owned i h g) o;
-        sums = λ i h l. or-new (λ (x : ℕ). Sum (sumAt rows' x)) i l (λ g. subst Sum (sym (ap (λ (r : QuadRow). r .«partial_curvature») (A i g))) (S .sums i h g)) (subst Sum (sym e) (new-sum .0));
+        owned = λ i h l. or-new (λ (x : ℕ). ownerAt rows' x ≡ j) i l (λ g. same-owner (A i g) ∙ S .owned i h g) o;
+        sums = λ i h l. or-new (λ (x : ℕ). Sum (sumAt rows' x)) i l (λ g. subst Sum (sym (same-sum (A i g))) (S .sums i h g)) (subst Sum (sym e) (new-sum .0));
         grows = λ i h l. elim (eq-or-lt-of-le (le-of-suc-le-suc l)) [
           | inl z ↦
               subst (λ (x : ℕ). Reaches (sumAt rows' i) (sumAt rows' x)) (sym z)
-              (subst₂ Reaches (S .last i h z ∙ sym (ap (λ (r : QuadRow). r .«partial_curvature») (A i (le-of-eq z)))) (sym e) (new-sum .1))
-          | inr g ↦ subst₂ Reaches (sym (ap (λ (r : QuadRow). r .«partial_curvature») (A i (le-of-lt g)))) (sym (A .sum (suc i) g)) (S .grows i h g)
+              (subst₂ Reaches (S .last i h z ∙ sym (same-sum (A i (le-of-eq z)))) (sym e) (new-sum .1))
+          | inr g ↦ subst₂ Reaches (sym (same-sum (A i (le-of-lt g)))) (sym (same-sum (A (suc i) g))) (S .grows i h g)
         ];
         none = λ z. absurd (nothing lo k (S .ordered) (le-of-eq (sym z)));
         last = λ i h z. sym e ∙ ap (sumAt rows') (sym (suc-inj z));
