@@ -68,6 +68,9 @@ owned q i h = lt-of-lt-of-le h (min-le-right (length (q .rows) / 15) (length (q 
 pub row-room : (i n : ℕ) → i < n / 15 → 15 * i + 15 ≤ n
 row-room i n h = omega arith
 
+pub within : (q : QuadTable) (i : ℕ) → i < quadCapacityOf q → 15 * i + 15 ≤ length (q .rows)
+within q i h = row-room i (length (q .rows)) (fits q i h)
+
 below : (j i k : ℕ) → j < i → k < 15 → 15 * j + k < 15 * i
 below j i k h m = omega arith
 
@@ -80,11 +83,11 @@ above j i k h n = go (eq-or-lt-of-le h)
 
 module _ (q : QuadTable) (i : ℕ) (row : QuadRow) where
   -- ---- the two cases of a put
-  put-is : i < quadCapacityOf q → putQuad q i row ≡ quadTable (sets (q .rows) (15 * i) (numbersOf row)) (set (q .partial-splines) i (row .spline))
+  pub put-is : i < quadCapacityOf q → putQuad q i row ≡ quadTable (sets (q .rows) (15 * i) (numbersOf row)) (set (q .partial-splines) i (row .spline))
   unfolding putQuad
   put-is h = rw (lt-ltb i (quadCapacityOf q) h)
 
-  put-not : ltb i (quadCapacityOf q) ≡ false → putQuad q i row ≡ q
+  pub put-not : ltb i (quadCapacityOf q) ≡ false → putQuad q i row ≡ q
   unfolding putQuad
   put-not e = rw e
 
@@ -118,7 +121,7 @@ module _ (q : QuadTable) (i : ℕ) (row : QuadRow) where
   put-number k h m =
       ap (λ (b : Bool). cond b (getD (putQuad q i row .rows) (15 * i + k) nan) nan) (lt-ltb i _ (whole (fits q i h)))
       ∙ ap (λ (t : QuadTable). getD (t .rows) (15 * i + k) nan) (put-is h)
-      ∙ sets-same (numbersOf row) (q .rows) (15 * i) k nan (row-room i (length (q .rows)) (fits q i h)) m
+      ∙ sets-same (numbersOf row) (q .rows) (15 * i) k nan (within q i h) m
     where
       whole : i < length (q .rows) / 15 → i < length (putQuad q i row .rows) / 15
       whole h = rw rows-length h
@@ -141,10 +144,24 @@ module _ (q : QuadTable) (i : ℕ) (row : QuadRow) where
   pub row-put : i < quadCapacityOf q → quadRowAt (putQuad q i row) i ≡ row
   unfolding quadRowAt numbersOf
   row-put h =
-      rw (put-number 0 h (lit< tt), put-number 1 h (lit< tt), put-number 2 h (lit< tt), put-number 3 h (lit< tt), put-number 4 h (lit< tt),
-        put-number 5 h (lit< tt), put-number 6 h (lit< tt), put-number 7 h (lit< tt), put-number 8 h (lit< tt), put-number 9 h (lit< tt),
-        put-number 10 h (lit< tt), put-number 11 h (lit< tt), put-number 12 h (lit< tt), put-number 13 h (lit< tt), put-number 14 h (lit< tt),
-        put-owner h)
+      rw (
+        put-number 0 h (lit< tt),
+        put-number 1 h (lit< tt),
+        put-number 2 h (lit< tt),
+        put-number 3 h (lit< tt),
+        put-number 4 h (lit< tt),
+        put-number 5 h (lit< tt),
+        put-number 6 h (lit< tt),
+        put-number 7 h (lit< tt),
+        put-number 8 h (lit< tt),
+        put-number 9 h (lit< tt),
+        put-number 10 h (lit< tt),
+        put-number 11 h (lit< tt),
+        put-number 12 h (lit< tt),
+        put-number 13 h (lit< tt),
+        put-number 14 h (lit< tt),
+        put-owner h,
+      )
     where
       put-owner : i < quadCapacityOf q → getD (putQuad q i row .partial-splines) i 0 ≡ row .spline
       put-owner h = ap (λ (t : QuadTable). getD (t .partial-splines) i 0) (put-is h) ∙ getD-set-same (q .partial-splines) i (row .spline) 0 (owned q i h)
@@ -160,10 +177,24 @@ module _ (q : QuadTable) (i : ℕ) (row : QuadRow) where
   pub row-stays : (j : ℕ) → j ≢ i → quadRowAt (putQuad q i row) j ≡ quadRowAt q j
   unfolding quadRowAt
   row-stays j n =
-      rw (stay-number j 0 n (lit< tt), stay-number j 1 n (lit< tt), stay-number j 2 n (lit< tt), stay-number j 3 n (lit< tt), stay-number j 4 n (lit< tt),
-        stay-number j 5 n (lit< tt), stay-number j 6 n (lit< tt), stay-number j 7 n (lit< tt), stay-number j 8 n (lit< tt), stay-number j 9 n (lit< tt),
-        stay-number j 10 n (lit< tt), stay-number j 11 n (lit< tt), stay-number j 12 n (lit< tt), stay-number j 13 n (lit< tt), stay-number j 14 n (lit< tt),
-        stay-owner j n)
+      rw (
+        stay-number j 0 n (lit< tt),
+        stay-number j 1 n (lit< tt),
+        stay-number j 2 n (lit< tt),
+        stay-number j 3 n (lit< tt),
+        stay-number j 4 n (lit< tt),
+        stay-number j 5 n (lit< tt),
+        stay-number j 6 n (lit< tt),
+        stay-number j 7 n (lit< tt),
+        stay-number j 8 n (lit< tt),
+        stay-number j 9 n (lit< tt),
+        stay-number j 10 n (lit< tt),
+        stay-number j 11 n (lit< tt),
+        stay-number j 12 n (lit< tt),
+        stay-number j 13 n (lit< tt),
+        stay-number j 14 n (lit< tt),
+        stay-owner j n,
+      )
 
 -- ---- past a count
 pub past-self : {A : Type 0} (n : ℕ) (l : List A) → Past n l l
