@@ -8,12 +8,12 @@ use Rattle.evaluate.proofs.writing.write_steps.Statement.{statement}
 use Rattle.evaluate.proofs.writing.write_steps.Tie as tie
 
 abbrev Inv-loop : tie.InvT-loop
-Inv-loop quad-rows partial-splines words₀ out-x₀ out-y₀ out-end₀ size n word at₀ cursor₀ p₀ left₀ words out-x out-y out-end at cursor p left =
+Inv-loop quad-rows partial-splines words₀ x₀ y₀ end₀ size n word at₀ cursor₀ p₀ left₀ words x y end at cursor p left =
     Stepping (quadRowAt (quadTable quad-rows partial-splines)) size n at₀ cursor₀
-    (output words₀ out-x₀ out-y₀ out-end₀) (output words out-x out-y out-end) at cursor p left
+    (output words₀ x₀ y₀ end₀) (output words x y end) at cursor p left
 
 abbrev μ-loop : tie.MeasureT-loop
-μ-loop quad-rows partial-splines words₀ out-x₀ out-y₀ out-end₀ size n word at₀ cursor₀ p₀ left₀ words out-x out-y out-end at cursor p left = left
+μ-loop quad-rows partial-splines words₀ x₀ y₀ end₀ size n word at₀ cursor₀ p₀ left₀ words x y end at cursor p left = left
 
 pack-requires : tie.Need-pack-requires Inv-loop μ-loop
 pack-requires c κs = search needs
@@ -21,15 +21,15 @@ pack-requires c κs = search needs
 loop-holds : tie.Need-loop-holds Inv-loop μ-loop
 loop-holds c = stepping-start _ _ _ _ _ _
 
--- the places that the needs below speak of: the function's start and the loop's head
-abbrev Start : Type 0
-Start = tie.Start Inv-loop μ-loop
-
+-- ---- where a turn begins, and where the function does
 abbrev Turn : Type 0
 Turn = tie.In-loop Inv-loop μ-loop
 
+abbrev start : Turn → tie.Start Inv-loop μ-loop
+start t = search
+
 step-cursor-requires : tie.Need-step-cursor-requires Inv-loop μ-loop
-step-cursor-requires c κs = let s : Start = search in omega (arith, c .before .loop .inv .count, c .loop-test .taken, s .pre)
+step-cursor-requires c κs = omega (arith, c .before .loop .inv .count, c .loop-test .taken, start c .pre)
 
 step-quad-requires : tie.Need-step-quad-requires Inv-loop μ-loop
 step-quad-requires c κs = search needs
@@ -37,8 +37,7 @@ step-quad-requires c κs = search needs
 step-point-requires : tie.Need-step-point-requires Inv-loop μ-loop
 step-point-requires c κs =
     let t : Turn = search in
-    let s : Start = search in
-    omega (arith, t .before .loop .inv .count, t .loop-test .taken, s .pre)
+    omega (arith, t .before .loop .inv .count, t .loop-test .taken, start t .pre)
 
 write-entry-requires : tie.Need-write-entry-requires Inv-loop μ-loop
 write-entry-requires c κs = search needs
@@ -46,14 +45,12 @@ write-entry-requires c κs = search needs
 add-at : tie.Need-add-at Inv-loop μ-loop
 add-at c =
     let t : Turn = search in
-    let s : Start = search in
-    omega (arith, t .before .loop .inv .room, t .loop-test .taken, s .pre)
+    omega (arith, t .before .loop .inv .room, t .loop-test .taken, start t .pre)
 
 add-p : tie.Need-add-p Inv-loop μ-loop
 add-p c =
     let t : Turn = search in
-    let s : Start = search in
-    omega (arith, t .before .loop .inv .count, t .loop-test .taken, s .pre)
+    omega (arith, t .before .loop .inv .count, t .loop-test .taken, start t .pre)
 
 sub-left : tie.Need-sub-left Inv-loop μ-loop
 sub-left c = let t : Turn = search in omega (arith, t .loop-test .taken)

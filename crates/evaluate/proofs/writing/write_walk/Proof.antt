@@ -1,73 +1,79 @@
+-- `evaluate::writing::write_walk` meets its contract: the loop counts down the splines that are left. Assumes nothing.
+use native.Mathlib.Omega.{arith}
+use borrow.Author.Needs.{needs}
+use Rattle.tables.specs.Tables.{quadTable, splineTable, quadRowAt}
+use Rattle.evaluate.specs.Output.{output}
+use Rattle.evaluate.proofs.Passes.{Walking, walking-start, walking-more, walking-end}
 use Rattle.evaluate.proofs.writing.write_walk.Statement.{statement}
 use Rattle.evaluate.proofs.writing.write_walk.Tie as tie
-use Rattle.evaluate.proofs.writing.write_walk.Reads as reads
-use Rattle.evaluate.proofs.writing.write_walk.Lts as lts
-use Rattle.evaluate.proofs.writing.write_spline.Reads as write-spline-reads
-use Rattle.tables.proofs.spline_at.Reads as spline-at-reads
 
 abbrev Inv-loop : tie.InvT-loop
-Inv-loop quad-rows partial-splines curvature p0x p0y p2x p2y contour words₀ out-x₀ out-y₀ out-end₀ n last₀ place₀ k₀ left₀ words out-x out-y out-end last place k left =
-    ?
+Inv-loop quad-rows partial-splines curvature p0x p0y p2x p2y contour words₀ x₀ y₀ end₀ n last₀ place₀ k₀ left₀ words x y end last place k left =
+    Walking (quadRowAt (quadTable quad-rows partial-splines)) (splineTable curvature p0x p0y p2x p2y contour) n
+    (output words₀ x₀ y₀ end₀) (output words x y end) last place k left
 
 abbrev μ-loop : tie.MeasureT-loop
-μ-loop quad-rows partial-splines curvature p0x p0y p2x p2y contour words₀ out-x₀ out-y₀ out-end₀ n last₀ place₀ k₀ left₀ words out-x out-y out-end last place k left =
-    ?
+μ-loop quad-rows partial-splines curvature p0x p0y p2x p2y contour words₀ x₀ y₀ end₀ n last₀ place₀ k₀ left₀ words x y end last place k left = left
 
--- src/writing.rt:170:9
 spline-at-requires : tie.Need-spline-at-requires Inv-loop μ-loop
-spline-at-requires c κs = ?
+spline-at-requires c κs = search needs
 
--- src/writing.rt:174:5
 loop-holds : tie.Need-loop-holds Inv-loop μ-loop
-loop-holds c = ?
+loop-holds c = walking-start _ _ _ _ _ (c .spline-at .ensures)
 
--- src/writing.rt:175:69
+-- ---- where a turn begins, and where the function does
+abbrev Turn : Type 0
+Turn = tie.In-loop Inv-loop μ-loop
+
+abbrev start : Turn → tie.Start Inv-loop μ-loop
+start t = search
+
 cast-spline-at : tie.Need-cast-spline-at Inv-loop μ-loop
-cast-spline-at c = ?
+cast-spline-at c = omega (arith, c .before .loop .inv .within, start c .fits .n)
 
--- src/writing.rt:175:13
 spline-at-requires-2 : tie.Need-spline-at-requires-2 Inv-loop μ-loop
-spline-at-requires-2 c κs = ?
+spline-at-requires-2 c κs = search needs
 
--- src/writing.rt:176:9
 write-spline-requires : tie.Need-write-spline-requires Inv-loop μ-loop
-write-spline-requires c κs = ?
+write-spline-requires c κs =
+    let t : Turn = search in
+    let inv = t .before .loop .inv in
+    omega (arith, inv .within, inv .entry, inv .cursor, start t .fits .n)
 
--- src/writing.rt:189:9
 add-k : tie.Need-add-k Inv-loop μ-loop
-add-k c = ?
+add-k c =
+    let t : Turn = search in
+    omega (arith, t .before .loop .inv .within, t .loop-test .taken, start t .fits .n)
 
--- src/writing.rt:190:9
 sub-left : tie.Need-sub-left Inv-loop μ-loop
-sub-left c = ?
+sub-left c = let t : Turn = search in omega (arith, t .loop-test .taken)
 
--- src/writing.rt:174:5
 loop-less : tie.Need-loop-less Inv-loop μ-loop
-loop-less c = ?
+loop-less c = let t : Turn = search in omega (arith, t .loop-test .taken)
 
--- src/writing.rt:174:5
 loop-again : tie.Need-loop-again Inv-loop μ-loop
-loop-again c = ?
+loop-again c =
+    let w : tie.After-write-spline Inv-loop μ-loop = search in
+    let r : tie.After-spline-at2 Inv-loop μ-loop = search in
+    let t : Turn = search in
+    let kept = w .write-spline .kept .1 .1 in
+    walking-more _ _ _ _ _ _ _ _ _ (t .before .loop .inv) _ _ _ (t .loop-test .taken) (r .spline-at2 .ensures) (w .write-spline .ensures)
+    (record { words = kept .0; x = kept .1 .0; y = kept .1 .1 .0; end = kept .1 .1 .1 .0 })
 
--- src/writing.rt:153:1
 same-length : tie.Need-same-length Inv-loop μ-loop
-same-length c = ?
+same-length c = c .before .loop .inv .long .words
 
--- src/writing.rt:153:1
 same-length-2 : tie.Need-same-length-2 Inv-loop μ-loop
-same-length-2 c = ?
+same-length-2 c = c .before .loop .inv .long .x
 
--- src/writing.rt:153:1
 same-length-3 : tie.Need-same-length-3 Inv-loop μ-loop
-same-length-3 c = ?
+same-length-3 c = c .before .loop .inv .long .y
 
--- src/writing.rt:153:1
 same-length-4 : tie.Need-same-length-4 Inv-loop μ-loop
-same-length-4 c = ?
+same-length-4 c = c .before .loop .inv .long .end
 
--- src/writing.rt:153:1
 returns : tie.Need-returns Inv-loop μ-loop
-returns c = ?
+returns c = walking-end _ _ _ _ _ _ _ _ _ (c .before .loop .inv) (c .loop-test .left)
 
 pub write-walk-spec : {M : Type 1} → statement M
 write-walk-spec =
