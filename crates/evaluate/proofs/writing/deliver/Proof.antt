@@ -1,63 +1,58 @@
+-- `evaluate::writing::deliver` meets its contract: the walk's length is tested before anything is written. Assumes nothing.
+use mathlib.Core.Path.{sym, _∙_}
+use borrow.Author.Tests.{not-true, not-false}
+use Rattle.evaluate.proofs.Passes.{delivered-not, delivered}
 use borrow.Author.Needs.{needs}
 use Rattle.evaluate.proofs.writing.deliver.Statement.{statement}
 use Rattle.evaluate.proofs.writing.deliver.Tie as tie
-use Rattle.evaluate.proofs.writing.deliver.Reads as reads
-use Rattle.evaluate.proofs.writing.deliver.Lts as lts
-use Rattle.evaluate.proofs.writing.holds.Reads as holds-reads
-use Rattle.evaluate.proofs.writing.write_walk.Reads as write-walk-reads
-use Rattle.walk.proofs.walk_length.Reads as walk-length-reads
 
--- src/writing.rt:223:9
 walk-length-requires : tie.Need-walk-length-requires
 walk-length-requires c κs = search needs
 
--- src/writing.rt:224:9
 holds-requires : tie.Need-holds-requires
 holds-requires c κs = search needs
 
--- src/writing.rt:225:9
 same-length : tie.Need-same-length
 same-length c = search needs
 
--- src/writing.rt:225:9
 same-length-2 : tie.Need-same-length-2
 same-length-2 c = search needs
 
--- src/writing.rt:225:9
 same-length-3 : tie.Need-same-length-3
 same-length-3 c = search needs
 
--- src/writing.rt:225:9
 same-length-4 : tie.Need-same-length-4
 same-length-4 c = search needs
 
--- src/writing.rt:225:9
 returns : tie.Need-returns
-returns c = ?
+returns c =
+    let l : tie.After-walk-length = search in
+    let h = c .before .holds in
+    delivered-not _ _ _ _ (l .walk-length .result) _ (l .walk-length .ensures) (sym (h .ensures) ∙ not-true (h .result) (c .if1 .taken))
 
--- src/writing.rt:230:5
 write-walk-requires : tie.Need-write-walk-requires
 write-walk-requires c κs = search needs
 
--- src/writing.rt:205:1
 same-length-5 : tie.Need-same-length-5
 same-length-5 c = search needs
 
--- src/writing.rt:205:1
 same-length-6 : tie.Need-same-length-6
 same-length-6 c = search needs
 
--- src/writing.rt:205:1
 same-length-7 : tie.Need-same-length-7
 same-length-7 c = search needs
 
--- src/writing.rt:205:1
 same-length-8 : tie.Need-same-length-8
 same-length-8 c = search needs
 
--- src/writing.rt:205:1
 returns-2 : tie.Need-returns-2
-returns-2 c = ?
+returns-2 c =
+    let w : tie.After-write-walk = search in
+    let t : tie.Else1 = search in
+    let l : tie.After-walk-length = search in
+    let h = t .before .holds in
+    delivered _ _ _ _ (l .walk-length .result) _ (l .walk-length .ensures) _
+    (sym (h .ensures) ∙ not-false (h .result) (t .if1 .left)) (w .write-walk .ensures)
 
 pub deliver-spec : {M : Type 1} → statement M
 deliver-spec =
