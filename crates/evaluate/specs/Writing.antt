@@ -9,6 +9,7 @@ use Rattle.leaves.specs.Whole.{wholeUpOf}
 use Rattle.command.specs.declared.PointCommand.the-variants.{Start, Incr, End}
 use Rattle.command.specs.Packing.{packOf}
 use Rattle.columns.specs.Flags.{flagByteOf}
+use Rattle.primitives.specs.declared.QuadRow.{QuadRow}
 use Rattle.primitives.specs.declared.SplineRow.{SplineRow}
 use Rattle.tables.specs.Tables.{SplineTable, splineAt}
 use Rattle.walk.specs.Walk.{cursorAt, startsAfterOf}
@@ -16,7 +17,6 @@ use Rattle.walk.specs.Length.{stepsOf, sizeOf}
 use Rattle.evaluate.specs.declared.Place.{Place}
 use Rattle.evaluate.specs.Evaluate.{Finished, finished, stepQuadOf, stepPointOf}
 use Rattle.evaluate.specs.Output.{Output, output}
-use Rattle.primitives.specs.declared.QuadRow.{QuadRow}
 
 -- the outputs, and the place that comes next
 pub record Written : Type 0 where

@@ -1,4 +1,4 @@
-pub mod Past
+pub mod RowLaws
 pub mod Written
 pub mod RunningSums
 pub mod Pushes

@@ -1,5 +1,5 @@
--- What holds of the tables at every moment of a run, in both settings, whatever the tables held before: the quads up to the count belong to the splines up to the count,
--- spline by spline and in order, each spline as `Span` says.
+-- What holds of the tables at every moment of a run, in both settings, whatever the tables held before: the quads up to the count belong to the splines up to
+-- the count, spline by spline and in order, each spline as `Span` says.
 -- The plan: `cut j` is the number of quads before spline j. A push keeps every spline but the last one, which is opened or joined; `put` says so once, for a
 -- spline t that is either the next one, just opened, or the last. `sound-push` is that for each form of a push, and `sound-run` goes through a list. Assumes
 -- nothing.
@@ -36,19 +36,19 @@ use Rattle.primitives.specs.declared.SplineEdit.{SplineEdit}
 use Rattle.primitives.specs.declared.QuadRow.{QuadRow}
 use Rattle.primitives.specs.Splines.{sumBefore, splineEditOf}
 use Rattle.primitives.specs.Plan.{refusedOf, markedOf}
-use Rattle.tables.specs.Tables.{QuadTable, SplineTable, quadCapacityOf, splineCapacityOf, capacitiesOf, putQuad, clearFlag, putSpline, splineAt}
-use Rattle.tables.specs.Tables.{noSpline, lastSplineOf}
+use Rattle.tables.specs.Tables.{QuadTable, SplineTable, quadCapacityOf, splineCapacityOf, capacitiesOf, putQuad, quadRowAt, clearFlag, putSpline}
+use Rattle.tables.specs.Tables.{splineAt, noSpline, lastSplineOf}
 use Rattle.tables.specs.Run.{World, world, applyOf, pushOf, runOf, startState}
 use Rattle.tables.proofs.RunningSums.{Bent, Sum, natural, zero-natural, zero-num, positive-natural}
 use Rattle.tables.proofs.Pushes.{lastOf, isMark, Allowed, splineEdit, Pushed, kept, marked, lined, bent, pushed}
-use Rattle.tables.proofs.Spans.{sumAt, ownerAt, Span, Agree, LastOf, span-none, span-agree, span-more, span-total}
+use Rattle.tables.proofs.Spans.{Span, Agree, LastOf, same-sum, same-owner, span-none, span-agree, span-more, span-total}
+use Rattle.tables.proofs.RowLaws.{row-put, row-stays, capacity-stays}
 
--- the counts are within the capacities, and these within the columns that the laws read
+-- the counts are within the capacities, and these within what the tables take
 pub record Room (caps : Capacities) (w : World) : Type 0 where
   pub quads : w .state .quads ≤ caps .quads
   pub splines : w .state .splines ≤ caps .splines
-  pub sums : caps .quads ≤ length (w .quads .partial-curvatures)
-  pub owners : caps .quads ≤ length (w .quads .partial-splines)
+  pub rows : caps .quads ≤ quadCapacityOf (w .quads)
   pub totals : caps .splines ≤ length (w .splines .curvature)
   pub flags : caps .splines ≤ length (w .splines .contour)
 
@@ -56,7 +56,7 @@ pub record Sound (caps : Capacities) (w : World) : Type 0 where
   pub cut : ℕ → ℕ
   pub first : cut 0 ≡ 0
   pub all : cut (w .state .splines) ≡ w .state .quads
-  pub span : (j : ℕ) → j < w .state .splines → Span (w .quads) (splineAt (w .splines) j .curvature) (cut j) (cut (suc j)) j
+  pub span : (j : ℕ) → j < w .state .splines → Span (quadRowAt (w .quads)) (splineAt (w .splines) j .curvature) (cut j) (cut (suc j)) j
   pub room : Room caps w
   pub waits : w .state .mark ≡ false → 0 < w .state .splines
 
@@ -122,37 +122,19 @@ pub pred-lt : (n : ℕ) → 0 < n → n - 1 < n
 pred-lt n h = omega arith
 
 -- ---- a quad k is written
-agree-self : (q : QuadTable) (k : ℕ) → Agree q q k
-agree-self q k = record { sum = λ i h. refl; owner = λ i h. refl }
+agree-self : (rows : ℕ → QuadRow) (k : ℕ) → Agree rows rows k
+agree-self rows k i h = refl
 
-module _ (q : QuadTable) (k : ℕ) (row : QuadRow) where
-  agree-put : Agree q (putQuad q k row) k
-  unfolding putQuad
-  agree-put = record { sum = λ i h. getD-set-other (q .partial-curvatures) k i (row .«partial_curvature») nan (ne-of-lt h); owner = λ i h. getD-set-other (q .partial-splines) k i (row .spline) 0 (ne-of-lt h) }
-
-  put-sum : k < length (q .partial-curvatures) → sumAt (putQuad q k row) k ≡ row .«partial_curvature»
-  unfolding putQuad
-  put-sum h = getD-set-same (q .partial-curvatures) k (row .«partial_curvature») nan h
-
-  put-owner : k < length (q .partial-splines) → ownerAt (putQuad q k row) k ≡ row .spline
-  unfolding putQuad
-  put-owner h = getD-set-same (q .partial-splines) k (row .spline) 0 h
-
-  put-sums-length : length (putQuad q k row .partial-curvatures) ≡ length (q .partial-curvatures)
-  unfolding putQuad
-  put-sums-length = length-set (q .partial-curvatures) k (row .«partial_curvature»)
-
-  put-owners-length : length (putQuad q k row .partial-splines) ≡ length (q .partial-splines)
-  unfolding putQuad
-  put-owners-length = length-set (q .partial-splines) k (row .spline)
+agree-put : (q : QuadTable) (k : ℕ) (row : QuadRow) → Agree (quadRowAt q) (quadRowAt (putQuad q k row)) k
+agree-put q k row i h = row-stays q k row i (ne-of-lt h)
 
 module _ (caps : Capacities) (w : World) (S : Sound caps w) where
   put : (edit : SplineEdit) (q' : QuadTable) (t k' : ℕ) (total : Float) → t ≤ w .state .splines → t < caps .splines → k' ≤ caps .quads
       → edit .at ≡ t → edit .row .curvature ≡ total → edit .next .splines ≡ suc t → edit .next .quads ≡ k'
-      → Agree (w .quads) q' (w .state .quads) → length (q' .partial-curvatures) ≡ length (w .quads .partial-curvatures) → length (q' .partial-splines) ≡ length (w .quads .partial-splines)
-      → Span q' total (S .cut t) k' t
+      → Agree (quadRowAt (w .quads)) (quadRowAt q') (w .state .quads) → quadCapacityOf q' ≡ quadCapacityOf (w .quads)
+      → Span (quadRowAt q') total (S .cut t) k' t
       → Sound caps (world (edit .next) q' (putSpline (w .splines) edit))
-  put edit q' t k' total T≤ T< K at row next quads A l₁ l₂ R =
+  put edit q' t k' total T≤ T< K at row next quads A l R =
       let s = w .splines in
       let W = world (edit .next) q' (putSpline s edit) in
       record {
@@ -161,12 +143,16 @@ module _ (caps : Capacities) (w : World) (S : Sound caps w) where
         all = ap (topped (S .cut) t k') next ∙ topped-high (S .cut) t k' (suc t) (le-refl (suc t)) ∙ sym quads;
         span = λ j h. elim (eq-or-lt-of-le (le-of-suc-le-suc (lt-of-lt-of-le h (le-of-eq next)))) [
           | inl e ↦
-              subst (λ (x : ℕ). Span q' (splineAt (putSpline s edit) x .curvature) (topped (S .cut) t k' x) (topped (S .cut) t k' (suc x)) x) (sym e)
-              (subst₂ (λ (x y : ℕ). Span q' (splineAt (putSpline s edit) t .curvature) x y t) (sym (topped-low (S .cut) t k' t (le-refl t))) (sym (topped-high (S .cut) t k' (suc t) (le-refl (suc t))))
-              (subst (λ (x : Float). Span q' x (S .cut t) k' t) (sym (new-total at row)) R))
+              subst (λ (x : ℕ). Span (quadRowAt q') (splineAt (putSpline s edit) x .curvature) (topped (S .cut) t k' x) (topped (S .cut) t k' (suc x)) x)
+              (sym e)
+              (subst₂ (λ (x y : ℕ). Span (quadRowAt q') (splineAt (putSpline s edit) t .curvature) x y t) (sym (topped-low (S .cut) t k' t (le-refl t)))
+              (sym (topped-high (S .cut) t k' (suc t) (le-refl (suc t))))
+              (subst (λ (x : Float). Span (quadRowAt q') x (S .cut t) k' t) (sym (new-total at row)) R))
           | inr l ↦
-              subst₂ (λ (x y : ℕ). Span q' (splineAt (putSpline s edit) j .curvature) x y j) (sym (topped-low (S .cut) t k' j (le-of-lt l))) (sym (topped-low (S .cut) t k' (suc j) l))
-              (span-agree (w .quads) q' (splineAt s j .curvature) (splineAt (putSpline s edit) j .curvature) (S .cut j) (S .cut (suc j)) j
+              subst₂ (λ (x y : ℕ). Span (quadRowAt q') (splineAt (putSpline s edit) j .curvature) x y j) (sym (topped-low (S .cut) t k' j (le-of-lt l)))
+              (sym (topped-low (S .cut) t k' (suc j) l))
+              (span-agree (quadRowAt (w .quads)) (quadRowAt q') (splineAt s j .curvature) (splineAt (putSpline s edit) j .curvature) (S .cut j)
+              (S .cut (suc j)) j
               (below (S .cut (suc j)) (cut-le caps w S (suc j) (le-trans l T≤)))
               (total-other s edit j (λ e. ne-of-lt l (e ∙ at)))
               (S .span j (lt-of-lt-of-le l T≤)))
@@ -175,8 +161,7 @@ module _ (caps : Capacities) (w : World) (S : Sound caps w) where
             record {
               quads = le-trans (le-of-eq quads) K;
               splines = le-trans (le-of-eq next) T<;
-              sums = le-trans (S .room .sums) (le-of-eq (sym l₁));
-              owners = le-trans (S .room .owners) (le-of-eq (sym l₂));
+              rows = le-trans (S .room .rows) (le-of-eq (sym l));
               totals = le-trans (S .room .totals) (le-of-eq (sym (totals-length s edit)));
               flags = le-trans (S .room .flags) (le-of-eq (sym (flags-length s edit)));
             };
@@ -191,25 +176,29 @@ module _ (caps : Capacities) (w : World) (S : Sound caps w) where
           subst (λ (x : ℕ). splineAt (putSpline (w .splines) edit) x .curvature ≡ edit .row .curvature) at
           (total-same (w .splines) edit (lt-of-le-of-lt (le-of-eq at) (lt-of-lt-of-le T< (S .room .totals)))) ∙ row
 
-      below : (hi : ℕ) → hi ≤ w .state .quads → Agree (w .quads) q' hi
-      below hi h = record { sum = λ i l. A .sum i (lt-of-lt-of-le l h); owner = λ i l. A .owner i (lt-of-lt-of-le l h) }
+      below : (hi : ℕ) → hi ≤ w .state .quads → Agree (quadRowAt (w .quads)) (quadRowAt q') hi
+      below hi h i l = A i (lt-of-lt-of-le l h)
 
   -- ---- the spline that is opened or joined, as it was
-  before-open : Span (w .quads) zero32 (S .cut (w .state .splines)) (w .state .quads) (w .state .splines)
-  before-open = subst (λ (x : ℕ). Span (w .quads) zero32 (S .cut (w .state .splines)) x (w .state .splines)) (S .all) (span-none (w .quads) (S .cut (w .state .splines)) (w .state .splines))
+  before-open : Span (quadRowAt (w .quads)) zero32 (S .cut (w .state .splines)) (w .state .quads) (w .state .splines)
+  before-open = subst (λ (x : ℕ). Span (quadRowAt (w .quads)) zero32 (S .cut (w .state .splines)) x (w .state .splines)) (S .all)
+      (span-none (quadRowAt (w .quads)) (S .cut (w .state .splines)) (w .state .splines))
 
-  before-join : 0 < w .state .splines → Span (w .quads) (lastOf w .curvature) (S .cut (w .state .splines - 1)) (w .state .quads) (w .state .splines - 1)
+  before-join : 0 < w .state .splines
+      → Span (quadRowAt (w .quads)) (lastOf w .curvature) (S .cut (w .state .splines - 1)) (w .state .quads) (w .state .splines - 1)
   before-join h =
       let n = w .state .splines in
       let p = pred-suc n h in
-      subst₂ (λ (x : Float) (y : ℕ). Span (w .quads) x (S .cut (n - 1)) y (n - 1)) (sym (ap (λ (r : SplineRow). r .curvature) (last-is w h))) (ap (S .cut) p ∙ S .all)
+      subst₂ (λ (x : Float) (y : ℕ). Span (quadRowAt (w .quads)) x (S .cut (n - 1)) y (n - 1)) (sym (ap (λ (r : SplineRow). r .curvature) (last-is w h)))
+      (ap (S .cut) p ∙ S .all)
       (S .span (n - 1) (le-of-eq p))
 
   -- the sum that a spline has before one more quad: zero, or a running sum
-  pub sum-before : (opens : Bool) → (opens ≡ false → w .state .mark ≡ false) → T (natural (sumBefore opens (lastOf w))) × (num (sumBefore opens (lastOf w)) ≤ 65536 * den (sumBefore opens (lastOf w)))
+  pub sum-before : (opens : Bool) → (opens ≡ false → w .state .mark ≡ false)
+      → T (natural (sumBefore opens (lastOf w))) × (num (sumBefore opens (lastOf w)) ≤ 65536 * den (sumBefore opens (lastOf w)))
   unfolding sumBefore
   sum-before true h = (zero-natural, le-trans (le-of-eq zero-num) zero-le)
-  sum-before false h = elim (span-total (w .quads) (lastOf w .curvature) _ _ _ (before-join (S .waits (h refl)))) [
+  sum-before false h = elim (span-total (quadRowAt (w .quads)) (lastOf w .curvature) _ _ _ (before-join (S .waits (h refl)))) [
     | inl z ↦ subst (λ (x : Float). T (natural x) × (num x ≤ 65536 * den x)) (sym (z .1)) (zero-natural, le-trans (le-of-eq zero-num) zero-le)
     | inr z ↦ (positive-natural (lastOf w .curvature) (z .sum .real), z .sum .most)
   ]
@@ -219,36 +208,47 @@ module _ (caps : Capacities) (w : World) (S : Sound caps w) where
   unfolding applyOf splineEditOf sumBefore
   sound-lined true start end angle A =
       let n = w .state .splines in
-      put (splineEdit w true start end zero32 (w .state .quads) angle) (w .quads) n (w .state .quads) zero32 (le-refl n) (A .room refl) (S .room .quads) refl refl (add-one n) refl
-      (agree-self (w .quads) (w .state .quads)) refl refl before-open
+      put (splineEdit w true start end zero32 (w .state .quads) angle) (w .quads) n (w .state .quads) zero32 (le-refl n) (A .room refl)
+      (S .room .quads) refl refl (add-one n) refl
+      (agree-self (quadRowAt (w .quads)) (w .state .quads)) refl before-open
   sound-lined false start end angle A =
       let n = w .state .splines in
       let N = S .waits (A .joins refl) in
-      put (splineEdit w false start end (lastOf w .curvature) (w .state .quads) angle) (w .quads) (n - 1) (w .state .quads) (lastOf w .curvature) (sub-le n 1) (lt-of-lt-of-le (pred-lt n N) (S .room .splines)) (S .room .quads) refl refl (sym (pred-suc n N)) refl
-      (agree-self (w .quads) (w .state .quads)) refl refl (before-join N)
+      put (splineEdit w false start end (lastOf w .curvature) (w .state .quads) angle) (w .quads) (n - 1) (w .state .quads) (lastOf w .curvature) (sub-le n 1)
+      (lt-of-lt-of-le (pred-lt n N) (S .room .splines)) (S .room .quads) refl refl (sym (pred-suc n N)) refl
+      (agree-self (quadRowAt (w .quads)) (w .state .quads)) refl (before-join N)
 
-  sound-bent : (opens : Bool) (start end : Point) (angle : Angle) (c : Float) (row : QuadRow) → Allowed caps w opens → Bent c → w .state .quads < caps .quads → T (le (sumBefore opens (lastOf w) ⊕ c) limit32)
+  sound-bent : (opens : Bool) (start end : Point) (angle : Angle) (c : Float) (row : QuadRow) → Allowed caps w opens → Bent c → w .state .quads < caps .quads
+      → T (le (sumBefore opens (lastOf w) ⊕ c) limit32)
       → row .«partial_curvature» ≡ sumBefore opens (lastOf w) ⊕ c
       → row .spline ≡ splineEdit w opens start end (sumBefore opens (lastOf w) ⊕ c) (w .state .quads + 1) angle .at
-      → Sound caps (applyOf (Bend (splineEdit w opens start end (sumBefore opens (lastOf w) ⊕ c) (w .state .quads + 1) angle) (w .state .quads) row) (w .quads) (w .splines))
+      → Sound caps (applyOf (Bend (splineEdit w opens start end (sumBefore opens (lastOf w) ⊕ c) (w .state .quads + 1) angle) (w .state .quads) row)
+      (w .quads) (w .splines))
   unfolding applyOf splineEditOf sumBefore
   sound-bent true start end angle c row A B K fit e o =
       let n = w .state .splines in
       let k = w .state .quads in
       let q = w .quads in
-      put (splineEdit w true start end (zero32 ⊕ c) (k + 1) angle) (putQuad q k row) n (suc k) (zero32 ⊕ c) (le-refl n) (A .room refl) K refl refl (add-one n) (add-one k)
-      (agree-put q k row) (put-sums-length q k row) (put-owners-length q k row)
-      (span-more q (putQuad q k row) zero32 c (S .cut n) k n before-open (agree-put q k row) B fit (put-sum q k row (lt-of-lt-of-le K (S .room .sums)) ∙ e) (put-owner q k row (lt-of-lt-of-le K (S .room .owners)) ∙ o))
+      let stored = row-put q k row (lt-of-lt-of-le K (S .room .rows)) in
+      put (splineEdit w true start end (zero32 ⊕ c) (k + 1) angle) (putQuad q k row) n (suc k) (zero32 ⊕ c) (le-refl n) (A .room refl) K refl refl (add-one n)
+      (add-one k)
+      (agree-put q k row) (capacity-stays q k row)
+      (span-more (quadRowAt q) (quadRowAt (putQuad q k row)) zero32 c (S .cut n) k n before-open (agree-put q k row) B fit (same-sum stored ∙ e)
+      (same-owner stored ∙ o))
   sound-bent false start end angle c row A B K fit e o =
       let n = w .state .splines in
       let k = w .state .quads in
       let q = w .quads in
       let N = S .waits (A .joins refl) in
-      put (splineEdit w false start end (lastOf w .curvature ⊕ c) (k + 1) angle) (putQuad q k row) (n - 1) (suc k) (lastOf w .curvature ⊕ c) (sub-le n 1) (lt-of-lt-of-le (pred-lt n N) (S .room .splines)) K refl refl (sym (pred-suc n N)) (add-one k)
-      (agree-put q k row) (put-sums-length q k row) (put-owners-length q k row)
-      (span-more q (putQuad q k row) (lastOf w .curvature) c (S .cut (n - 1)) k (n - 1) (before-join N) (agree-put q k row) B fit (put-sum q k row (lt-of-lt-of-le K (S .room .sums)) ∙ e) (put-owner q k row (lt-of-lt-of-le K (S .room .owners)) ∙ o))
+      let stored = row-put q k row (lt-of-lt-of-le K (S .room .rows)) in
+      put (splineEdit w false start end (lastOf w .curvature ⊕ c) (k + 1) angle) (putQuad q k row) (n - 1) (suc k) (lastOf w .curvature ⊕ c) (sub-le n 1)
+      (lt-of-lt-of-le (pred-lt n N) (S .room .splines)) K refl refl (sym (pred-suc n N)) (add-one k)
+      (agree-put q k row) (capacity-stays q k row)
+      (span-more (quadRowAt q) (quadRowAt (putQuad q k row)) (lastOf w .curvature) c (S .cut (n - 1)) k (n - 1) (before-join N) (agree-put q k row) B fit
+      (same-sum stored ∙ e) (same-owner stored ∙ o))
 
-  same-tables : (st : State) → st .splines ≡ w .state .splines → st .quads ≡ w .state .quads → (st .mark ≡ false → w .state .mark ≡ false) → Sound caps (world st (w .quads) (w .splines))
+  same-tables : (st : State) → st .splines ≡ w .state .splines → st .quads ≡ w .state .quads → (st .mark ≡ false → w .state .mark ≡ false)
+      → Sound caps (world st (w .quads) (w .splines))
   same-tables st e f m =
       record {
         cut = S .cut;
@@ -259,8 +259,7 @@ module _ (caps : Capacities) (w : World) (S : Sound caps w) where
             record {
               quads = le-trans (le-of-eq f) (S .room .quads);
               splines = le-trans (le-of-eq e) (S .room .splines);
-              sums = S .room .sums;
-              owners = S .room .owners;
+              rows = S .room .rows;
               totals = S .room .totals;
               flags = S .room .flags;
             };
@@ -289,13 +288,6 @@ skip : (a b c : ℕ) → b ≤ c → min a b ≤ c
 skip a b c h = omega arith
 
 module _ (q : QuadTable) (s : SplineTable) where
-  quads-room : (quadCapacityOf q ≤ length (q .partial-curvatures)) × (quadCapacityOf q ≤ length (q .partial-splines))
-  unfolding quadCapacityOf
-  quads-room = (
-    skip _ _ _ (skip _ _ _ (skip _ _ _ (skip _ _ _ (skip _ _ _ (skip _ _ _ (skip _ _ _ (skip _ _ _ (min-le-left _ _)))))))),
-    skip _ _ _ (skip _ _ _ (skip _ _ _ (skip _ _ _ (skip _ _ _ (skip _ _ _ (skip _ _ _ (skip _ _ _ (min-le-right _ _)))))))),
-  )
-
   pub splines-room : (splineCapacityOf s ≤ length (s .curvature)) × (splineCapacityOf s ≤ length (s .contour)) × (splineCapacityOf s ≤ indexLimit)
   unfolding splineCapacityOf
   splines-room = (skip _ _ _ (min-le-left _ _), skip _ _ _ (skip _ _ _ (skip _ _ _ (skip _ _ _ (skip _ _ _ (min-le-right _ _))))), min-le-left _ _)
@@ -312,13 +304,13 @@ module _ (q : QuadTable) (s : SplineTable) where
             record {
               quads = zero-le;
               splines = zero-le;
-              sums = quads-room .0;
-              owners = quads-room .1;
+              rows = le-refl (quadCapacityOf q);
               totals = splines-room .0;
               flags = splines-room .1;
             };
         waits = λ h. absurd (true≢false h);
       }
 
-pub sound : (setting : Setting) (ps : List Primitive) (q : QuadTable) (s : SplineTable) → Sound (capacitiesOf q s) (runOf setting (capacitiesOf q s) ps (world startState q s))
+pub sound : (setting : Setting) (ps : List Primitive) (q : QuadTable) (s : SplineTable)
+    → Sound (capacitiesOf q s) (runOf setting (capacitiesOf q s) ps (world startState q s))
 sound setting ps q s = sound-run setting (capacitiesOf q s) ps (world startState q s) (sound-start q s)

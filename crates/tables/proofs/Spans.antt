@@ -6,41 +6,45 @@ use Prim.Native.Nat.{ℕ, zero, suc, _+_, _-_, _*_, _≤_, _<_, zero-le}
 use native.Mathlib.Nat.{le-trans, le-of-eq, le-refl, le-of-lt, lt-of-lt-of-le, lt-of-le-of-lt, lt-irrefl, eq-or-lt-of-le, le-of-suc-le-suc, suc-inj}
 use native.Mathlib.Omega.{arith}
 use lib.Dec.{T}
-use lib.Ieee.{Float, nan, le}
+use lib.Ieee.{Float, le}
 use lib.Ieee.Positive.{num, den}
-use lib.ListN.{getD}
 use Rattle.leaves.specs.Single.{_⊕_, zero32}
 use Rattle.leaves.specs.Whole.{limit32}
-use Rattle.tables.specs.Tables.{QuadTable}
+use Rattle.primitives.specs.declared.QuadRow.{QuadRow}
 use Rattle.tables.proofs.RunningSums.{Sum, Reaches, Bent, zero-natural, zero-num, positive-natural, sum-reaches, sum-after, sum-first}
 
 -- a quad's running sum, and the number of its spline
-abbrev pub sumAt : QuadTable → ℕ → Float
-sumAt q i = getD (q .partial-curvatures) i nan
+abbrev pub sumAt : (ℕ → QuadRow) → ℕ → Float
+sumAt rows i = rows i .«partial_curvature»
 
-abbrev pub ownerAt : QuadTable → ℕ → ℕ
-ownerAt q i = getD (q .partial-splines) i 0
+abbrev pub ownerAt : (ℕ → QuadRow) → ℕ → ℕ
+ownerAt rows i = rows i .spline
 
 -- the quads of spline j are those from lo to below hi, and its sum is total
-pub record Span (q : QuadTable) (total : Float) (lo hi j : ℕ) : Type 0 where
+pub record Span (rows : ℕ → QuadRow) (total : Float) (lo hi j : ℕ) : Type 0 where
   pub ordered : lo ≤ hi
-  pub owned : (i : ℕ) → lo ≤ i → i < hi → ownerAt q i ≡ j
-  pub sums : (i : ℕ) → lo ≤ i → i < hi → Sum (sumAt q i)
-  pub grows : (i : ℕ) → lo ≤ i → suc i < hi → Reaches (sumAt q i) (sumAt q (suc i))
+  pub owned : (i : ℕ) → lo ≤ i → i < hi → ownerAt rows i ≡ j
+  pub sums : (i : ℕ) → lo ≤ i → i < hi → Sum (sumAt rows i)
+  pub grows : (i : ℕ) → lo ≤ i → suc i < hi → Reaches (sumAt rows i) (sumAt rows (suc i))
   pub none : lo ≡ hi → total ≡ zero32
-  pub last : (i : ℕ) → lo ≤ i → suc i ≡ hi → total ≡ sumAt q i
+  pub last : (i : ℕ) → lo ≤ i → suc i ≡ hi → total ≡ sumAt rows i
 
--- two tables hold the same sums and splines below k
-pub record Agree (q q' : QuadTable) (k : ℕ) : Type 0 where
-  pub sum : (i : ℕ) → i < k → sumAt q' i ≡ sumAt q i
-  pub owner : (i : ℕ) → i < k → ownerAt q' i ≡ ownerAt q i
+-- two tables hold the same rows below k
+abbrev pub Agree : (ℕ → QuadRow) → (ℕ → QuadRow) → ℕ → Type 0
+Agree rows rows' k = (i : ℕ) → i < k → rows' i ≡ rows i
+
+pub same-sum : {r r' : QuadRow} → r ≡ r' → r .«partial_curvature» ≡ r' .«partial_curvature»
+same-sum = ap (λ (r : QuadRow). r .«partial_curvature»)
+
+pub same-owner : {r r' : QuadRow} → r ≡ r' → r .spline ≡ r' .spline
+same-owner = ap (λ (r : QuadRow). r .spline)
 
 -- ---- no quad
 nothing : (lo i : ℕ) → lo ≤ i → i < lo → ⊥
 nothing lo i h k = omega arith
 
-pub span-none : (q : QuadTable) (lo j : ℕ) → Span q zero32 lo lo j
-span-none q lo j =
+pub span-none : (rows : ℕ → QuadRow) (lo j : ℕ) → Span rows zero32 lo lo j
+span-none rows lo j =
     record {
       ordered = le-refl lo;
       owned = λ i h k. absurd (nothing lo i h k);
@@ -51,42 +55,43 @@ span-none q lo j =
     }
 
 -- ---- tables that agree
-module _ (q q' : QuadTable) (total total' : Float) (lo hi j : ℕ) (A : Agree q q' hi) (e : total' ≡ total) (S : Span q total lo hi j) where
-  pub span-agree : Span q' total' lo hi j
+module _ (rows rows' : ℕ → QuadRow) (total total' : Float) (lo hi j : ℕ) (A : Agree rows rows' hi) (e : total' ≡ total) (S : Span rows total lo hi j) where
+  pub span-agree : Span rows' total' lo hi j
   span-agree =
       record {
         ordered = S .ordered;
-        owned = λ i h k. A .owner i k ∙ S .owned i h k;
-        sums = λ i h k. subst Sum (sym (A .sum i k)) (S .sums i h k);
-        grows = λ i h k. subst₂ Reaches (sym (A .sum i (le-of-lt k))) (sym (A .sum (suc i) k)) (S .grows i h k);
+        owned = λ i h k. same-owner (A i k) ∙ S .owned i h k;
+        sums = λ i h k. subst Sum (sym (same-sum (A i k))) (S .sums i h k);
+        grows = λ i h k. subst₂ Reaches (sym (same-sum (A i (le-of-lt k)))) (sym (same-sum (A (suc i) k))) (S .grows i h k);
         none = λ z. e ∙ S .none z;
-        last = λ i h z. e ∙ S .last i h z ∙ sym (A .sum i (le-of-eq z));
+        last = λ i h z. e ∙ S .last i h z ∙ sym (same-sum (A i (le-of-eq z)));
       }
 
 -- ---- the sum of a spline: zero, or its last quad's
-pub record LastOf (q : QuadTable) (total : Float) (lo hi : ℕ) : Type 0 where
+pub record LastOf (rows : ℕ → QuadRow) (total : Float) (lo hi : ℕ) : Type 0 where
   pub at : ℕ
   pub inside : lo ≤ at
   pub next : suc at ≡ hi
-  pub same : total ≡ sumAt q at
+  pub same : total ≡ sumAt rows at
   pub sum : Sum total
 
 before : (lo hi : ℕ) → lo < hi → (lo ≤ hi - 1) × (suc (hi - 1) ≡ hi) × (hi - 1 < hi)
 before lo hi h = (omega arith, omega arith, omega arith)
 
-pub span-last : (q : QuadTable) (total : Float) (lo hi j : ℕ) → Span q total lo hi j → lo < hi → LastOf q total lo hi
-span-last q total lo hi j S h =
+pub span-last : (rows : ℕ → QuadRow) (total : Float) (lo hi j : ℕ) → Span rows total lo hi j → lo < hi → LastOf rows total lo hi
+span-last rows total lo hi j S h =
     let z = before lo hi h in
     let e = S .last (hi - 1) (z .0) (z .1) in
     record { at = hi - 1; inside = z .0; next = z .1; same = e; sum = subst Sum (sym e) (S .sums (hi - 1) (z .0) (z .2)) }
 
-pub span-total : (q : QuadTable) (total : Float) (lo hi j : ℕ) → Span q total lo hi j → ((lo ≡ hi) × (total ≡ zero32)) ⊎ LastOf q total lo hi
-span-total q total lo hi j S = elim (eq-or-lt-of-le (S .ordered)) [ inl e ↦ inl (e, S .none e) | inr h ↦ inr (span-last q total lo hi j S h) ]
+pub span-total : (rows : ℕ → QuadRow) (total : Float) (lo hi j : ℕ) → Span rows total lo hi j → ((lo ≡ hi) × (total ≡ zero32)) ⊎ LastOf rows total lo hi
+span-total rows total lo hi j S = elim (eq-or-lt-of-le (S .ordered)) [ inl e ↦ inl (e, S .none e) | inr h ↦ inr (span-last rows total lo hi j S h) ]
 
 -- ---- one more quad, at k
-module _ (q q' : QuadTable) (total c : Float) (lo k j : ℕ) (S : Span q total lo k j) (A : Agree q q' k) (B : Bent c) (fit : T (le (total ⊕ c) limit32)) (e : sumAt q' k ≡ total ⊕ c) (o : ownerAt q' k ≡ j) where
+module _ (rows rows' : ℕ → QuadRow) (total c : Float) (lo k j : ℕ) (S : Span rows total lo k j) (A : Agree rows rows' k) (B : Bent c)
+    (fit : T (le (total ⊕ c) limit32)) (e : sumAt rows' k ≡ total ⊕ c) (o : ownerAt rows' k ≡ j) where
   new-sum : Sum (total ⊕ c) × Reaches total (total ⊕ c)
-  new-sum = elim (span-total q total lo k j S) [
+  new-sum = elim (span-total rows total lo k j S) [
     | inl z ↦
         subst (λ (t : Float). T (le (t ⊕ c) limit32) → Sum (t ⊕ c) × Reaches t (t ⊕ c)) (sym (z .1))
         (λ f. (sum-first c B f, sum-reaches zero32 c zero-natural (le-trans (le-of-eq zero-num) zero-le) B f)) fit
@@ -96,18 +101,18 @@ module _ (q q' : QuadTable) (total c : Float) (lo k j : ℕ) (S : Span q total l
   or-new : (P : ℕ → Type 0) → (i : ℕ) → i < suc k → (i < k → P i) → P k → P i
   or-new P i h f p = elim (eq-or-lt-of-le (le-of-suc-le-suc h)) [ inl z ↦ subst P (sym z) p | inr l ↦ f l ]
 
-  pub span-more : Span q' (total ⊕ c) lo (suc k) j
+  pub span-more : Span rows' (total ⊕ c) lo (suc k) j
   span-more =
       record {
         ordered = le-trans (S .ordered) (le-of-lt (le-refl (suc k)));
-        owned = λ i h l. or-new (λ (x : ℕ). ownerAt q' x ≡ j) i l (λ g. A .owner i g ∙ S .owned i h g) o;
-        sums = λ i h l. or-new (λ (x : ℕ). Sum (sumAt q' x)) i l (λ g. subst Sum (sym (A .sum i g)) (S .sums i h g)) (subst Sum (sym e) (new-sum .0));
+        owned = λ i h l. or-new (λ (x : ℕ). ownerAt rows' x ≡ j) i l (λ g. same-owner (A i g) ∙ S .owned i h g) o;
+        sums = λ i h l. or-new (λ (x : ℕ). Sum (sumAt rows' x)) i l (λ g. subst Sum (sym (same-sum (A i g))) (S .sums i h g)) (subst Sum (sym e) (new-sum .0));
         grows = λ i h l. elim (eq-or-lt-of-le (le-of-suc-le-suc l)) [
           | inl z ↦
-              subst (λ (x : ℕ). Reaches (sumAt q' i) (sumAt q' x)) (sym z)
-              (subst₂ Reaches (S .last i h z ∙ sym (A .sum i (le-of-eq z))) (sym e) (new-sum .1))
-          | inr g ↦ subst₂ Reaches (sym (A .sum i (le-of-lt g))) (sym (A .sum (suc i) g)) (S .grows i h g)
+              subst (λ (x : ℕ). Reaches (sumAt rows' i) (sumAt rows' x)) (sym z)
+              (subst₂ Reaches (S .last i h z ∙ sym (same-sum (A i (le-of-eq z)))) (sym e) (new-sum .1))
+          | inr g ↦ subst₂ Reaches (sym (same-sum (A i (le-of-lt g)))) (sym (same-sum (A (suc i) g))) (S .grows i h g)
         ];
         none = λ z. absurd (nothing lo k (S .ordered) (le-of-eq (sym z)));
-        last = λ i h z. sym e ∙ ap (sumAt q') (sym (suc-inj z));
+        last = λ i h z. sym e ∙ ap (sumAt rows') (sym (suc-inj z));
       }

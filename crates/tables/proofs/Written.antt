@@ -1,29 +1,46 @@
--- A row written column by column is the row written in the table. Assumes nothing.
+-- A row written or read column by column, or three numbers at a time, is the table's row. Assumes nothing.
 use mathlib.Core.Path.{_≡_}
 use mathlib.Core.List.{List}
-use Prim.Native.Nat.{ℕ}
+use mathlib.Core.Bool.{false}
+use Prim.Native.Nat.{ℕ, suc, _+_, _*_, _<_}
+use native.Mathlib.Nat.{add-zero, add-assoc}
+use native.Mathlib.Numerals.{towards-suc}
+use native.Mathlib.Omega.{arith}
+use lib.Dec.{ltb}
 use lib.Ieee.{Float}
-use lib.ListN.{set}
+use lib.ListN.{getD, set}
+use lib.Seq.{sets}
+use borrow.Author.Tests.{lt-ltb}
 use Rattle.columns.specs.Flags.{flagByteOf}
 use Rattle.primitives.specs.declared.QuadRow.{QuadRow}
 use Rattle.primitives.specs.declared.SplineEdit.{SplineEdit}
-use Rattle.tables.specs.Tables.{QuadTable, SplineTable, quadTable, splineTable, setThree, clearFlag, putQuad, putSpline}
+use Rattle.tables.specs.Tables.{QuadTable, SplineTable, splineTable, wholeRowsOf, numbersOf, numberAt, quadRowAt, clearFlag, putSpline}
+use Rattle.tables.specs.Threes.{setThree, rowFrom, noRow}
 
-pub quad-put :
-    (q : QuadTable) (i : ℕ) (row : QuadRow) {x y weight x0 dx-recip k0 dk curvatures-recip partial-curvatures : List Float} {partial-splines : List ℕ}
-    → x ≡ setThree (q .x) i (row .x)
-    → y ≡ setThree (q .y) i (row .y)
-    → weight ≡ setThree (q .weight) i (row .weight)
-    → x0 ≡ set (q .x0) i (row .x0)
-    → dx-recip ≡ set (q .dx-recip) i (row .«dx_recip»)
-    → k0 ≡ set (q .k0) i (row .k0)
-    → dk ≡ set (q .dk) i (row .dk)
-    → curvatures-recip ≡ set (q .curvatures-recip) i (row .«curvature_recip»)
-    → partial-curvatures ≡ set (q .partial-curvatures) i (row .«partial_curvature»)
-    → partial-splines ≡ set (q .partial-splines) i (row .spline)
-    → quadTable x y weight x0 dx-recip k0 dk curvatures-recip partial-curvatures partial-splines ≡ putQuad q i row
-unfolding putQuad
-quad-put q i row e1 e2 e3 e4 e5 e6 e7 e8 e9 e10 = rw (e1, e2, e3, e4, e5, e6, e7, e8, e9, e10)
+nine : (j : ℕ) → j + 9 ≡ suc (j + 8)
+nine j = omega arith
+
+twelve : (j : ℕ) → j + 12 ≡ suc (suc (suc (suc (j + 8))))
+twelve j = omega arith
+
+pub threes-put :
+    (l : List Float) (j : ℕ) (row : QuadRow) {a b c d e : List Float}
+    → a ≡ setThree l j (row .x)
+    → b ≡ setThree a (j + 3) (row .y)
+    → c ≡ setThree b (j + 6) (row .weight)
+    → d ≡ setThree c (j + 9) (record { a = row .x0; b = row .«dx_recip»; c = row .k0 })
+    → e ≡ setThree d (j + 12) (record { a = row .dk; b = row .«curvature_recip»; c = row .«partial_curvature» })
+    → e ≡ sets l j (numbersOf row)
+unfolding numbersOf
+threes-put l j row e1 e2 e3 e4 e5 = rw (e5, e4, e3, e2, e1) (simp (towards-suc, nine, twelve))
+
+pub row-read : (q : QuadTable) (i : ℕ) → i < wholeRowsOf (q .rows) → rowFrom (q .rows) (15 * i) (getD (q .partial-splines) i 0) ≡ quadRowAt q i
+unfolding quadRowAt numberAt
+row-read q i h = rw (lt-ltb i (wholeRowsOf (q .rows)) h) (simp (add-assoc, add-zero))
+
+pub row-not-whole : (q : QuadTable) (i : ℕ) → ltb i (wholeRowsOf (q .rows)) ≡ false → noRow (getD (q .partial-splines) i 0) ≡ quadRowAt q i
+unfolding quadRowAt numberAt
+row-not-whole q i e = rw e
 
 pub spline-put :
     (s : SplineTable) (edit : SplineEdit) {curvature p0x p0y p2x p2y : List Float} {contour cleared : List ℕ} {byte : ℕ}

@@ -31,7 +31,7 @@ rowFrom rows j spline =
 
 abbrev pub noRow : ℕ → QuadRow
 noRow spline =
-    let three = record { a = nan; b = nan; c = nan } in
+    let three : Three = record { a = nan; b = nan; c = nan } in
     record {
       x = three;
       y = three;

@@ -25,7 +25,10 @@ same-length-4 : tie.Need-same-length-4
 same-length-4 c = search needs
 
 returns : tie.Need-returns
-returns c = delivered-not _ _ _ _ (c .before .before .before .before .before .before .walk-length .result) _ (c .before .before .before .before .before .before .walk-length .ensures) (sym (c .before .holds .ensures) ∙ not-true (c .before .holds .result) (c .if1 .taken))
+returns c =
+    let l : tie.After-walk-length = search in
+    let h = c .before .holds in
+    delivered-not _ _ _ _ (l .walk-length .result) _ (l .walk-length .ensures) (sym (h .ensures) ∙ not-true (h .result) (c .if1 .taken))
 
 write-walk-requires : tie.Need-write-walk-requires
 write-walk-requires c κs = search needs
@@ -43,7 +46,13 @@ same-length-8 : tie.Need-same-length-8
 same-length-8 c = search needs
 
 returns-2 : tie.Need-returns-2
-returns-2 c = delivered _ _ _ _ (c .before .before .before .before .before .before .before .before .before .before .before .before .before .before .before .before .before .before .before .walk-length .result) _ (c .before .before .before .before .before .before .before .before .before .before .before .before .before .before .before .before .before .before .before .walk-length .ensures) _ (sym (c .before .before .before .before .before .before .before .before .before .before .before .before .before .before .holds .ensures) ∙ not-false (c .before .before .before .before .before .before .before .before .before .before .before .before .before .before .holds .result) (c .before .before .before .before .before .before .before .before .before .before .before .before .before .if1 .left)) (c .before .before .before .before .before .before .before .before .write-walk .ensures)
+returns-2 c =
+    let w : tie.After-write-walk = search in
+    let t : tie.Else1 = search in
+    let l : tie.After-walk-length = search in
+    let h = t .before .holds in
+    delivered _ _ _ _ (l .walk-length .result) _ (l .walk-length .ensures) _
+    (sym (h .ensures) ∙ not-false (h .result) (t .if1 .left)) (w .write-walk .ensures)
 
 pub deliver-spec : {M : Type 1} → statement M
 deliver-spec =

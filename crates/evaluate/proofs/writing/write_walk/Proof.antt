@@ -1,20 +1,19 @@
 -- `evaluate::writing::write_walk` meets its contract: the loop counts down the splines that are left. Assumes nothing.
 use native.Mathlib.Omega.{arith}
 use borrow.Author.Needs.{needs}
-use Rattle.tables.specs.Tables.{quadTable, splineTable}
+use Rattle.tables.specs.Tables.{quadTable, splineTable, quadRowAt}
 use Rattle.evaluate.specs.Output.{output}
 use Rattle.evaluate.proofs.Passes.{Walking, walking-start, walking-more, walking-end}
 use Rattle.evaluate.proofs.writing.write_walk.Statement.{statement}
 use Rattle.evaluate.proofs.writing.write_walk.Tie as tie
 
 abbrev Inv-loop : tie.InvT-loop
-Inv-loop x y weight x0 dx-recip k0 dk curvatures-recip partial-curvatures partial-splines curvature p0x p0y p2x p2y contour words₀ out-x₀ out-y₀ out-end₀ n last₀ place₀ k₀ left₀ words out-x out-y out-end last place k left =
-    Walking (quadTable x y weight x0 dx-recip k0 dk curvatures-recip partial-curvatures partial-splines) (splineTable curvature p0x p0y p2x p2y contour) n
-    (output words₀ out-x₀ out-y₀ out-end₀) (output words out-x out-y out-end) last place k left
+Inv-loop quad-rows partial-splines curvature p0x p0y p2x p2y contour words₀ x₀ y₀ end₀ n last₀ place₀ k₀ left₀ words x y end last place k left =
+    Walking (quadRowAt (quadTable quad-rows partial-splines)) (splineTable curvature p0x p0y p2x p2y contour) n
+    (output words₀ x₀ y₀ end₀) (output words x y end) last place k left
 
 abbrev μ-loop : tie.MeasureT-loop
-μ-loop x y weight x0 dx-recip k0 dk curvatures-recip partial-curvatures partial-splines curvature p0x p0y p2x p2y contour words₀ out-x₀ out-y₀ out-end₀ n last₀ place₀ k₀ left₀ words out-x out-y out-end last place k left =
-    left
+μ-loop quad-rows partial-splines curvature p0x p0y p2x p2y contour words₀ x₀ y₀ end₀ n last₀ place₀ k₀ left₀ words x y end last place k left = left
 
 spline-at-requires : tie.Need-spline-at-requires Inv-loop μ-loop
 spline-at-requires c κs = search needs
@@ -22,28 +21,44 @@ spline-at-requires c κs = search needs
 loop-holds : tie.Need-loop-holds Inv-loop μ-loop
 loop-holds c = walking-start _ _ _ _ _ (c .spline-at .ensures)
 
+-- ---- where a turn begins, and where the function does
+abbrev Turn : Type 0
+Turn = tie.In-loop Inv-loop μ-loop
+
+abbrev start : Turn → tie.Start Inv-loop μ-loop
+start t = search
+
 cast-spline-at : tie.Need-cast-spline-at Inv-loop μ-loop
-cast-spline-at c = omega (arith, c .before .loop .inv .within, c .before .before .before .before .before .before .before .before .before .before .before .before .before .before .before .before .before .before .before .before .before .before .before .fits .n)
+cast-spline-at c = omega (arith, c .before .loop .inv .within, start c .fits .n)
 
 spline-at-requires-2 : tie.Need-spline-at-requires-2 Inv-loop μ-loop
 spline-at-requires-2 c κs = search needs
 
 write-spline-requires : tie.Need-write-spline-requires Inv-loop μ-loop
-write-spline-requires c κs = omega (arith, c .before .before .before .before .before .before .loop .inv .within, c .before .before .before .before .before .before .loop .inv .entry, c .before .before .before .before .before .before .loop .inv .cursor, c .before .before .before .before .before .before .before .before .before .before .before .before .before .before .before .before .before .before .before .before .before .before .before .before .before .before .before .before .fits .n)
+write-spline-requires c κs =
+    let t : Turn = search in
+    let inv = t .before .loop .inv in
+    omega (arith, inv .within, inv .entry, inv .cursor, start t .fits .n)
 
 add-k : tie.Need-add-k Inv-loop μ-loop
-add-k c = omega (arith, c .before .before .before .before .before .before .before .before .before .before .before .before .before .before .before .loop .inv .within, c .before .before .before .before .before .before .before .before .before .before .before .before .before .before .before .before .before .before .before .before .before .before .before .before .before .before .before .before .before .before .before .before .before .before .before .before .before .fits .n, c .before .before .before .before .before .before .before .before .before .before .before .before .before .before .loop-test .taken)
+add-k c =
+    let t : Turn = search in
+    omega (arith, t .before .loop .inv .within, t .loop-test .taken, start t .fits .n)
 
 sub-left : tie.Need-sub-left Inv-loop μ-loop
-sub-left c = omega (arith, c .before .before .before .before .before .before .before .before .before .before .before .before .before .before .loop-test .taken)
+sub-left c = let t : Turn = search in omega (arith, t .loop-test .taken)
 
 loop-less : tie.Need-loop-less Inv-loop μ-loop
-loop-less c = omega (arith, c .before .before .before .before .before .before .before .before .before .before .before .before .before .before .loop-test .taken)
+loop-less c = let t : Turn = search in omega (arith, t .loop-test .taken)
 
 loop-again : tie.Need-loop-again Inv-loop μ-loop
 loop-again c =
-    walking-more _ _ _ _ _ _ _ _ _ (c .before .before .before .before .before .before .before .before .before .before .before .before .before .before .before .loop .inv) _ _ _ (c .before .before .before .before .before .before .before .before .before .before .before .before .before .before .loop-test .taken) (c .before .before .before .before .before .before .before .before .before .before .before .before .before .spline-at2 .ensures) (c .before .before .before .before .before .before .before .before .write-spline .ensures)
-    (record { words = c .before .before .before .before .before .before .before .before .write-spline .kept .1 .1 .1 .1 .1 .1 .1 .1 .1 .1 .0; x = c .before .before .before .before .before .before .before .before .write-spline .kept .1 .1 .1 .1 .1 .1 .1 .1 .1 .1 .1 .0; y = c .before .before .before .before .before .before .before .before .write-spline .kept .1 .1 .1 .1 .1 .1 .1 .1 .1 .1 .1 .1 .0; end = c .before .before .before .before .before .before .before .before .write-spline .kept .1 .1 .1 .1 .1 .1 .1 .1 .1 .1 .1 .1 .1 .0 })
+    let w : tie.After-write-spline Inv-loop μ-loop = search in
+    let r : tie.After-spline-at2 Inv-loop μ-loop = search in
+    let t : Turn = search in
+    let kept = w .write-spline .kept .1 .1 in
+    walking-more _ _ _ _ _ _ _ _ _ (t .before .loop .inv) _ _ _ (t .loop-test .taken) (r .spline-at2 .ensures) (w .write-spline .ensures)
+    (record { words = kept .0; x = kept .1 .0; y = kept .1 .1 .0; end = kept .1 .1 .1 .0 })
 
 same-length : tie.Need-same-length Inv-loop μ-loop
 same-length c = c .before .loop .inv .long .words
