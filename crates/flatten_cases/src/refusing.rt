@@ -235,6 +235,11 @@ pub fn each_column(
     tally
 }
 
+// Both tables and the outputs are the same to the last entry that is seen.
+fn same_results(got: &[u32; ALL], whole: &[u32; ALL]) -> bool {
+    replay::same(got, whole, first(QUADS), RESULTS)
+}
+
 // Each column of the tables in turn, just as long as the drawing needs.
 pub fn each_enough(
     x: &[f32; 256],
@@ -254,7 +259,7 @@ pub fn each_enough(
         let e = flattened(x, y, weight, commands, st, setting, short, place, &mut got);
         let answer = e.answer;
         let done = answer::is_done(answer);
-        let same = replay::same(&got, &whole, first(QUADS), RESULTS);
+        let same = same_results(&got, &whole);
         tally = replay::counted(tally, done & same);
         short += 1;
     }
