@@ -111,19 +111,20 @@ finish-cursor rows zero cursor = refl
 finish-cursor rows (suc m) cursor = let e : eqb (suc m) 0 ≡ false = ne-eqb (suc m) 0 (λ z. omega arith) in rw e
 
 module _ (rows : ℕ → QuadRow) (s : SplineTable) (k : ℕ) (from : Place) (o : Output) where
-  afterSteps : Written → Written
+  abbrev afterSteps : Written → Written
   afterSteps b =
       let row = splineAt s k in
-      written (writeEntryOf (b .place .at) (packOf (End k (row .contour))) (finished (row .p2) (row .contour)) (b .output)) (endPlaceOf (row .curvature) (b .place))
+      let o' = writeEntryOf (b .place .at) (packOf (End k (row .contour))) (finished (row .p2) (row .contour)) (b .output) in
+      written o' (endPlaceOf (row .curvature) (b .place))
 
-  afterStart : Written → Written
+  abbrev afterStart : Written → Written
   afterStart a = afterSteps (writeStepsOf rows (stepSizeOf s k) (subdivisionsOf s k - 1) (a .place) (a .output))
 
   -- a whole spline
   pub spline-written : writeSplineOf rows k (splineAt s (k - 1)) (splineAt s k) from o
       ≡ written (writeItems rows s (from .at) (splineItemsOf rows s k (from .cursor)) o)
       (placeAt (from .at + length (splineItemsOf rows s k (from .cursor))) (cursorAfter rows s k (from .cursor)))
-  unfolding afterSteps afterStart startItems writeSplineOf writeStepsOf endPlaceOf splineItemsOf cursorAfter subdivisionsOf stepSizeOf wordOf itemPointOf commandPointOf
+  unfolding startItems writeSplineOf writeStepsOf endPlaceOf splineItemsOf cursorAfter subdivisionsOf stepSizeOf wordOf itemPointOf commandPointOf
   spline-written =
       let n = subdivisionsOf s k - 1 in
       let start = startItems rows s k from o in

@@ -19,7 +19,7 @@ pack-requires : tie.Need-pack-requires Inv-loop μ-loop
 pack-requires c κs = search needs
 
 loop-holds : tie.Need-loop-holds Inv-loop μ-loop
-loop-holds c = stepping-start _ _ _ _ _ _
+loop-holds c = stepping-start
 
 -- ---- where a turn begins, and where the function does
 abbrev Turn : Type 0
@@ -66,7 +66,7 @@ loop-again c =
     let t : Turn = search in
     let w : tie.After-pack Inv-loop μ-loop = search in
     let kept = e .write-entry .kept in
-    stepping-more _ _ _ _ _ _ _ _ _ _ _ (t .before .loop .inv) _ _ _ _ _ (t .loop-test .taken)
+    stepping-more (t .before .loop .inv) (t .loop-test .taken)
     (p .before .before .step-cursor .ensures) (p .before .step-quad .ensures) (p .step-point .ensures) (w .pack .ensures) (e .write-entry .ensures)
     (record { words = kept .0; x = kept .1 .0; y = kept .1 .1 .0; end = kept .1 .1 .1 .0 })
 
@@ -83,7 +83,7 @@ same-length-4 : tie.Need-same-length-4 Inv-loop μ-loop
 same-length-4 c = c .before .loop .inv .long .end
 
 returns : tie.Need-returns Inv-loop μ-loop
-returns c = stepping-end _ _ _ _ _ _ _ _ _ _ _ (c .before .loop .inv) (c .loop-test .left)
+returns c = stepping-end (c .before .loop .inv) (c .loop-test .left)
 
 pub write-steps-spec : {M : Type 1} → statement M
 write-steps-spec =

@@ -19,7 +19,7 @@ spline-at-requires : tie.Need-spline-at-requires Inv-loop μ-loop
 spline-at-requires c κs = search needs
 
 loop-holds : tie.Need-loop-holds Inv-loop μ-loop
-loop-holds c = walking-start _ _ _ _ _ (c .spline-at .ensures)
+loop-holds c = walking-start (c .spline-at .ensures)
 
 -- ---- where a turn begins, and where the function does
 abbrev Turn : Type 0
@@ -57,7 +57,7 @@ loop-again c =
     let r : tie.After-spline-at2 Inv-loop μ-loop = search in
     let t : Turn = search in
     let kept = w .write-spline .kept .1 .1 in
-    walking-more _ _ _ _ _ _ _ _ _ (t .before .loop .inv) _ _ _ (t .loop-test .taken) (r .spline-at2 .ensures) (w .write-spline .ensures)
+    walking-more (t .before .loop .inv) (t .loop-test .taken) (r .spline-at2 .ensures) (w .write-spline .ensures)
     (record { words = kept .0; x = kept .1 .0; y = kept .1 .1 .0; end = kept .1 .1 .1 .0 })
 
 same-length : tie.Need-same-length Inv-loop μ-loop
@@ -73,7 +73,7 @@ same-length-4 : tie.Need-same-length-4 Inv-loop μ-loop
 same-length-4 c = c .before .loop .inv .long .end
 
 returns : tie.Need-returns Inv-loop μ-loop
-returns c = walking-end _ _ _ _ _ _ _ _ _ (c .before .loop .inv) (c .loop-test .left)
+returns c = walking-end (c .before .loop .inv) (c .loop-test .left)
 
 pub write-walk-spec : {M : Type 1} → statement M
 write-walk-spec =
