@@ -48,7 +48,8 @@ still sums flags = let none = replicate 4 zero32 in splineTable sums none none n
 
 -- at a distance of exactly 0.0625 no Start is written, at the next f32 up one is
 pub no-start-at-the-limit : wordsOf (walkOf Screen (summed []) (apart (f32 0x3d80_0000)) 2) ≡ 0x7f80_0000 ∷ 0xff80_0000 ∷ 0xffc0_0001 ∷ []
-unfolding summed apart rootIn root rooted bitsOf sqrtOf wholeUpOf minusOf lenOf packOf isFlagOf splineAt subdivisionsOf stepSizeOf startsOf cursorAt stepsFrom cursorFrom cursorAfter splineItemsOf walkFrom walkOf wordOf wordsOf trailingZeros size span climb odd units round neg sum add sub mul div lt eq le ofInt isNan ofFields ofBits toBits
+unfolding summed apart rootIn root rooted bitsOf sqrtOf wholeUpOf minusOf lenOf packOf isFlagOf splineAt
+    subdivisionsOf stepSizeOf startsOf cursorAt stepsFrom cursorFrom cursorAfter splineItemsOf walkFrom walkOf wordOf wordsOf trailingZeros size span climb odd units round neg sum add sub mul div lt eq le ofInt isNan ofFields ofBits toBits
 no-start-at-the-limit = refl
 
 pub a-start-past-the-limit : wordsOf (walkOf Screen (summed []) (apart (f32 0x3d80_0001)) 2) ≡ 0x7f80_0000 ∷ 0xff80_0000 ∷ 0x7f80_0001 ∷ 0xffc0_0001 ∷ []

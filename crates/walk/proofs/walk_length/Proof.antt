@@ -21,7 +21,7 @@ abbrev μ-loop : tie.MeasureT-loop
 μ-loop curvature p0x p0y p2x p2y contour n total₀ last₀ k₀ left₀ total last k left = left
 
 abbrev start : tie.At-loop Inv-loop μ-loop → tie.Start Inv-loop μ-loop
-start c = c .before .before .before .before .before .before .before .before
+start c = search
 
 spline-at-requires : tie.Need-spline-at-requires Inv-loop μ-loop
 spline-at-requires c κs = search needs
