@@ -1,12 +1,12 @@
 -- The two loops that write. Their invariant: writing what is left, from here, leaves the same as writing the whole; and the place stays small. Assumes nothing.
 use Prim.Native.Nat.{ℕ, zero, suc, _+_, _-_, _*_, _≤_, _<_}
 use native.Mathlib.Omega.{arith}
-use mathlib.Core.Path.{_≡_, refl, sym, _∙_, ap, subst}
+use mathlib.Core.Path.{_≡_, refl, sym, _∙_, ap}
 use mathlib.Core.Bool.{Bool, true, false, cond}
 use lib.Dec.{eqb}
 use lib.ListN.{length}
 use lib.Ieee.{Float}
-use Rattle.command.specs.declared.PointCommand.the-variants.{Start, Incr, End}
+use Rattle.command.specs.declared.PointCommand.the-variants.{Incr, End}
 use Rattle.command.specs.Packing.{packOf}
 use Rattle.point.specs.declared.Point.{Point}
 use Rattle.point.specs.declared.Setting.{Setting}
@@ -14,8 +14,8 @@ use Rattle.primitives.specs.declared.SplineRow.{SplineRow}
 use Rattle.primitives.specs.declared.QuadRow.{QuadRow}
 use Rattle.tables.specs.Tables.{SplineTable, splineAt}
 use Rattle.leaves.specs.Single.{whole32}
-use Rattle.walk.specs.Walk.{cursorAtOf, cursorAt, cursorFrom, cursorAfter, startsAfterOf, subdivisionsOf, splineItemsOf, walkOf}
-use Rattle.walk.specs.Length.{stepsOf, sizeOf, splineLengthOf, walkLengthOf}
+use Rattle.walk.specs.Walk.{cursorAtOf, cursorAt, cursorFrom, cursorAfter, startsAfterOf, subdivisionsOf, walkOf}
+use Rattle.walk.specs.Length.{stepsOf, sizeOf, walkLengthOf}
 use Rattle.walk.proofs.Lengths.{whole-up-bound, steps-bound, spline-length, spline-length-bound, walk-length}
 use Rattle.evaluate.specs.declared.Place.{Place}
 use Rattle.evaluate.specs.declared.StepQuad.{StepQuad}
@@ -23,7 +23,7 @@ use Rattle.evaluate.specs.Evaluate.{finished, stepQuadOf, stepPointOf}
 use Rattle.evaluate.specs.Output.{Output, fitsOutput, writeOutput}
 use Rattle.evaluate.specs.Writing.{Written, written, placeAt, writeEntryOf, writeStartOf, writeStepsFrom, writeStepsOf, endPlaceOf}
 use Rattle.evaluate.specs.Writing.{writeSplineOf, writeWalkFrom, writeWalkOf}
-use Rattle.evaluate.specs.Delivery.{Delivery, delivery, deliverOf}
+use Rattle.evaluate.specs.Delivery.{delivery, deliverOf}
 use Rattle.evaluate.proofs.Entries.{cursor-from-bound, steps-place, spline-written, walk-written}
 
 -- outputs as long as others

@@ -1,7 +1,6 @@
 -- The walk over tables written out, by computation: where no Start is written, where the cursor goes, and that every contour has its steps. Assumes nothing.
 use Prim.Native.Nat.{ℕ}
 use mathlib.Core.Path.{_≡_, refl}
-use mathlib.Core.Bool.{true, false}
 use mathlib.Core.List.{List, [], _∷_, map}
 use lib.Count.{trailingZeros}
 use lib.Ieee.{Float, nan, size, span, climb, odd, units, round, neg, sum, add, sub, mul, div, lt, eq, le, ofInt, isNan, ofFields, ofBits, toBits}

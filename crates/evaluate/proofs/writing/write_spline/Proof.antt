@@ -1,5 +1,5 @@
 -- `evaluate::writing::write_spline` meets its contract: the Start, the steps and the End, one after the other. Assumes nothing.
-use Prim.Native.Nat.{ℕ, _+_, _≤_}
+use Prim.Native.Nat.{_+_, _≤_}
 use native.Mathlib.Omega.{arith}
 use mathlib.Core.Path.{_≡_, _∙_}
 use Rattle.evaluate.proofs.Passes.{few, start-place, end-place, spline-passes}
