@@ -1,30 +1,29 @@
 -- Writing a walk entry by entry leaves what `writeOutput` says, and where each part of it ends. Assumes nothing.
-use Prim.Native.Nat.{ℕ, zero, suc, _+_, _-_, _≤_, _<_}
-use native.Mathlib.Nat.{add-zero, le-trans, le-refl}
+use Prim.Native.Nat.{ℕ, zero, suc, _+_, _-_, _≤_}
+use native.Mathlib.Nat.{add-zero}
 use native.Mathlib.Numerals.{add-one}
 use native.Mathlib.Omega.{arith}
 use mathlib.Core.Path.{_≡_, refl, sym, _∙_, ap, ap₂, subst}
 use mathlib.Core.Bool.{Bool, true, false, _&&_, cond, and-eq-true-iff}
 use mathlib.Core.List.{List, [], _∷_, _++_, map}
 use lib.Dec.{leb, eqb}
-use lib.ListN.{length, drop, set, length-append, length-map}
+use lib.ListN.{length, drop, length-append, length-map}
 use lib.Seq.{sets, sets-eq}
-use lib.Ieee.{Float}
+use lib.Ieee.{Float, lt}
 use borrow.Author.Tests.{leb-true, ne-eqb}
 use Rattle.facts.proofs.Numbers.{shift-one}
-use Rattle.leaves.specs.Whole.{wholeUpOf}
+use Rattle.leaves.specs.Single.{whole32}
 use Rattle.columns.specs.Flags.{flagByteOf}
-use Rattle.command.specs.declared.PointCommand.the-variants.{Start, Incr, End}
+use Rattle.command.specs.declared.PointCommand.the-variants.{Start, End}
 use Rattle.command.specs.Packing.{packOf}
 use Rattle.point.specs.declared.Setting.{Setting}
 use Rattle.primitives.specs.declared.QuadRow.{QuadRow}
 use Rattle.tables.specs.Tables.{SplineTable, splineAt}
-use Rattle.walk.specs.Walk.{Item, item, subdivisionsOf, stepSizeOf, startsAfterOf, startsOf, cursorAtOf, cursorAt, stepsFrom, cursorFrom, cursorAfter}
+use Rattle.walk.specs.Walk.{Item, item, subdivisionsOf, stepSizeOf, startsAfterOf, startsOf, cursorAt, stepsFrom, cursorFrom, cursorAfter}
 use Rattle.walk.specs.Walk.{splineItemsOf, walkFrom, walkOf, wordOf, wordsOf}
-use Rattle.walk.specs.Length.{stepsOf, sizeOf}
 use Rattle.walk.proofs.Lengths.{steps-length}
 use Rattle.evaluate.specs.declared.Place.{Place}
-use Rattle.evaluate.specs.Evaluate.{Finished, finished, stepQuadOf, stepPointOf, commandPointOf, itemPointOf, pointsOf}
+use Rattle.evaluate.specs.Evaluate.{Finished, finished, commandPointOf, itemPointOf, pointsOf}
 use Rattle.evaluate.specs.Output.{Output, output, over, fitsOutput, writeOutput}
 use Rattle.evaluate.specs.Writing.{Written, written, placeAt, writeEntryOf, writeStartOf, writeStepsFrom, writeStepsOf, endPlaceOf, writeSplineOf}
 use Rattle.evaluate.specs.Writing.{writeWalkFrom, writeWalkOf}
@@ -48,7 +47,7 @@ unfolding cursorFrom cursorAt
 cursor-from-bound rows zero p cursor = omega arith
 cursor-from-bound rows (suc n) p cursor =
     let a = cursor-from-bound rows n (p + 1) (cursorAt rows p cursor) in
-    let b = step (lib.Ieee.lt (rows cursor .«partial_curvature») (Rattle.leaves.specs.Single.whole32 p)) in
+    let b = step (lt (rows cursor .«partial_curvature») (whole32 p)) in
     omega arith
   where
     step : (t : Bool) → cond t (cursor + 1) cursor ≤ cursor + 1
@@ -111,19 +110,20 @@ finish-cursor rows zero cursor = refl
 finish-cursor rows (suc m) cursor = let e : eqb (suc m) 0 ≡ false = ne-eqb (suc m) 0 (λ z. omega arith) in rw e
 
 module _ (rows : ℕ → QuadRow) (s : SplineTable) (k : ℕ) (from : Place) (o : Output) where
-  afterSteps : Written → Written
+  abbrev afterSteps : Written → Written
   afterSteps b =
       let row = splineAt s k in
-      written (writeEntryOf (b .place .at) (packOf (End k (row .contour))) (finished (row .p2) (row .contour)) (b .output)) (endPlaceOf (row .curvature) (b .place))
+      let o' = writeEntryOf (b .place .at) (packOf (End k (row .contour))) (finished (row .p2) (row .contour)) (b .output) in
+      written o' (endPlaceOf (row .curvature) (b .place))
 
-  afterStart : Written → Written
+  abbrev afterStart : Written → Written
   afterStart a = afterSteps (writeStepsOf rows (stepSizeOf s k) (subdivisionsOf s k - 1) (a .place) (a .output))
 
   -- a whole spline
   pub spline-written : writeSplineOf rows k (splineAt s (k - 1)) (splineAt s k) from o
       ≡ written (writeItems rows s (from .at) (splineItemsOf rows s k (from .cursor)) o)
       (placeAt (from .at + length (splineItemsOf rows s k (from .cursor))) (cursorAfter rows s k (from .cursor)))
-  unfolding afterSteps afterStart startItems writeSplineOf writeStepsOf endPlaceOf splineItemsOf cursorAfter subdivisionsOf stepSizeOf wordOf itemPointOf commandPointOf
+  unfolding startItems writeSplineOf writeStepsOf endPlaceOf splineItemsOf cursorAfter subdivisionsOf stepSizeOf wordOf itemPointOf commandPointOf
   spline-written =
       let n = subdivisionsOf s k - 1 in
       let start = startItems rows s k from o in

@@ -1,12 +1,12 @@
 -- The two loops that write. Their invariant: writing what is left, from here, leaves the same as writing the whole; and the place stays small. Assumes nothing.
 use Prim.Native.Nat.{ℕ, zero, suc, _+_, _-_, _*_, _≤_, _<_}
 use native.Mathlib.Omega.{arith}
-use mathlib.Core.Path.{_≡_, refl, sym, _∙_, ap, subst}
+use mathlib.Core.Path.{_≡_, refl, sym, _∙_, ap}
 use mathlib.Core.Bool.{Bool, true, false, cond}
 use lib.Dec.{eqb}
 use lib.ListN.{length}
 use lib.Ieee.{Float}
-use Rattle.command.specs.declared.PointCommand.the-variants.{Start, Incr, End}
+use Rattle.command.specs.declared.PointCommand.the-variants.{Incr, End}
 use Rattle.command.specs.Packing.{packOf}
 use Rattle.point.specs.declared.Point.{Point}
 use Rattle.point.specs.declared.Setting.{Setting}
@@ -14,15 +14,16 @@ use Rattle.primitives.specs.declared.SplineRow.{SplineRow}
 use Rattle.primitives.specs.declared.QuadRow.{QuadRow}
 use Rattle.tables.specs.Tables.{SplineTable, splineAt}
 use Rattle.leaves.specs.Single.{whole32}
-use Rattle.walk.specs.Walk.{cursorAtOf, cursorAt, cursorFrom, cursorAfter, startsAfterOf, subdivisionsOf, splineItemsOf, walkOf}
-use Rattle.walk.specs.Length.{stepsOf, sizeOf, splineLengthOf, walkLengthOf}
+use Rattle.walk.specs.Walk.{cursorAtOf, cursorAt, cursorFrom, cursorAfter, startsAfterOf, subdivisionsOf, walkOf}
+use Rattle.walk.specs.Length.{stepsOf, sizeOf, walkLengthOf}
 use Rattle.walk.proofs.Lengths.{whole-up-bound, steps-bound, spline-length, spline-length-bound, walk-length}
 use Rattle.evaluate.specs.declared.Place.{Place}
 use Rattle.evaluate.specs.declared.StepQuad.{StepQuad}
 use Rattle.evaluate.specs.Evaluate.{finished, stepQuadOf, stepPointOf}
 use Rattle.evaluate.specs.Output.{Output, fitsOutput, writeOutput}
-use Rattle.evaluate.specs.Writing.{Written, written, placeAt, writeEntryOf, writeStartOf, writeStepsFrom, writeStepsOf, endPlaceOf, writeSplineOf, writeWalkFrom, writeWalkOf}
-use Rattle.evaluate.specs.Delivery.{Delivery, delivery, deliverOf}
+use Rattle.evaluate.specs.Writing.{Written, written, placeAt, writeEntryOf, writeStartOf, writeStepsFrom, writeStepsOf, endPlaceOf}
+use Rattle.evaluate.specs.Writing.{writeSplineOf, writeWalkFrom, writeWalkOf}
+use Rattle.evaluate.specs.Delivery.{delivery, deliverOf}
 use Rattle.evaluate.proofs.Entries.{cursor-from-bound, steps-place, spline-written, walk-written}
 
 -- outputs as long as others
@@ -38,6 +39,13 @@ same-refl = record { words = refl; x = refl; y = refl; end = refl }
 pub same-trans : {a b c : Output} → Same a b → Same b c → Same a c
 same-trans r s = record { words = r .words ∙ s .words; x = r .x ∙ s .x; y = r .y ∙ s .y; end = r .end ∙ s .end }
 
+-- what a call that writes the outputs keeps, one after the other
+pub same-kept : {A : Type 0} (o o₀ : Output)
+    → (length (o .words) ≡ length (o₀ .words))
+    × ((length (o .x) ≡ length (o₀ .x)) × ((length (o .y) ≡ length (o₀ .y)) × ((length (o .end) ≡ length (o₀ .end)) × A)))
+    → Same o o₀
+same-kept o o₀ h = record { words = h .0; x = h .1 .0; y = h .1 .1 .0; end = h .1 .1 .1 .0 }
+
 -- ---- the steps of a spline
 pub record Stepping (rows : ℕ → QuadRow) (size : Float) (n at₀ cursor₀ : ℕ) (o₀ o : Output) (at cursor p left : ℕ) : Type 0 where
   pub count : p + left ≡ n + 1
@@ -45,9 +53,9 @@ pub record Stepping (rows : ℕ → QuadRow) (size : Float) (n at₀ cursor₀ :
   pub long : Same o o₀
   pub same : writeStepsOf rows size n (placeAt at₀ cursor₀) o₀ ≡ writeStepsFrom rows size left p (placeAt at cursor) o
 
-pub stepping-start : (rows : ℕ → QuadRow) (size : Float) (n at cursor : ℕ) (o : Output) → Stepping rows size n at cursor o o at cursor 1 n
+pub stepping-start : {rows : ℕ → QuadRow} {size : Float} {n at cursor : ℕ} {o : Output} → Stepping rows size n at cursor o o at cursor 1 n
 unfolding writeStepsOf
-stepping-start rows size n at cursor o = record { count = omega arith; room = refl; long = same-refl; same = refl }
+stepping-start = record { count = omega arith; room = refl; long = same-refl; same = refl }
 
 steps-more : (rows : ℕ → QuadRow) (size : Float) (left p at cursor : ℕ) (o : Output) → 0 < left
     → writeStepsFrom rows size left p (placeAt at cursor) o
@@ -57,13 +65,16 @@ unfolding writeStepsFrom
 steps-more rows size zero p at cursor o h = absurd (let z : _≡_ {A = ℕ} 0 1 = omega arith in omega arith)
 steps-more rows size (suc n) p at cursor o h = let e : suc n - 1 ≡ n = omega arith in rw e
 
-module _ (rows : ℕ → QuadRow) (size : Float) (n at₀ cursor₀ : ℕ) (o₀ o : Output) (at cursor p left : ℕ) (g : Stepping rows size n at₀ cursor₀ o₀ o at cursor p left) where
-  pub stepping-more : (cursor' : ℕ) (quad : StepQuad) (point : Point) (word : ℕ) (o' : Output) → 0 < left
-      → cursor' ≡ cursorAtOf (rows cursor .«partial_curvature») (whole32 p) cursor → quad ≡ stepQuadOf rows cursor' → point ≡ stepPointOf quad size p → word ≡ packOf (Incr size)
+module _
+    {rows : ℕ → QuadRow} {size : Float} {n at₀ cursor₀ : ℕ} {o₀ o : Output} {at cursor p left : ℕ}
+    (g : Stepping rows size n at₀ cursor₀ o₀ o at cursor p left) where
+  pub stepping-more : {cursor' : ℕ} {quad : StepQuad} {point : Point} {word : ℕ} {o' : Output} → 0 < left
+      → cursor' ≡ cursorAtOf (rows cursor .«partial_curvature») (whole32 p) cursor → quad ≡ stepQuadOf rows cursor'
+      → point ≡ stepPointOf quad size p → word ≡ packOf (Incr size)
       → o' ≡ writeEntryOf at word (finished point false) o → Same o' o
       → Stepping rows size n at₀ cursor₀ o₀ o' (at + 1) cursor' (p + 1) (left - 1)
   unfolding cursorAt
-  stepping-more cursor' quad point word o' h ec eq ep ew eo l =
+  stepping-more h ec eq ep ew eo l =
       record {
         count = let w = g .count in omega arith;
         room = let w = g .room in omega arith;
@@ -123,9 +134,10 @@ pub record Walking (rows : ℕ → QuadRow) (s : SplineTable) (n : ℕ) (o₀ o 
   pub long : Same o o₀
   pub same : writeWalkOf rows s n o₀ ≡ writeWalkFrom rows s left k place o
 
-pub walking-start : (rows : ℕ → QuadRow) (s : SplineTable) (n : ℕ) (o : Output) (last : SplineRow) → last ≡ splineAt s 0 → Walking rows s n o o last (placeAt 0 0) 0 n
+pub walking-start : {rows : ℕ → QuadRow} {s : SplineTable} {n : ℕ} {o : Output} {last : SplineRow}
+    → last ≡ splineAt s 0 → Walking rows s n o o last (placeAt 0 0) 0 n
 unfolding writeWalkOf
-walking-start rows s n o last e = record { within = omega arith; entry = omega arith; cursor = omega arith; before = e; long = same-refl; same = refl }
+walking-start e = record { within = omega arith; entry = omega arith; cursor = omega arith; before = e; long = same-refl; same = refl }
 
 after-bound : (rows : ℕ → QuadRow) (s : SplineTable) (k cursor : ℕ) → cursorAfter rows s k cursor ≤ cursor + 65537
 unfolding cursorAfter subdivisionsOf
@@ -146,11 +158,13 @@ unfolding writeWalkFrom
 walk-more rows s zero k from o h = absurd (let z : _≡_ {A = ℕ} 0 1 = omega arith in omega arith)
 walk-more rows s (suc n) k from o h = let e : suc n - 1 ≡ n = omega arith in rw e
 
-module _ (rows : ℕ → QuadRow) (s : SplineTable) (n : ℕ) (o₀ o : Output) (last : SplineRow) (place : Place) (k left : ℕ) (g : Walking rows s n o₀ o last place k left) where
-  pub walking-more : (row : SplineRow) (place' : Place) (o' : Output) → 0 < left
+module _
+    {rows : ℕ → QuadRow} {s : SplineTable} {n : ℕ} {o₀ o : Output} {last : SplineRow} {place : Place} {k left : ℕ}
+    (g : Walking rows s n o₀ o last place k left) where
+  pub walking-more : {row : SplineRow} {place' : Place} {o' : Output} → 0 < left
       → row ≡ splineAt s k → written o' place' ≡ writeSplineOf rows k last row place o → Same o' o
       → Walking rows s n o₀ o' row place' (k + 1) (left - 1)
-  walking-more row place' o' h hr hw l =
+  walking-more {row} {place'} {o'} h hr hw l =
       let e : k + 1 - 1 ≡ k = omega arith in
       let w : written o' place' ≡ writeSplineOf rows k (splineAt s (k - 1)) (splineAt s k) place o = rw (← g .before, ← hr) hw in
       let p = ap (λ (x : Written). x .place) (w ∙ spline-written rows s k place o) in
@@ -185,4 +199,5 @@ module _ (setting : Setting) (rows : ℕ → QuadRow) (s : SplineTable) (n len :
   unfolding deliverOf
   delivered o' h e =
       let f : fitsOutput (length (walkOf setting rows s n)) o ≡ true = ap (λ (m : ℕ). fitsOutput m o) counted ∙ h in
-      rw f (ap (λ (x : Output). delivery true len x) (e ∙ walk-written setting rows s n o f) ∙ ap (λ (m : ℕ). delivery true m (writeOutput rows s (walkOf setting rows s n) o)) (sym counted))
+      let o'' = writeOutput rows s (walkOf setting rows s n) o in
+      rw f (ap (λ (x : Output). delivery true len x) (e ∙ walk-written setting rows s n o f) ∙ ap (λ (m : ℕ). delivery true m o'') (sym counted))

@@ -8,7 +8,6 @@ use Rattle.leaves.specs.Single.{_⊖_, _⊗_, zero32, one32, whole32}
 use Rattle.leaves.specs.Fma.{fma32}
 use Rattle.leaves.specs.Small.{clampOf}
 use Rattle.point.specs.declared.Point.{Point}
-use Rattle.point.specs.declared.WeightedPoint.{WeightedPoint}
 use Rattle.point.specs.Point.{pointAt, weighted}
 use Rattle.point.specs.Curve.{invCurvatureOf, evalQuadOf}
 use Rattle.command.specs.declared.PointCommand.{PointCommand}

@@ -58,7 +58,8 @@ unfoldable pub writeSplineOf : (ℕ → QuadRow) → ℕ → SplineRow → Splin
 writeSplineOf rows k last row from o =
     let a = writeStartOf k last row from o in
     let b = writeStepsOf rows (sizeOf (row .curvature)) (stepsOf (row .curvature)) (a .place) (a .output) in
-    written (writeEntryOf (b .place .at) (packOf (End k (row .contour))) (finished (row .p2) (row .contour)) (b .output)) (endPlaceOf (row .curvature) (b .place))
+    let o' = writeEntryOf (b .place .at) (packOf (End k (row .contour))) (finished (row .p2) (row .contour)) (b .output) in
+    written o' (endPlaceOf (row .curvature) (b .place))
 
 -- n splines from spline k on
 unfoldable pub writeWalkFrom : (ℕ → QuadRow) → SplineTable → ℕ → ℕ → Place → Output → Output

@@ -179,7 +179,8 @@ returns-4 c =
     let d = at-drawable f in
     done _ _ _ _ _ _ (f .fill .result) _ _ (sym (d .before .drawable .ensures) ∙ not-false (d .before .drawable .result) (d .if1 .left))
     (f .fill .ensures) (v .deliver .result .fits) (v .deliver .result .points) _
-    (sym (i .is-done .ensures) ∙ not-false (i .is-done .result) (g .if2 .left)) (v .deliver .ensures) (not-false (v .deliver .result .fits) (c .before .if3 .left))
+    (sym (i .is-done .ensures) ∙ not-false (i .is-done .result) (g .if2 .left)) (v .deliver .ensures)
+    (not-false (v .deliver .result .fits) (c .before .if3 .left))
 
 pub flatten-spec : {M : Type 1} → statement M
 flatten-spec =

@@ -44,7 +44,8 @@ returns-2 : tie.Need-returns-2
 returns-2 c =
     let s : tie.Start = search in
     let r : tie.After-read-u322 = search in
-    same (table s) (s .args .i) _ _ (r .before .before .if1 .left) (r .before .read-u32 .ensures) (r .read-u322 .ensures) _ (c .before .if2 .taken) (c .sum-at .ensures)
+    same (table s) (s .args .i) _ _ (r .before .before .if1 .left) (r .before .read-u32 .ensures) (r .read-u322 .ensures)
+    _ (c .before .if2 .taken) (c .sum-at .ensures)
 
 returns-3 : tie.Need-returns-3
 returns-3 c =
