@@ -2,3 +2,4 @@ pub mod Quads
 pub mod Cubics
 pub mod Splines
 pub mod Plan
+pub mod Shapes

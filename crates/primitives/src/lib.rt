@@ -59,6 +59,16 @@ pub struct Curve {
     pub curvature: f32,
 }
 
+// What a primitive comes to, once the angles of a quad's legs are known.
+pub enum Shape {
+    // A quad that is dropped.
+    Nothing,
+    Mark,
+    Excess,
+    Straight(Point, Point),
+    Curved(WeightedPoint, WeightedPoint, WeightedPoint, Angle, Angle),
+}
+
 // One row of the quad table: partial_curvature is the running sum of its spline.
 pub struct QuadRow {
     pub x: Three,

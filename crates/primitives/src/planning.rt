@@ -3,6 +3,7 @@ use crate::Capacities;
 use crate::Edit;
 use crate::Primitive;
 use crate::QuadRow;
+use crate::Shape;
 use crate::SplineEdit;
 use crate::SplineRow;
 use crate::State;
@@ -18,7 +19,8 @@ use point::Point;
 use point::Setting;
 use point::WeightedPoint;
 ghost use mathlib.Core.Path.{_≡_};
-ghost use Rattle.primitives.specs.Plan.{refusedOf, markedOf, planLineOf, quadRowOf, planCurveOf, planLegsOf, planQuadOf, planOf};
+ghost use Rattle.primitives.specs.Plan.{refusedOf, markedOf, planLineOf, quadRowOf, planCurveOf, planOf};
+ghost use Rattle.primitives.specs.Shapes.{legsOf, quadShapeOf, shapeOf};
 
 const SUM_LIMIT: f32 = 65536.0;
 
@@ -142,56 +144,60 @@ fn plan_curve(
 }
 
 // With both legs' angles missing the quad is dropped; with one missing it is a line.
-fn plan_legs(
-    setting: Setting,
-    caps: Capacities,
-    st: State,
-    last: SplineRow,
+fn legs(
     p0: WeightedPoint,
     p1: WeightedPoint,
     p2: WeightedPoint,
     in_angle: Angle,
     out_angle: Angle,
-) -> Edit
-    ensures { λ r. ⌜ r ≡ planLegsOf setting caps st last p0 p1 p2 «in_angle» «out_angle» ⌝ }
+) -> Shape
+    ensures { λ r. ⌜ r ≡ legsOf p0 p1 p2 «in_angle» «out_angle» ⌝ }
 {
     match in_angle {
         Angle::Missing => match out_angle {
-            Angle::Missing => Edit::Keep(st),
-            Angle::Known(_) => plan_line(setting, caps, st, last, p0.applied(), p2.applied()),
+            Angle::Missing => Shape::Nothing,
+            Angle::Known(_) => Shape::Straight(p0.applied(), p2.applied()),
         },
         Angle::Known(_) => match out_angle {
-            Angle::Missing => plan_line(setting, caps, st, last, p0.applied(), p2.applied()),
-            Angle::Known(_) => plan_curve(setting, caps, st, last, p0, p1, p2, in_angle, out_angle),
+            Angle::Missing => Shape::Straight(p0.applied(), p2.applied()),
+            Angle::Known(_) => Shape::Curved(p0, p1, p2, in_angle, out_angle),
         },
     }
 }
 
 // push_quad
-fn plan_quad(
-    setting: Setting,
-    caps: Capacities,
-    st: State,
-    last: SplineRow,
-    p0: WeightedPoint,
-    p1: WeightedPoint,
-    p2: WeightedPoint,
-) -> Edit
-    ensures { λ r. ⌜ r ≡ planQuadOf setting caps st last p0 p1 p2 ⌝ }
+fn quad_shape(p0: WeightedPoint, p1: WeightedPoint, p2: WeightedPoint) -> Shape
+    ensures { λ r. ⌜ r ≡ quadShapeOf p0 p1 p2 ⌝ }
 {
     let mid = p1.applied();
     let in_angle = mid.minus(p0.applied()).angle();
     let out_angle = p2.applied().minus(mid).angle();
-    plan_legs(setting, caps, st, last, p0, p1, p2, in_angle, out_angle)
+    legs(p0, p1, p2, in_angle, out_angle)
 }
 
+fn shape(p: Primitive) -> Shape
+    ensures { λ r. ⌜ r ≡ shapeOf p ⌝ }
+{
+    match p {
+        Primitive::Contour => Shape::Mark,
+        Primitive::Line(p0, p1) => Shape::Straight(p0.applied(), p1.applied()),
+        Primitive::Quad(p0, p1, p2) => quad_shape(p0, p1, p2),
+        Primitive::Excess => Shape::Excess,
+    }
+}
+
+// A line is planned in one place. With a second one the compiler builds each edit in memory, and the copy of it calls memcpy.
 pub fn plan(setting: Setting, caps: Capacities, st: State, last: SplineRow, p: Primitive) -> Edit
     ensures { λ r. ⌜ r ≡ planOf setting caps st last p ⌝ }
 {
-    match p {
-        Primitive::Contour => Edit::Keep(marked(setting, st)),
-        Primitive::Line(p0, p1) => plan_line(setting, caps, st, last, p0.applied(), p1.applied()),
-        Primitive::Quad(p0, p1, p2) => plan_quad(setting, caps, st, last, p0, p1, p2),
-        Primitive::Excess => Edit::Keep(refused(st, Answer::TooManyPieces)),
+    let shape = shape(p);
+    match shape {
+        Shape::Nothing => Edit::Keep(st),
+        Shape::Mark => Edit::Keep(marked(setting, st)),
+        Shape::Excess => Edit::Keep(refused(st, Answer::TooManyPieces)),
+        Shape::Straight(start, end) => plan_line(setting, caps, st, last, start, end),
+        Shape::Curved(p0, p1, p2, in_angle, out_angle) => {
+            plan_curve(setting, caps, st, last, p0, p1, p2, in_angle, out_angle)
+        }
     }
 }
