@@ -4,8 +4,8 @@ use mathlib.Core.Path.{_≡_, refl}
 use mathlib.Core.Bool.{true, false}
 use mathlib.Core.List.{List, [], _∷_, map}
 use lib.Count.{trailingZeros}
-use lib.Ieee.{Float, size, span, climb, odd, units, round, neg, sum, add, sub, mul, div, lt, eq, le, ofInt, isNan, ofFields, ofBits, toBits}
-use lib.ListN.{replicate}
+use lib.Ieee.{Float, nan, size, span, climb, odd, units, round, neg, sum, add, sub, mul, div, lt, eq, le, ofInt, isNan, ofFields, ofBits, toBits}
+use lib.ListN.{getD, replicate}
 use Rattle.rounding.specs.Roots.{rootIn, root, rooted}
 use Rattle.leaves.specs.Single.{f32, zero32, whole32}
 use Rattle.leaves.specs.Bits.{bitsOf}
@@ -15,12 +15,27 @@ use Rattle.point.specs.declared.Setting.the-variants.{Screen}
 use Rattle.point.specs.Point.{minusOf, lenOf}
 use Rattle.command.specs.Packing.{packOf}
 use Rattle.columns.specs.Flags.{isFlagOf}
-use Rattle.tables.specs.Tables.{QuadTable, quadTable, SplineTable, splineTable, splineAt}
+use Rattle.primitives.specs.declared.Three.{Three}
+use Rattle.primitives.specs.declared.QuadRow.{QuadRow}
+use Rattle.tables.specs.Tables.{SplineTable, splineTable, splineAt}
 use Rattle.walk.specs.Walk.{Item, subdivisionsOf, stepSizeOf, startsOf, cursorAt, stepsFrom, cursorFrom, cursorAfter, splineItemsOf, walkFrom, walkOf, wordOf, wordsOf}
 
--- quads of these sums in these splines; the walk reads nothing else of them
-unfoldable pub summed : List Float → List ℕ → QuadTable
-summed sums splines = quadTable [] [] [] [] [] [] [] [] sums splines
+-- quads of these sums; the walk reads nothing else of them
+unfoldable pub summed : List Float → ℕ → QuadRow
+summed sums i =
+    let none : Three = record { a = zero32; b = zero32; c = zero32 } in
+    record {
+      x = none;
+      y = none;
+      weight = none;
+      x0 = zero32;
+      «dx_recip» = zero32;
+      k0 = zero32;
+      dk = zero32;
+      «curvature_recip» = zero32;
+      «partial_curvature» = getD sums i nan;
+      spline = 0;
+    }
 
 -- two splines without length: the first ends at the origin, the second starts at (x, 0) and closes the contour
 unfoldable pub apart : Float → SplineTable
@@ -32,20 +47,20 @@ unfoldable pub still : List Float → List ℕ → SplineTable
 still sums flags = let none = replicate 4 zero32 in splineTable sums none none none none flags
 
 -- at a distance of exactly 0.0625 no Start is written, at the next f32 up one is
-pub no-start-at-the-limit : wordsOf (walkOf Screen (summed [] []) (apart (f32 0x3d80_0000)) 2) ≡ 0x7f80_0000 ∷ 0xff80_0000 ∷ 0xffc0_0001 ∷ []
+pub no-start-at-the-limit : wordsOf (walkOf Screen (summed []) (apart (f32 0x3d80_0000)) 2) ≡ 0x7f80_0000 ∷ 0xff80_0000 ∷ 0xffc0_0001 ∷ []
 unfolding summed apart rootIn root rooted bitsOf sqrtOf wholeUpOf minusOf lenOf packOf isFlagOf splineAt subdivisionsOf stepSizeOf startsOf cursorAt stepsFrom cursorFrom cursorAfter splineItemsOf walkFrom walkOf wordOf wordsOf trailingZeros size span climb odd units round neg sum add sub mul div lt eq le ofInt isNan ofFields ofBits toBits
 no-start-at-the-limit = refl
 
-pub a-start-past-the-limit : wordsOf (walkOf Screen (summed [] []) (apart (f32 0x3d80_0001)) 2) ≡ 0x7f80_0000 ∷ 0xff80_0000 ∷ 0x7f80_0001 ∷ 0xffc0_0001 ∷ []
+pub a-start-past-the-limit : wordsOf (walkOf Screen (summed []) (apart (f32 0x3d80_0001)) 2) ≡ 0x7f80_0000 ∷ 0xff80_0000 ∷ 0x7f80_0001 ∷ 0xffc0_0001 ∷ []
 unfolding summed apart rootIn root rooted bitsOf sqrtOf wholeUpOf minusOf lenOf packOf isFlagOf splineAt subdivisionsOf stepSizeOf startsOf cursorAt stepsFrom cursorFrom cursorAfter splineItemsOf walkFrom walkOf wordOf wordsOf trailingZeros size span climb odd units round neg sum add sub mul div lt eq le ofInt isNan ofFields ofBits toBits
 a-start-past-the-limit = refl
 
 -- the sums 0.25, 0.5 and 3 in one spline: step 1 exceeds the first two and yet uses quad 1, step 2 quad 2
-pub cursor-goes-on-once : map (λ (i : Item). i .quad) (walkOf Screen (summed (f32 0x3e80_0000 ∷ f32 0x3f00_0000 ∷ whole32 3 ∷ []) (0 ∷ 0 ∷ 0 ∷ [])) (still (whole32 3 ∷ []) (1 ∷ [])) 1) ≡ 0 ∷ 1 ∷ 2 ∷ 0 ∷ []
+pub cursor-goes-on-once : map (λ (i : Item). i .quad) (walkOf Screen (summed (f32 0x3e80_0000 ∷ f32 0x3f00_0000 ∷ whole32 3 ∷ [])) (still (whole32 3 ∷ []) (1 ∷ [])) 1) ≡ 0 ∷ 1 ∷ 2 ∷ 0 ∷ []
 unfolding summed still rootIn root rooted bitsOf sqrtOf wholeUpOf minusOf lenOf packOf isFlagOf splineAt subdivisionsOf stepSizeOf startsOf cursorAt stepsFrom cursorFrom cursorAfter splineItemsOf walkFrom walkOf wordOf wordsOf trailingZeros size span climb odd units round neg sum add sub mul div lt eq le ofInt isNan ofFields ofBits toBits
 cursor-goes-on-once = refl
 
 -- two contours of sum 2: each has its Start, its step of size 1 and its flagged End
-pub every-contour-has-steps : wordsOf (walkOf Screen (summed (whole32 2 ∷ whole32 2 ∷ []) (0 ∷ 1 ∷ [])) (still (whole32 2 ∷ whole32 2 ∷ []) (1 ∷ 1 ∷ [])) 2) ≡ 0x7f80_0000 ∷ 0x3f80_0000 ∷ 0xffc0_0000 ∷ 0x7f80_0001 ∷ 0x3f80_0000 ∷ 0xffc0_0001 ∷ []
+pub every-contour-has-steps : wordsOf (walkOf Screen (summed (whole32 2 ∷ whole32 2 ∷ [])) (still (whole32 2 ∷ whole32 2 ∷ []) (1 ∷ 1 ∷ [])) 2) ≡ 0x7f80_0000 ∷ 0x3f80_0000 ∷ 0xffc0_0000 ∷ 0x7f80_0001 ∷ 0x3f80_0000 ∷ 0xffc0_0001 ∷ []
 unfolding summed still rootIn root rooted bitsOf sqrtOf wholeUpOf minusOf lenOf packOf isFlagOf splineAt subdivisionsOf stepSizeOf startsOf cursorAt stepsFrom cursorFrom cursorAfter splineItemsOf walkFrom walkOf wordOf wordsOf trailingZeros size span climb odd units round neg sum add sub mul div lt eq le ofInt isNan ofFields ofBits toBits
 every-contour-has-steps = refl

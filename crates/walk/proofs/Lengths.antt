@@ -15,8 +15,9 @@ use Rattle.leaves.specs.Whole.{limit32, wholeUpOf}
 use Rattle.leaves.proofs.WholeUp.{in-range, whole-up-is}
 use Rattle.command.specs.declared.PointCommand.the-variants.{Start, End}
 use Rattle.point.specs.declared.Setting.{Setting}
+use Rattle.primitives.specs.declared.QuadRow.{QuadRow}
 use Rattle.primitives.specs.declared.SplineRow.{SplineRow}
-use Rattle.tables.specs.Tables.{QuadTable, SplineTable, splineAt}
+use Rattle.tables.specs.Tables.{SplineTable, splineAt}
 use Rattle.walk.specs.Walk.{Item, item, subdivisionsOf, stepSizeOf, startsAfterOf, startsOf, stepsFrom, splineItemsOf, cursorAfter, walkFrom, walkOf}
 use Rattle.walk.specs.Length.{stepsOf, splineLengthOf, lengthFrom, walkLengthOf}
 
@@ -49,35 +50,35 @@ spline-length-bound k last row = go (startsAfterOf k last row) (stepsOf (row .cu
     go true n h = omega arith
     go false n h = omega arith
 
--- ---- the length of the walk, for every quad table
-pub steps-length : (q : QuadTable) (size : Float) (n p cursor : ℕ) → length (stepsFrom q size n p cursor) ≡ n
+-- ---- the length of the walk, for all rows of quads
+pub steps-length : (rows : ℕ → QuadRow) (size : Float) (n p cursor : ℕ) → length (stepsFrom rows size n p cursor) ≡ n
 unfolding stepsFrom
-steps-length q size zero p cursor = refl
-steps-length q size (suc n) p cursor = ap suc (steps-length q size n (p + 1) _)
+steps-length rows size zero p cursor = refl
+steps-length rows size (suc n) p cursor = ap suc (steps-length rows size n (p + 1) _)
 
 around : (start end : Item) (steps : List Item) (n : ℕ) (b : Bool) → length steps ≡ n
     → length (cond b (start ∷ []) [] ++ (steps ++ (end ∷ []))) ≡ cond b (n + 2) (n + 1)
 around start end steps n true h = let e = length-append steps (end ∷ []) in omega arith
 around start end steps n false h = let e = length-append steps (end ∷ []) in omega arith
 
-pub spline-length : (q : QuadTable) (s : SplineTable) (k cursor : ℕ)
-    → length (splineItemsOf q s k cursor) ≡ splineLengthOf k (splineAt s (k - 1)) (splineAt s k)
+pub spline-length : (rows : ℕ → QuadRow) (s : SplineTable) (k cursor : ℕ)
+    → length (splineItemsOf rows s k cursor) ≡ splineLengthOf k (splineAt s (k - 1)) (splineAt s k)
 unfolding splineItemsOf splineLengthOf startsOf subdivisionsOf
-spline-length q s k cursor =
+spline-length rows s k cursor =
     around (item (Start k) 0 0) (item (End k (splineAt s k .contour)) 0 0)
-    (stepsFrom q (stepSizeOf s k) (subdivisionsOf s k - 1) 1 cursor) (subdivisionsOf s k - 1) (startsOf s k)
-    (steps-length q (stepSizeOf s k) (subdivisionsOf s k - 1) 1 cursor)
+    (stepsFrom rows (stepSizeOf s k) (subdivisionsOf s k - 1) 1 cursor) (subdivisionsOf s k - 1) (startsOf s k)
+    (steps-length rows (stepSizeOf s k) (subdivisionsOf s k - 1) 1 cursor)
 
-walk-from-length : (setting : Setting) (q : QuadTable) (s : SplineTable) (n k cursor : ℕ) → length (walkFrom setting q s n k cursor) ≡ lengthFrom s n k
+walk-from-length : (setting : Setting) (rows : ℕ → QuadRow) (s : SplineTable) (n k cursor : ℕ) → length (walkFrom setting rows s n k cursor) ≡ lengthFrom s n k
 unfolding walkFrom lengthFrom
-walk-from-length setting q s zero k cursor = refl
-walk-from-length setting q s (suc n) k cursor =
-    length-append (splineItemsOf q s k cursor) (walkFrom setting q s n (k + 1) (cursorAfter q s k cursor))
-    ∙ ap₂ (λ (a b : ℕ). a + b) (spline-length q s k cursor) (walk-from-length setting q s n (k + 1) (cursorAfter q s k cursor))
+walk-from-length setting rows s zero k cursor = refl
+walk-from-length setting rows s (suc n) k cursor =
+    length-append (splineItemsOf rows s k cursor) (walkFrom setting rows s n (k + 1) (cursorAfter rows s k cursor))
+    ∙ ap₂ (λ (a b : ℕ). a + b) (spline-length rows s k cursor) (walk-from-length setting rows s n (k + 1) (cursorAfter rows s k cursor))
 
-pub walk-length : (setting : Setting) (q : QuadTable) (s : SplineTable) (n : ℕ) → length (walkOf setting q s n) ≡ walkLengthOf s n
+pub walk-length : (setting : Setting) (rows : ℕ → QuadRow) (s : SplineTable) (n : ℕ) → length (walkOf setting rows s n) ≡ walkLengthOf s n
 unfolding walkOf walkLengthOf
-walk-length setting q s n = walk-from-length setting q s n 0 0
+walk-length setting rows s n = walk-from-length setting rows s n 0 0
 
 -- ---- the loop that counts: what is counted and what is left add up to the whole
 pub record Counted (s : SplineTable) (n total : ℕ) (last : SplineRow) (k left : ℕ) : Type 0 where

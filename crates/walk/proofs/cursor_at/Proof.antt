@@ -1,36 +1,40 @@
--- `walk::cursor_at` meets its contract: past the end the sum is a NaN, which no step exceeds. Assumes nothing.
-use Prim.Native.Nat.{ℕ, _≤_}
-use mathlib.Core.Path.{_≡_}
+-- `walk::cursor_at` meets its contract: where no row is whole the sum is a NaN, which no step exceeds. Assumes nothing.
+use Prim.Native.Nat.{ℕ, _+_, _*_, _<_}
+use native.Mathlib.Omega.{arith}
+use mathlib.Core.Path.{_≡_, refl}
+use mathlib.Core.Bool.{Bool, true, false, cond}
 use mathlib.Core.List.{List}
+use lib.Dec.{ltb}
 use lib.Ieee.{Float, nan, lt}
-use lib.ListN.{getD, length}
+use lib.ListN.{getD}
+use borrow.Author.Tests.{ltb-true}
+use Rattle.tables.specs.Tables.{wholeRowsOf, numberAt, sumAtOf}
 use borrow.Author.Needs.{needs}
-use Rattle.columns.proofs.Past.{getD-past}
-use Rattle.walk.specs.Walk.{cursorAtOf}
 use Rattle.walk.proofs.cursor_at.Statement.{statement}
 use Rattle.walk.proofs.cursor_at.Tie as tie
 
-past : (sums : List Float) (p : Float) (cursor : ℕ) → length sums ≤ cursor → cursor ≡ cursorAtOf sums p cursor
-unfolding lt
-past sums p cursor h = rw (getD-past sums cursor nan h)
+-- a sum that a step exceeds is that of a whole row
+whole : (rows : List Float) (p : Float) (cursor : ℕ) → lt (sumAtOf rows cursor) p ≡ true → cursor < wholeRowsOf rows
+unfolding numberAt lt
+whole rows p cursor h = go (ltb cursor (wholeRowsOf rows)) refl h
+  where
+    go : (b : Bool) → ltb cursor (wholeRowsOf rows) ≡ b → lt (cond b (getD rows (15 * cursor + 14) nan) nan) p ≡ true → cursor < wholeRowsOf rows
+    go true e h = ltb-true cursor (wholeRowsOf rows) e
+    go false e h = absurd (let z : _≡_ {A = ℕ} 0 1 = cc in omega arith)
 
-mul-sum : tie.Need-mul-sum
-mul-sum c = search needs
-
-shared-slice-read-sum : tie.Need-shared-slice-read-sum
-shared-slice-read-sum c = search needs
+sum-at-requires : tie.Need-sum-at-requires
+sum-at-requires c κs = search needs
 
 add-result : tie.Need-add-result
-add-result c = search needs
+add-result c =
+    let a = c .before .before .before .args in
+    omega (arith, whole (a .quad-rows .now) (a .p) (a .cursor) (rw (← c .before .sum-at .ensures) (c .if1 .taken)))
 
 returns : tie.Need-returns
-returns c = rw (c .if2 .taken)
+returns c = rw (← c .before .sum-at .ensures, c .if1 .taken)
 
 returns-2 : tie.Need-returns-2
-returns-2 c = rw (c .if2 .left)
-
-returns-3 : tie.Need-returns-3
-returns-3 c = past (c .before .args .partial-curvatures .now) (c .before .args .p) (c .before .args .cursor) (c .if1 .left)
+returns-2 c = rw (← c .before .sum-at .ensures, c .if1 .left)
 
 pub cursor-at-spec : {M : Type 1} → statement M
-cursor-at-spec = tie.close (tie.spec mul-sum shared-slice-read-sum add-result returns returns-2 returns-3)
+cursor-at-spec = tie.close (tie.spec sum-at-requires add-result returns returns-2)

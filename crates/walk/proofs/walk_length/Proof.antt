@@ -20,6 +20,9 @@ Inv-loop curvature p0x p0y p2x p2y contour n total₀ last₀ k₀ left₀ total
 abbrev μ-loop : tie.MeasureT-loop
 μ-loop curvature p0x p0y p2x p2y contour n total₀ last₀ k₀ left₀ total last k left = left
 
+abbrev start : tie.At-loop Inv-loop μ-loop → tie.Start Inv-loop μ-loop
+start c = c .before .before .before .before .before .before .before .before
+
 spline-at-requires : tie.Need-spline-at-requires Inv-loop μ-loop
 spline-at-requires c κs = search needs
 
@@ -27,7 +30,7 @@ loop-holds : tie.Need-loop-holds Inv-loop μ-loop
 loop-holds c = counted-start _ _ _ (c .spline-at .ensures)
 
 cast-spline-at : tie.Need-cast-spline-at Inv-loop μ-loop
-cast-spline-at c = omega (arith, c .before .loop .inv .within, c .before .before .before .before .before .before .before .before .before .fits .n)
+cast-spline-at c = omega arith
 
 spline-at-requires-2 : tie.Need-spline-at-requires-2 Inv-loop μ-loop
 spline-at-requires-2 c κs = search needs
@@ -36,19 +39,21 @@ spline-length-requires : tie.Need-spline-length-requires Inv-loop μ-loop
 spline-length-requires c κs = search needs
 
 add-total : tie.Need-add-total Inv-loop μ-loop
-add-total c = omega (arith, c .before .before .before .loop .inv .within, c .before .before .before .loop .inv .small, c .before .before .before .before .before .before .before .before .before .before .before .fits .n, c .before .before .loop-test .taken, total-fits _ _ _ _ (c .spline-length .ensures))
+add-total c = omega (arith, start (c .before .before .before) .fits .n, total-fits _ _ _ _ (c .spline-length .ensures))
 
 add-k : tie.Need-add-k Inv-loop μ-loop
-add-k c = omega (arith, c .before .before .before .loop .inv .within, c .before .before .before .before .before .before .before .before .before .before .before .fits .n, c .before .before .loop-test .taken)
+add-k c = omega (arith, start (c .before .before .before) .fits .n)
 
 sub-left : tie.Need-sub-left Inv-loop μ-loop
-sub-left c = omega (arith, c .before .before .loop-test .taken)
+sub-left c = omega arith
 
 loop-less : tie.Need-loop-less Inv-loop μ-loop
-loop-less c = omega (arith, c .before .before .loop-test .taken)
+loop-less c = omega arith
 
 loop-again : tie.Need-loop-again Inv-loop μ-loop
-loop-again c = counted-more _ _ _ _ _ _ (c .before .before .before .loop .inv) _ _ (c .before .before .loop-test .taken) (c .before .spline-at2 .ensures) (c .spline-length .ensures)
+loop-again c =
+    let turn : tie.In-loop Inv-loop μ-loop = c .before .before in
+    counted-more _ _ _ _ _ _ (turn .before .loop .inv) _ _ (turn .loop-test .taken) (c .before .spline-at2 .ensures) (c .spline-length .ensures)
 
 returns : tie.Need-returns Inv-loop μ-loop
 returns c = counted-end _ _ _ _ _ _ (c .before .loop .inv) (c .loop-test .left)
