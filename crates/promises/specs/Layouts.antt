@@ -186,4 +186,4 @@ pub record Lawful {Q : Type 0} (L : Layout Q) : Type 0 where
   pub capacity : (q : Q) (i : ℕ) (row : QuadRow) → L .capacity (L .put q i row) ≡ L .capacity q
 
 abbrev pub AnyLayout : Type 1
-AnyLayout = {Q : Type 0} (L : Layout Q) → Lawful L → (job : Job) (q : Q) → L .capacity q ≡ quadCapacityOf (job .quads) → Same inRows L (flatOf (flatteningOf job)) (flatteningIn L q job)
+AnyLayout = (Q : Type 0) (L : Layout Q) → Lawful L → (job : Job) (q : Q) → L .capacity q ≡ quadCapacityOf (job .quads) → Same inRows L (flatOf (flatteningOf job)) (flatteningIn L q job)
