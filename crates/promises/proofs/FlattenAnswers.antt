@@ -25,9 +25,10 @@ use Rattle.primitives.specs.Cubics.{cubicPiecesOf, quadsFrom, cutOf, cubicQuads
 use Rattle.primitives.specs.Plan.{refusedOf}
 use Rattle.store.specs.Columns.{Columns}
 use Rattle.store.specs.Drawable.{drawableOf}
-use Rattle.tables.specs.Tables.{capacitiesOf}
+use Rattle.tables.specs.Tables.{capacitiesOf, quadRowAt}
 use Rattle.tables.specs.Run.{World, world, startState}
 use Rattle.tables.specs.Commands.{cubicFrom, commandPrimitivesOf, primitivesOf, tablesOf}
+use Rattle.tables.proofs.RowLaws.{quads-self}
 use Rattle.tables.proofs.Sound.{sound-start}
 use Rattle.walk.specs.Walk.{wordOf, wordsOf}
 use Rattle.evaluate.specs.Evaluate.{itemPointOf, pointsOf}
@@ -41,7 +42,7 @@ use Rattle.promises.proofs.Telling.{Tells, tells-as, passes, tells-and,
 use Rattle.promises.proofs.DrawingAnswers.{differ}
 use Rattle.promises.proofs.Refusing.{refuses-not-done}
 use Rattle.promises.proofs.Refusals.{refused-answer, refused-world, run-told, tells-drawable}
-use Rattle.promises.proofs.Past.{past-over, TablesPast, run-past, quads-self, splines-self, output-self}
+use Rattle.promises.proofs.Past.{past-over, TablesPast, run-past, splines-self, output-self}
 
 -- ---- 9
 tells-fits : (n : ℕ) (o : Output) → Tells (fitsOutput n o) (Short n o)
@@ -247,19 +248,19 @@ module _ (job : Job) where
       run-past caps (job .quads) (job .splines) (job .setting) (primitivesOf (job .state) (job .columns)) (world startState (job .quads) (job .splines)) (sound-start (job .quads) (job .splines))
       (record { quads = quads-self 0 (job .quads); splines = splines-self 0 (job .splines) })
 
-  written-past : fitsOutput (walkLength job) (job .output) ≡ true → OutputPast (walkLength job) (job .output) (writeOutput (worldOf job .quads) (worldOf job .splines) (itemsIn (job .setting) (worldOf job)) (job .output))
+  written-past : fitsOutput (walkLength job) (job .output) ≡ true → OutputPast (walkLength job) (job .output) (writeOutput (quadRowAt (worldOf job .quads)) (worldOf job .splines) (itemsIn (job .setting) (worldOf job)) (job .output))
   unfolding writeOutput wordsOf pointsOf
   written-past e =
       let items = itemsIn (job .setting) (worldOf job) in
       let n = walkLength job in
-      let q = worldOf job .quads in
+      let rows = quadRowAt (worldOf job .quads) in
       let s = worldOf job .splines in
       let short = passes (fitsOutput n (job .output)) (Short n (job .output)) (tells-fits n (job .output)) e in
       record {
         words = past-over n (job .output .words) _ (length-map items wordOf) (by-contra n (length (job .output .words)) (λ h. short (words h)));
-        x = past-over n (job .output .x) _ (length-map (map (itemPointOf q s) items) _ ∙ length-map items (itemPointOf q s)) (by-contra n (length (job .output .x)) (λ h. short (x h)));
-        y = past-over n (job .output .y) _ (length-map (map (itemPointOf q s) items) _ ∙ length-map items (itemPointOf q s)) (by-contra n (length (job .output .y)) (λ h. short (y h)));
-        end = past-over n (job .output .end) _ (length-map (map (itemPointOf q s) items) _ ∙ length-map items (itemPointOf q s)) (by-contra n (length (job .output .end)) (λ h. short (end h)));
+        x = past-over n (job .output .x) _ (length-map (map (itemPointOf rows s) items) _ ∙ length-map items (itemPointOf rows s)) (by-contra n (length (job .output .x)) (λ h. short (x h)));
+        y = past-over n (job .output .y) _ (length-map (map (itemPointOf rows s) items) _ ∙ length-map items (itemPointOf rows s)) (by-contra n (length (job .output .y)) (λ h. short (y h)));
+        end = past-over n (job .output .end) _ (length-map (map (itemPointOf rows s) items) _ ∙ length-map items (itemPointOf rows s)) (by-contra n (length (job .output .end)) (λ h. short (end h)));
       }
 
   past-held : PastCounts job (flatteningOf job)

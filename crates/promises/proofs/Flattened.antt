@@ -15,6 +15,7 @@ use Rattle.answer.specs.declared.Answer.the-variants.{Done, BadCoordinate, BadW
 use Rattle.answer.specs.Number.{numberOf, isDone}
 use Rattle.point.specs.declared.Setting.{Setting}
 use Rattle.store.specs.Drawable.{drawableOf}
+use Rattle.tables.specs.Tables.{quadRowAt}
 use Rattle.tables.specs.Run.{World}
 use Rattle.tables.specs.Commands.{tablesOf}
 use Rattle.walk.specs.Walk.{Item, walkOf, wordOf, wordsOf}
@@ -26,7 +27,7 @@ abbrev pub worldOf : Job → World
 worldOf job = tablesOf (job .setting) (job .state) (job .columns) (job .quads) (job .splines)
 
 abbrev pub itemsIn : Setting → World → List Item
-itemsIn setting w = walkOf setting (w .quads) (w .splines) (w .state .splines)
+itemsIn setting w = walkOf setting (quadRowAt (w .quads)) (w .splines) (w .state .splines)
 
 -- what an accepted drawing leaves
 abbrev pub finishedOf : Job → Flattening

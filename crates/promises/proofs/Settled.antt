@@ -43,8 +43,7 @@ pub columns-settled : ColumnsSettled
 columns-settled = told _ (λ c. (c .x, c .y, c .weight, c .commands)) (λ a. refl)
 
 pub quads-settled : QuadsSettled
-quads-settled =
-    told _ (λ q. (q .x, q .y, q .weight, q .x0, q .dx-recip, q .k0, q .dk, q .curvatures-recip, q .partial-curvatures, q .partial-splines)) (λ a. refl)
+quads-settled = told _ (λ q. (q .rows, q .partial-splines)) (λ a. refl)
 
 pub splines-settled : SplinesSettled
 splines-settled = told _ (λ s. (s .curvature, s .p0x, s .p0y, s .p2x, s .p2y, s .contour)) (λ a. refl)

@@ -21,7 +21,8 @@ use Rattle.leaves.specs.Whole.{wholeUpOf}
 use Rattle.command.specs.declared.PointCommand.the-variants.{Start, Incr, End}
 use Rattle.point.specs.declared.Setting.{Setting}
 use Rattle.primitives.specs.declared.Capacities.{Capacities}
-use Rattle.tables.specs.Tables.{QuadTable, SplineTable, splineAt}
+use Rattle.primitives.specs.declared.QuadRow.{QuadRow}
+use Rattle.tables.specs.Tables.{SplineTable, quadRowAt, splineAt}
 use Rattle.tables.specs.Run.{World}
 use Rattle.tables.proofs.RunningSums.{Sum, Up, no-steps, up-bounds, up-two}
 use Rattle.tables.proofs.Spans.{sumAt, ownerAt, Span, LastOf, span-total}
@@ -42,18 +43,18 @@ use Rattle.promises.proofs.Cursor.{falls-once}
 abbrev Steps : (Item → Type 0) → Item → Type 0
 Steps P i = T (isStep (i .command)) → P i
 
-every-step : (P : Item → Type 0) (q : QuadTable) (size : Float) (n p c : ℕ) → All P (stepsFrom q size n p c) → All (Steps P) (stepsFrom q size n p c)
-every-step P q size n p c h = all-map (stepsFrom q size n p c) h
+every-step : (P : Item → Type 0) (rows : ℕ → QuadRow) (size : Float) (n p c : ℕ) → All P (stepsFrom rows size n p c) → All (Steps P) (stepsFrom rows size n p c)
+every-step P rows size n p c h = all-map (stepsFrom rows size n p c) h
   where
     all-map : (l : List Item) → All P l → All (Steps P) l
     all-map [] h = tt
     all-map (i ∷ l) h = (λ t. h .0, all-map l (h .1))
 
-spline-steps : (P : Item → Type 0) (q : QuadTable) (s : SplineTable) (k c : ℕ) → All P (stepsFrom q (stepSizeOf s k) (stepsOf s k) 1 c) → All (Steps P) (splineItemsOf q s k c)
+spline-steps : (P : Item → Type 0) (rows : ℕ → QuadRow) (s : SplineTable) (k c : ℕ) → All P (stepsFrom rows (stepSizeOf s k) (stepsOf s k) 1 c) → All (Steps P) (splineItemsOf rows s k c)
 unfolding splineItemsOf
-spline-steps P q s k c h =
+spline-steps P rows s k c h =
     all-append (Steps P) (cond (startsOf s k) (item (Start k) 0 0 ∷ []) []) _ (start (startsOf s k))
-    (all-append (Steps P) (stepsFrom q (stepSizeOf s k) (stepsOf s k) 1 c) _ (every-step P q (stepSizeOf s k) (stepsOf s k) 1 c h) ((λ t. absurd t), tt))
+    (all-append (Steps P) (stepsFrom rows (stepSizeOf s k) (stepsOf s k) 1 c) _ (every-step P rows (stepSizeOf s k) (stepsOf s k) 1 c h) ((λ t. absurd t), tt))
   where
     start : (b : Bool) → All (Steps P) (cond b (item (Start k) 0 0 ∷ []) [])
     start true = ((λ t. absurd t), tt)
@@ -63,6 +64,9 @@ module _ (setting : Setting) (caps : Capacities) (w : World) (S : Sound caps w) 
   -- the tables that the run leaves, and the walk
   abbrev left : Flattening
   left = flattening (flattened Done (w .state .splines) (w .state .quads) points) (w .quads) (w .splines) o
+
+  abbrev rows : ℕ → QuadRow
+  rows = quadRowAt (w .quads)
 
   -- ---- the spline of a quad
   record Home (i : ℕ) : Type 0 where
@@ -82,14 +86,14 @@ module _ (setting : Setting) (caps : Capacities) (w : World) (S : Sound caps w) 
       go zero l g = absurd (not-suc-le-zero (lt-of-lt-of-le g (le-of-eq (S .first))))
       go (suc n) l g = step n l g (decLt i (S .cut n)) (go n (le-trans (le-of-lt (le-refl (suc n))) l))
 
-  home-owner : (i : ℕ) (H : Home i) → ownerAt (w .quads) i ≡ H .spline
+  home-owner : (i : ℕ) (H : Home i) → ownerAt rows i ≡ H .spline
   home-owner i H = S .span (H .spline) (H .inside) .owned i (H .low) (H .high)
 
   -- ---- the last quad of spline k
   total : ℕ → Float
   total k = splineAt (w .splines) k .curvature
 
-  last-quad : (k : ℕ) (h : k < w .state .splines) (L : LastOf (w .quads) (total k) (S .cut k) (S .cut (suc k))) → LastQuad left k (L .at)
+  last-quad : (k : ℕ) (h : k < w .state .splines) (L : LastOf rows (total k) (S .cut k) (S .cut (suc k))) → LastQuad left k (L .at)
   last-quad k h L =
       record {
         stored = le-trans (le-of-eq (L .next)) (cut-le caps w S (suc k) h);
@@ -109,16 +113,16 @@ module _ (setting : Setting) (caps : Capacities) (w : World) (S : Sound caps w) 
     unfolding subdivisionsOf total
     no-ups e = ap wholeUpOf e ∙ no-steps
 
-    module _ (L : LastOf (w .quads) (total k) (S .cut k) (S .cut (suc k))) where
-      last-sum : Sum (sumAt (w .quads) (L .at))
+    module _ (L : LastOf rows (total k) (S .cut k) (S .cut (suc k))) where
+      last-sum : Sum (sumAt rows (L .at))
       last-sum = subst Sum (L .same) (L .sum)
 
-      last-up : Up (sumAt (w .quads) (L .at)) (subdivisionsOf (w .splines) k)
+      last-up : Up (sumAt rows (L .at)) (subdivisionsOf (w .splines) k)
       unfolding subdivisionsOf total
       last-up = subst (λ (x : Float). Up x (wholeUpOf (total k))) (L .same) (up-bounds (total k) (L .sum))
 
       many : 2 ≤ subdivisionsOf (w .splines) k
-      many = up-two (sumAt (w .quads) (L .at)) (subdivisionsOf (w .splines) k) last-sum last-up
+      many = up-two (sumAt rows (L .at)) (subdivisionsOf (w .splines) k) last-sum last-up
 
   all-steps : (m : ℕ) → 2 ≤ m → 1 + (m - 1) ≤ m
   all-steps m h = omega arith
@@ -127,14 +131,14 @@ module _ (setting : Setting) (caps : Capacities) (w : World) (S : Sound caps w) 
   none-left m e = omega arith
 
   -- ---- the cursor after spline k
-  after-none : (k c : ℕ) → subdivisionsOf (w .splines) k ≡ 0 → cursorAfter (w .quads) (w .splines) k c ≡ c
+  after-none : (k c : ℕ) → subdivisionsOf (w .splines) k ≡ 0 → cursorAfter rows (w .splines) k c ≡ c
   unfolding cursorAfter
-  after-none k c e = ap (λ (b : Bool). cond b c (cursorFrom (w .quads) (subdivisionsOf (w .splines) k - 1) 1 c + 1)) (is-true (eqb (subdivisionsOf (w .splines) k) 0) (eq→eqb e))
+  after-none k c e = ap (λ (b : Bool). cond b c (cursorFrom rows (subdivisionsOf (w .splines) k - 1) 1 c + 1)) (is-true (eqb (subdivisionsOf (w .splines) k) 0) (eq→eqb e))
 
-  after-some : (k c : ℕ) → 2 ≤ subdivisionsOf (w .splines) k → cursorAfter (w .quads) (w .splines) k c ≡ suc (cursorFrom (w .quads) (subdivisionsOf (w .splines) k - 1) 1 c)
+  after-some : (k c : ℕ) → 2 ≤ subdivisionsOf (w .splines) k → cursorAfter rows (w .splines) k c ≡ suc (cursorFrom rows (subdivisionsOf (w .splines) k - 1) 1 c)
   unfolding cursorAfter
   after-some k c h =
-      ap (λ (b : Bool). cond b c (cursorFrom (w .quads) (subdivisionsOf (w .splines) k - 1) 1 c + 1))
+      ap (λ (b : Bool). cond b c (cursorFrom rows (subdivisionsOf (w .splines) k - 1) 1 c + 1))
       (is-false (eqb (subdivisionsOf (w .splines) k) 0) (not-T (eqb (subdivisionsOf (w .splines) k) 0) (λ t. no (subdivisionsOf (w .splines) k) h (eqb→eq (subdivisionsOf (w .splines) k) 0 t))))
       ∙ add-one _
     where
@@ -145,45 +149,45 @@ module _ (setting : Setting) (caps : Capacities) (w : World) (S : Sound caps w) 
   Early : ℕ → ℕ → Type 0
   Early k c = c ≤ S .cut k
 
-  stays-early : (k c : ℕ) → k < w .state .splines → Early k c → Early (suc k) (cursorAfter (w .quads) (w .splines) k c)
+  stays-early : (k c : ℕ) → k < w .state .splines → Early k c → Early (suc k) (cursorAfter rows (w .splines) k c)
   unfolding Early total
-  stays-early k c h e = elim (span-total (w .quads) (total k) (S .cut k) (S .cut (suc k)) k (S .span k h)) [
+  stays-early k c h e = elim (span-total rows (total k) (S .cut k) (S .cut (suc k)) k (S .span k h)) [
     | inl z ↦ le-trans (le-of-eq (after-none k c (no-ups k h (z .1)))) (le-trans e (le-of-eq (z .0)))
     | inr L ↦
         le-trans (le-of-eq (after-some k c (many k h L)))
-        (le-trans (up (cursor-from-under (w .quads) (L .at) (subdivisionsOf (w .splines) k) (last-sum k h L) (last-up k h L) (subdivisionsOf (w .splines) k - 1) 1 c (le-trans e (L .inside)) (all-steps (subdivisionsOf (w .splines) k) (many k h L)))) (le-of-eq (L .next)))
+        (le-trans (up (cursor-from-under rows (L .at) (subdivisionsOf (w .splines) k) (last-sum k h L) (last-up k h L) (subdivisionsOf (w .splines) k - 1) 1 c (le-trans e (L .inside)) (all-steps (subdivisionsOf (w .splines) k) (many k h L)))) (le-of-eq (L .next)))
   ]
     where
       up : {a b : ℕ} → a ≤ b → suc a ≤ suc b
       up h = omega arith
 
-  piece : (inv : ℕ → ℕ → Type 0) → inv 0 0 → ((k c : ℕ) → k < w .state .splines → inv k c → inv (suc k) (cursorAfter (w .quads) (w .splines) k c)) → (k : ℕ) → k < w .state .splines
-      → Piece (w .quads) (w .splines) inv (cutAfter (λ (i : Item). isEnd (i .command)) (walkIn setting left)) k k
+  piece : (inv : ℕ → ℕ → Type 0) → inv 0 0 → ((k c : ℕ) → k < w .state .splines → inv k c → inv (suc k) (cursorAfter rows (w .splines) k c)) → (k : ℕ) → k < w .state .splines
+      → Piece rows (w .splines) inv (cutAfter (λ (i : Item). isEnd (i .command)) (walkIn setting left)) k k
   unfolding walkOf
   piece inv first next k h =
-      subst (Piece (w .quads) (w .splines) inv (cutAfter (λ (i : Item). isEnd (i .command)) (walkIn setting left)) k) (zero-add k)
-      (piece-at (w .quads) (w .splines) setting inv (w .state .splines) 0 0 first (λ j c l u. next j c (lt-of-lt-of-le l (le-of-eq (zero-add (w .state .splines)))) u) k h)
+      subst (Piece rows (w .splines) inv (cutAfter (λ (i : Item). isEnd (i .command)) (walkIn setting left)) k) (zero-add k)
+      (piece-at rows (w .splines) setting inv (w .state .splines) 0 0 first (λ j c l u. next j c (lt-of-lt-of-le l (le-of-eq (zero-add (w .state .splines)))) u) k h)
 
-  early-piece : (k : ℕ) → k < w .state .splines → Piece (w .quads) (w .splines) Early (cutAfter (λ (i : Item). isEnd (i .command)) (walkIn setting left)) k k
+  early-piece : (k : ℕ) → k < w .state .splines → Piece rows (w .splines) Early (cutAfter (λ (i : Item). isEnd (i .command)) (walkIn setting left)) k k
   unfolding Early
   early-piece k h = piece Early zero-le stays-early k h
 
   pub not-after : (k : ℕ) (i : Item) → StepOf setting left k i → NotAfterLast left k i
   unfolding Early total
-  not-after k i T = elim (span-total (w .quads) (total k) (S .cut k) (S .cut (suc k)) k (S .span k h)) [
+  not-after k i T = elim (span-total rows (total k) (S .cut k) (S .cut (suc k)) k (S .span k h)) [
     | inl e ↦
         absurd
-        (all-member (Steps (λ (x : Item). ⊥)) (splineItemsOf (w .quads) (w .splines) k (z .cursor)) i
-        (spline-steps (λ (x : Item). ⊥) (w .quads) (w .splines) k (z .cursor) (subst (λ (n : ℕ). All (λ (x : Item). ⊥) (stepsFrom (w .quads) (stepSizeOf (w .splines) k) n 1 (z .cursor))) (sym (none-left (subdivisionsOf (w .splines) k) (no-ups k h (e .1)))) (unfold stepsFrom in tt)))
+        (all-member (Steps (λ (x : Item). ⊥)) (splineItemsOf rows (w .splines) k (z .cursor)) i
+        (spline-steps (λ (x : Item). ⊥) rows (w .splines) k (z .cursor) (subst (λ (n : ℕ). All (λ (x : Item). ⊥) (stepsFrom rows (stepSizeOf (w .splines) k) n 1 (z .cursor))) (sym (none-left (subdivisionsOf (w .splines) k) (no-ups k h (e .1)))) (unfold stepsFrom in tt)))
         member (T .step))
     | inr L ↦
         record {
           last = L .at;
           is-last = last-quad k h L;
           not-after =
-              all-member (Steps (λ (x : Item). x .quad ≤ L .at)) (splineItemsOf (w .quads) (w .splines) k (z .cursor)) i
-              (spline-steps (λ (x : Item). x .quad ≤ L .at) (w .quads) (w .splines) k (z .cursor)
-              (steps-under (w .quads) (L .at) (subdivisionsOf (w .splines) k) (last-sum k h L) (last-up k h L) (stepSizeOf (w .splines) k) (subdivisionsOf (w .splines) k - 1) 1 (z .cursor) (le-trans (z .holds) (L .inside)) (all-steps (subdivisionsOf (w .splines) k) (many k h L))))
+              all-member (Steps (λ (x : Item). x .quad ≤ L .at)) (splineItemsOf rows (w .splines) k (z .cursor)) i
+              (spline-steps (λ (x : Item). x .quad ≤ L .at) rows (w .splines) k (z .cursor)
+              (steps-under rows (L .at) (subdivisionsOf (w .splines) k) (last-sum k h L) (last-up k h L) (stepSizeOf (w .splines) k) (subdivisionsOf (w .splines) k - 1) 1 (z .cursor) (le-trans (z .holds) (L .inside)) (all-steps (subdivisionsOf (w .splines) k) (many k h L))))
               member (T .step);
         }
   ]
@@ -191,10 +195,10 @@ module _ (setting : Setting) (caps : Capacities) (w : World) (S : Sound caps w) 
       h : k < w .state .splines
       h = T .spline
 
-      z : Piece (w .quads) (w .splines) Early (cutAfter (λ (i : Item). isEnd (i .command)) (walkIn setting left)) k k
+      z : Piece rows (w .splines) Early (cutAfter (λ (i : Item). isEnd (i .command)) (walkIn setting left)) k k
       z = early-piece k h
 
-      member : List·Memᴰ i (splineItemsOf (w .quads) (w .splines) k (z .cursor))
+      member : List·Memᴰ i (splineItemsOf rows (w .splines) k (z .cursor))
       member = subst (List·Memᴰ i) (z .is) (T .member)
 
   -- ---- 3f
@@ -203,51 +207,51 @@ module _ (setting : Setting) (caps : Capacities) (w : World) (S : Sound caps w) 
     exactly k c = c ≡ S .cut k
 
     -- the quads of a spline that has some end at its last one
-    span-to : (k : ℕ) (h : k < w .state .splines) (L : LastOf (w .quads) (total k) (S .cut k) (S .cut (suc k))) → Span (w .quads) (total k) (S .cut k) (suc (L .at)) k
+    span-to : (k : ℕ) (h : k < w .state .splines) (L : LastOf rows (total k) (S .cut k) (S .cut (suc k))) → Span rows (total k) (S .cut k) (suc (L .at)) k
     unfolding total
-    span-to k h L = subst (λ (x : ℕ). Span (w .quads) (total k) (S .cut k) x k) (sym (L .next)) (S .span k h)
+    span-to k h L = subst (λ (x : ℕ). Span rows (total k) (S .cut k) x k) (sym (L .next)) (S .span k h)
 
-    between : (k : ℕ) (h : k < w .state .splines) (L : LastOf (w .quads) (total k) (S .cut k) (S .cut (suc k))) → (b : ℕ) → suc b ≡ L .at → S .cut k ≤ b
-        → (p : ℕ) × Below (sumAt (w .quads) b) p × (p * den (sumAt (w .quads) (L .at)) < num (sumAt (w .quads) (L .at)))
+    between : (k : ℕ) (h : k < w .state .splines) (L : LastOf rows (total k) (S .cut k) (S .cut (suc k))) → (b : ℕ) → suc b ≡ L .at → S .cut k ≤ b
+        → (p : ℕ) × Below (sumAt rows b) p × (p * den (sumAt rows (L .at)) < num (sumAt rows (L .at)))
     between k h L b e g =
         let B = spread k b (subst (LastQuad left k) (sym e) (last-quad k h L)) (S .span k h .owned b g (under b (L .at) (S .cut (suc k)) e (L .next))) in
-        (B .whole, B .over, subst (λ (x : ℕ). B .whole * den (sumAt (w .quads) x) < num (sumAt (w .quads) x)) e (B .under))
+        (B .whole, B .over, subst (λ (x : ℕ). B .whole * den (sumAt rows x) < num (sumAt rows x)) e (B .under))
       where
         under : (b a hi : ℕ) → suc b ≡ a → suc a ≡ hi → b < hi
         under b a hi e f = omega arith
 
-    stays-exact : (k c : ℕ) → k < w .state .splines → exactly k c → exactly (suc k) (cursorAfter (w .quads) (w .splines) k c)
+    stays-exact : (k c : ℕ) → k < w .state .splines → exactly k c → exactly (suc k) (cursorAfter rows (w .splines) k c)
     unfolding exactly total
-    stays-exact k c h e = elim (span-total (w .quads) (total k) (S .cut k) (S .cut (suc k)) k (S .span k h)) [
+    stays-exact k c h e = elim (span-total rows (total k) (S .cut k) (S .cut (suc k)) k (S .span k h)) [
       | inl z ↦ after-none k c (no-ups k h (z .1)) ∙ e ∙ z .0
       | inr L ↦
           after-some k c (many k h L)
-          ∙ ap suc (ap (cursorFrom (w .quads) (subdivisionsOf (w .splines) k - 1) 1) e
-          ∙ cursor-ends (w .quads) (total k) (S .cut k) (L .at) k (subdivisionsOf (w .splines) k) (span-to k h L) (L .inside) (last-sum k h L) (last-up k h L) (between k h L))
+          ∙ ap suc (ap (cursorFrom rows (subdivisionsOf (w .splines) k - 1) 1) e
+          ∙ cursor-ends rows (total k) (S .cut k) (L .at) k (subdivisionsOf (w .splines) k) (span-to k h L) (L .inside) (last-sum k h L) (last-up k h L) (between k h L))
           ∙ L .next
     ]
 
-    exact-piece : (k : ℕ) → k < w .state .splines → Piece (w .quads) (w .splines) exactly (cutAfter (λ (i : Item). isEnd (i .command)) (walkIn setting left)) k k
+    exact-piece : (k : ℕ) → k < w .state .splines → Piece rows (w .splines) exactly (cutAfter (λ (i : Item). isEnd (i .command)) (walkIn setting left)) k k
     unfolding exactly
     exact-piece k h = piece exactly (sym (S .first)) stays-exact k h
 
     step-stays : (k : ℕ) (i : Item) → StepOf setting left k i → (i .quad < w .state .quads) × (splineOfQuad left (i .quad) ≡ k)
     unfolding exactly total
-    step-stays k i T = elim (span-total (w .quads) (total k) (S .cut k) (S .cut (suc k)) k (S .span k h)) [
+    step-stays k i T = elim (span-total rows (total k) (S .cut k) (S .cut (suc k)) k (S .span k h)) [
       | inl e ↦
           absurd
-          (all-member (Steps (λ (x : Item). ⊥)) (splineItemsOf (w .quads) (w .splines) k (z .cursor)) i
-          (spline-steps (λ (x : Item). ⊥) (w .quads) (w .splines) k (z .cursor) (subst (λ (n : ℕ). All (λ (x : Item). ⊥) (stepsFrom (w .quads) (stepSizeOf (w .splines) k) n 1 (z .cursor))) (sym (none-left (subdivisionsOf (w .splines) k) (no-ups k h (e .1)))) (unfold stepsFrom in tt)))
+          (all-member (Steps (λ (x : Item). ⊥)) (splineItemsOf rows (w .splines) k (z .cursor)) i
+          (spline-steps (λ (x : Item). ⊥) rows (w .splines) k (z .cursor) (subst (λ (n : ℕ). All (λ (x : Item). ⊥) (stepsFrom rows (stepSizeOf (w .splines) k) n 1 (z .cursor))) (sym (none-left (subdivisionsOf (w .splines) k) (no-ups k h (e .1)))) (unfold stepsFrom in tt)))
           member (T .step))
       | inr L ↦
           let m = subdivisionsOf (w .splines) k in
           let r = span-to k h L in
           let g =
-          all-member (Steps (λ (x : Item). (S .cut k ≤ x .quad) × (x .quad ≤ L .at))) (splineItemsOf (w .quads) (w .splines) k (z .cursor)) i
-          (spline-steps (λ (x : Item). (S .cut k ≤ x .quad) × (x .quad ≤ L .at)) (w .quads) (w .splines) k (z .cursor)
-          (subst (λ (c : ℕ). All (λ (x : Item). (S .cut k ≤ x .quad) × (x .quad ≤ L .at)) (stepsFrom (w .quads) (stepSizeOf (w .splines) k) (m - 1) 1 c)) (sym (z .holds))
-          (steps-inside (w .quads) (total k) (S .cut k) (L .at) k m r (L .inside) (last-sum k h L) (last-up k h L) (stepSizeOf (w .splines) k) (m - 1) 1 (S .cut k)
-          (λ u. first-falls (w .quads) (total k) (S .cut k) (L .at) k m r (L .inside) (last-sum k h L) (last-up k h L)) (all-steps m (many k h L)))))
+          all-member (Steps (λ (x : Item). (S .cut k ≤ x .quad) × (x .quad ≤ L .at))) (splineItemsOf rows (w .splines) k (z .cursor)) i
+          (spline-steps (λ (x : Item). (S .cut k ≤ x .quad) × (x .quad ≤ L .at)) rows (w .splines) k (z .cursor)
+          (subst (λ (c : ℕ). All (λ (x : Item). (S .cut k ≤ x .quad) × (x .quad ≤ L .at)) (stepsFrom rows (stepSizeOf (w .splines) k) (m - 1) 1 c)) (sym (z .holds))
+          (steps-inside rows (total k) (S .cut k) (L .at) k m r (L .inside) (last-sum k h L) (last-up k h L) (stepSizeOf (w .splines) k) (m - 1) 1 (S .cut k)
+          (λ u. first-falls rows (total k) (S .cut k) (L .at) k m r (L .inside) (last-sum k h L) (last-up k h L)) (all-steps m (many k h L)))))
           member (T .step) in
           let u : i .quad < S .cut (suc k) = lt-of-le-of-lt (g .1) (le-of-eq (L .next)) in
           (lt-of-lt-of-le u (cut-le caps w S (suc k) h), S .span k h .owned (i .quad) (g .0) u)
@@ -256,19 +260,19 @@ module _ (setting : Setting) (caps : Capacities) (w : World) (S : Sound caps w) 
         h : k < w .state .splines
         h = T .spline
 
-        z : Piece (w .quads) (w .splines) exactly (cutAfter (λ (i : Item). isEnd (i .command)) (walkIn setting left)) k k
+        z : Piece rows (w .splines) exactly (cutAfter (λ (i : Item). isEnd (i .command)) (walkIn setting left)) k k
         z = exact-piece k h
 
-        member : List·Memᴰ i (splineItemsOf (w .quads) (w .splines) k (z .cursor))
+        member : List·Memᴰ i (splineItemsOf rows (w .splines) k (z .cursor))
         member = subst (List·Memᴰ i) (z .is) (T .member)
 
-    in-items : (k c : ℕ) (i : Item) → List·Memᴰ i (stepsFrom (w .quads) (stepSizeOf (w .splines) k) (stepsOf (w .splines) k) 1 c) → List·Memᴰ i (splineItemsOf (w .quads) (w .splines) k c)
+    in-items : (k c : ℕ) (i : Item) → List·Memᴰ i (stepsFrom rows (stepSizeOf (w .splines) k) (stepsOf (w .splines) k) 1 c) → List·Memᴰ i (splineItemsOf rows (w .splines) k c)
     unfolding splineItemsOf
     in-items k c i m = Memᴰ·append-right (cond (startsOf (w .splines) k) (item (Start k) 0 0 ∷ []) []) (Memᴰ·append-left (item (End k (splineAt (w .splines) k .contour)) 0 0 ∷ []) m)
 
     quad-stepped : (quad : ℕ) → quad < w .state .quads → QuadHasStep setting left quad
     unfolding exactly total
-    quad-stepped quad l = go (span-total (w .quads) (total k) (S .cut k) (S .cut (suc k)) k (S .span k h))
+    quad-stepped quad l = go (span-total rows (total k) (S .cut k) (S .cut (suc k)) k (S .span k h))
       where
         H : Home quad
         H = home quad l
@@ -279,7 +283,7 @@ module _ (setting : Setting) (caps : Capacities) (w : World) (S : Sound caps w) 
         h : k < w .state .splines
         h = H .inside
 
-        z : Piece (w .quads) (w .splines) exactly (cutAfter (λ (i : Item). isEnd (i .command)) (walkIn setting left)) k k
+        z : Piece rows (w .splines) exactly (cutAfter (λ (i : Item). isEnd (i .command)) (walkIn setting left)) k k
         z = exact-piece k h
 
         m : ℕ
@@ -294,15 +298,15 @@ module _ (setting : Setting) (caps : Capacities) (w : World) (S : Sound caps w) 
         upto : (i a hi : ℕ) → suc a ≡ hi → i < hi → i ≤ a
         upto i a hi e b = omega arith
 
-        go : ((S .cut k ≡ S .cut (suc k)) × (total k ≡ zero32)) ⊎ LastOf (w .quads) (total k) (S .cut k) (S .cut (suc k)) → QuadHasStep setting left quad
+        go : ((S .cut k ≡ S .cut (suc k)) × (total k ≡ zero32)) ⊎ LastOf rows (total k) (S .cut k) (S .cut (suc k)) → QuadHasStep setting left quad
         go (inl e) = absurd (empty (S .cut k) (S .cut (suc k)) quad (e .0) (H .low) (H .high))
         go (inr L) =
             let r = span-to k h L in
             let s = last-sum k h L in
             let u = last-up k h L in
-            let R = reached (w .quads) (total k) (S .cut k) (L .at) k m r (L .inside) s u (between k h L) quad (H .low) (upto quad (L .at) (S .cut (suc k)) (L .next) (H .high)) in
+            let R = reached rows (total k) (S .cut k) (L .at) k m r (L .inside) s u (between k h L) quad (H .low) (upto quad (L .at) (S .cut (suc k)) (L .next) (H .high)) in
             let A =
-            step-at (w .quads) (total k) (S .cut k) (L .at) k m r (L .inside) s u (stepSizeOf (w .splines) k) (m - 1) 1 (S .cut k) (λ g. first-falls (w .quads) (total k) (S .cut k) (L .at) k m r (L .inside) s u)
+            step-at rows (total k) (S .cut k) (L .at) k m r (L .inside) s u (stepSizeOf (w .splines) k) (m - 1) 1 (S .cut k) (λ g. first-falls rows (total k) (S .cut k) (L .at) k m r (L .inside) s u)
             (all-steps m (many k h L)) (R .step) (R .least) (below (R .step) m (R .most)) in
             record {
               spline = k;
@@ -310,10 +314,10 @@ module _ (setting : Setting) (caps : Capacities) (w : World) (S : Sound caps w) 
               is-step =
                   record {
                     spline = h;
-                    member = subst (List·Memᴰ (item (Incr (stepSizeOf (w .splines) k)) (R .step) (A .quad))) (sym (z .is)) (subst (λ (c : ℕ). List·Memᴰ (item (Incr (stepSizeOf (w .splines) k)) (R .step) (A .quad)) (splineItemsOf (w .quads) (w .splines) k c)) (sym (z .holds)) (in-items k (S .cut k) (item (Incr (stepSizeOf (w .splines) k)) (R .step) (A .quad)) (A .member)));
+                    member = subst (List·Memᴰ (item (Incr (stepSizeOf (w .splines) k)) (R .step) (A .quad))) (sym (z .is)) (subst (λ (c : ℕ). List·Memᴰ (item (Incr (stepSizeOf (w .splines) k)) (R .step) (A .quad)) (splineItemsOf rows (w .splines) k c)) (sym (z .holds)) (in-items k (S .cut k) (item (Incr (stepSizeOf (w .splines) k)) (R .step) (A .quad)) (A .member)));
                     step = tt;
                   };
-              uses = falls-once (w .quads) (total k) (S .cut k) (L .at) k m r (L .inside) s u (R .step) (A .quad) quad (A .falls) (R .falls);
+              uses = falls-once rows (total k) (S .cut k) (L .at) k m r (L .inside) s u (R .step) (A .quad) quad (A .falls) (R .falls);
             }
 
     pub no-stray : NoStray setting left
