@@ -8,6 +8,7 @@ pub mod Decoding
 pub mod Contours
 pub mod Sharing
 pub mod Cursor
+pub mod Arrivals
 pub mod Steps
 pub mod Telling
 pub mod DrawingAnswers
