@@ -58,7 +58,7 @@ module _ (rows : ℕ → QuadRow) (l m : ℕ) (S : Sum (sumAt rows l)) (U : Up (
   small : (p : ℕ) → p < m → p ≤ 65537
   small p h = le-trans (le-of-lt h) (le-trans (up-limit (sumAt rows l) m S U) (lit≤ tt))
 
-  cursor-under : (p c : ℕ) → c ≤ l → p < m → cursorAt rows p c ≤ l
+  pub cursor-under : (p c : ℕ) → c ≤ l → p < m → cursorAt rows p c ≤ l
   cursor-under p c h k = elim (eq-or-lt-of-le h) [
     | inl e ↦ subst (λ (x : ℕ). cursorAt rows p x ≤ l) (sym e) (at-last (cursor-goes rows p l S (small p k)))
     | inr g ↦ le-trans (cursor-step rows p c) g

@@ -28,7 +28,7 @@ use Rattle.promises.specs.Accepted.{walkIn, stepsOf}
 use Rattle.promises.specs.Demand3.{StepOf, splineOfQuad, LastQuad, NotAfterLast, Demand3e, Spread, QuadHasStep, NoStray, Demand3f}
 use Rattle.promises.proofs.Flattened.{worldOf, finishedOf, passed}
 use Rattle.promises.proofs.Decoding.{capsOf, job-sound}
-use Rattle.promises.proofs.Cutting.{All, all-append, all-member}
+use Rattle.promises.proofs.Cutting.{All, all-append, all-map, all-member}
 use Rattle.promises.proofs.Walking.{Piece, piece-at}
 use Rattle.promises.proofs.Cursor.{Below, steps-under, first-falls, step-at, steps-inside, cursor-ends, reached, falls-once}
 use Rattle.promises.proofs.Arrivals.{all-steps, none-left, Ends, ends, after-none, after-some, Early, stays-early}
@@ -37,18 +37,12 @@ use Rattle.promises.proofs.Arrivals.{all-steps, none-left, Ends, ends, 
 abbrev pub Steps : (Item → Type 0) → Item → Type 0
 Steps P i = T (isStep (i .command)) → P i
 
-every-step : (P : Item → Type 0) (rows : ℕ → QuadRow) (size : Float) (n p c : ℕ) → All P (stepsFrom rows size n p c) → All (Steps P) (stepsFrom rows size n p c)
-every-step P rows size n p c h = all-map (stepsFrom rows size n p c) h
-  where
-    all-map : (l : List Item) → All P l → All (Steps P) l
-    all-map [] h = tt
-    all-map (i ∷ l) h = (λ t. h .0, all-map l (h .1))
-
-pub spline-steps : (P : Item → Type 0) (rows : ℕ → QuadRow) (s : SplineTable) (k c : ℕ) → All P (stepsFrom rows (stepSizeOf s k) (stepsOf s k) 1 c) → All (Steps P) (splineItemsOf rows s k c)
+pub spline-steps : (P : Item → Type 0) (rows : ℕ → QuadRow) (s : SplineTable) (k c : ℕ)
+    → All P (stepsFrom rows (stepSizeOf s k) (stepsOf s k) 1 c) → All (Steps P) (splineItemsOf rows s k c)
 unfolding splineItemsOf
 spline-steps P rows s k c h =
     all-append (Steps P) (cond (startsOf s k) (item (Start k) 0 0 ∷ []) []) _ (start (startsOf s k))
-    (all-append (Steps P) (stepsFrom rows (stepSizeOf s k) (stepsOf s k) 1 c) _ (every-step P rows (stepSizeOf s k) (stepsOf s k) 1 c h) ((λ t. absurd t), tt))
+    (all-append (Steps P) (stepsFrom rows (stepSizeOf s k) (stepsOf s k) 1 c) _ (all-map P (Steps P) (λ i p t. p) (stepsFrom rows (stepSizeOf s k) (stepsOf s k) 1 c) h) ((λ t. absurd t), tt))
   where
     start : (b : Bool) → All (Steps P) (cond b (item (Start k) 0 0 ∷ []) [])
     start true = ((λ t. absurd t), tt)
