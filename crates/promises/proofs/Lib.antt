@@ -21,3 +21,7 @@ pub mod Answering
 pub mod ListingReading
 pub mod ListingAnswers
 pub mod QuarterRound
+pub mod LayoutLaws
+pub mod LayoutRuns
+pub mod LayoutWalks
+pub mod Layouts
