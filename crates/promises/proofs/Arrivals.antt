@@ -1,6 +1,6 @@
 -- Over sound tables each spline has no quad and no step, or it ends at a quad whose sum no step of it reaches. So the cursor comes to each spline at or before
 -- its first quad. Assumes nothing.
-use mathlib.Core.Path.{_≡_, refl, sym, ap, _∙_, subst}
+use mathlib.Core.Path.{_≡_, ap, _∙_, subst}
 use mathlib.Core.Logic.{_⊎_, inl, inr}
 use mathlib.Core.Bool.{Bool, cond}
 use Prim.Native.Nat.{ℕ, suc, _+_, _-_, _≤_, _<_}
@@ -54,7 +54,8 @@ module _ (caps : Capacities) (w : World) (S : Sound caps w) where
       total : Float
       total = splineAt (w .splines) k .curvature
 
-      go : ((S .cut k ≡ S .cut (suc k)) × (total ≡ zero32)) ⊎ LastOf rows total (S .cut k) (S .cut (suc k)) → ((S .cut k ≡ S .cut (suc k)) × (ups k ≡ 0)) ⊎ Ends k
+      go : ((S .cut k ≡ S .cut (suc k)) × (total ≡ zero32)) ⊎ LastOf rows total (S .cut k) (S .cut (suc k))
+          → ((S .cut k ≡ S .cut (suc k)) × (ups k ≡ 0)) ⊎ Ends k
       go (inl z) = inl (z .0, ap wholeUpOf (z .1) ∙ no-steps)
       go (inr L) =
           let sum = subst Sum (L .same) (L .sum) in

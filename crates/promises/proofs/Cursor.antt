@@ -12,9 +12,8 @@ use native.Mathlib.Numerals.{add-one}
 use native.Mathlib.Decide.{decLt}
 use native.Mathlib.Omega.{arith}
 use lib.Dec.{T, ltb, ltb→lt, nltb→le, lit≤}
-use lib.Ieee.{Float, nan, lt}
+use lib.Ieee.{Float, lt}
 use lib.Ieee.Positive.{num, den, den-pos}
-use lib.ListN.{getD}
 use Rattle.facts.proofs.Numbers.{shift, shift-one}
 use Rattle.leaves.specs.Single.{whole32}
 use Rattle.command.specs.declared.PointCommand.the-variants.{Incr}
@@ -40,7 +39,8 @@ cursor-goes rows p c S h = go (ltb (num x) (p * den x)) (lt-whole x p S h) (ltb�
     x : Float
     x = sumAt rows c
 
-    go : (b : Bool) → lt x (whole32 p) ≡ b → (T b → Below x p) → (T (not b) → AtMost p x) → (Below x p × (cond (lt x (whole32 p)) (c + 1) c ≡ suc c)) ⊎ (AtMost p x × (cond (lt x (whole32 p)) (c + 1) c ≡ c))
+    go : (b : Bool) → lt x (whole32 p) ≡ b → (T b → Below x p) → (T (not b) → AtMost p x)
+        → (Below x p × (cond (lt x (whole32 p)) (c + 1) c ≡ suc c)) ⊎ (AtMost p x × (cond (lt x (whole32 p)) (c + 1) c ≡ c))
     go true e f g = inl (f tt, ap (λ (b : Bool). cond b (c + 1) c) e ∙ add-one c)
     go false e f g = inr (g tt, ap (λ (b : Bool). cond b (c + 1) c) e)
 
@@ -123,7 +123,8 @@ module _ (rows : ℕ → QuadRow) (total : Float) (lo l j m : ℕ) (R : Span row
   carry : (p i d : ℕ) → lo ≤ i → i + d ≤ l → AtMost p (sumAt rows i) → AtMost p (sumAt rows (i + d))
   carry p i zero h k a = subst (λ (x : ℕ). AtMost p (sumAt rows x)) (sym (add-zero i)) a
   carry p i (suc d) h k a =
-      subst (λ (x : ℕ). AtMost p (sumAt rows x)) (shift i d) (carry p (suc i) d (le-trans h (le-suc i)) (le-trans (le-of-eq (shift i d)) k) (weaker p (sumAt rows (suc i)) (reach i h (below i d l k) p a)))
+      subst (λ (x : ℕ). AtMost p (sumAt rows x)) (shift i d)
+      (carry p (suc i) d (le-trans h (le-suc i)) (le-trans (le-of-eq (shift i d)) k) (weaker p (sumAt rows (suc i)) (reach i h (below i d l k) p a)))
     where
       below : (i d l : ℕ) → i + suc d ≤ l → i < l
       below i d l k = omega arith
@@ -228,7 +229,8 @@ module _ (rows : ℕ → QuadRow) (total : Float) (lo l j m : ℕ) (R : Span row
   unfolding cursorFrom
   cursor-falls zero p c F k = subst (λ (x : ℕ). Falls x (cursorAt rows p c)) (sym (add-zero p)) (F (zero-lt-suc 0))
   cursor-falls (suc n) p c F k =
-      subst (λ (x : ℕ). Falls x (cursorFrom rows (suc n) (p + 1) (cursorAt rows p c))) (shift-one p n) (cursor-falls n (p + 1) (cursorAt rows p c) (λ h. ready-next (suc n) p c F k h) (shifted p (suc n) m k))
+      subst (λ (x : ℕ). Falls x (cursorFrom rows (suc n) (p + 1) (cursorAt rows p c))) (shift-one p n)
+      (cursor-falls n (p + 1) (cursorAt rows p c) (λ h. ready-next (suc n) p c F k h) (shifted p (suc n) m k))
 
   -- ---- where a whole number lies strictly between the last two sums, some step falls on each quad, and the last one on the last
   module _ (spread : (b : ℕ) → suc b ≡ l → lo ≤ b → (p : ℕ) × Below (sumAt rows b) p × (p * den (sumAt rows l) < num (sumAt rows l))) where
@@ -277,7 +279,9 @@ module _ (rows : ℕ → QuadRow) (total : Float) (lo l j m : ℕ) (R : Span row
         let x = sumAt rows b in
         let p = suc (num x / den x) in
         let u : AtMost p (sumAt rows (suc b)) = reach b h (le-of-lt k) (num x / den x) (div-mul-le-self (num x) (den x)) in
-        let t : AtMost (suc p) (sumAt rows l) = subst (λ (y : ℕ). AtMost (suc p) (sumAt rows y)) (join b l k) (carry (suc p) (suc (suc b)) (l - suc (suc b)) (le-trans h (two b)) (le-of-eq (join b l k)) (reach (suc b) (le-trans h (le-suc b)) k p u)) in
+        let t : AtMost (suc p) (sumAt rows l) =
+        subst (λ (y : ℕ). AtMost (suc p) (sumAt rows y)) (join b l k)
+        (carry (suc p) (suc (suc b)) (l - suc (suc b)) (le-trans h (two b)) (le-of-eq (join b l k)) (reach (suc b) (le-trans h (le-suc b)) k p u)) in
         record {
           step = p;
           least = zero-lt-suc (num x / den x);

@@ -94,7 +94,11 @@ job-pieces job =
     let f = finishedOf job in
     let e = cut-decoded (wordsIn f) (walkIn (job .setting) f) (job-decoded job) in
     record {
-      as-many = sym (length-map (piecesIn (wordsIn f)) decoded) ∙ ap length e ∙ length-map (cutAfter endsItem (walkIn (job .setting) f)) (map commandOf) ∙ pieces-count (quadRowAt (w .quads)) (w .splines) (job .setting) (w .state .splines) 0 0;
+      as-many =
+          sym (length-map (piecesIn (wordsIn f)) decoded)
+          ∙ ap length e
+          ∙ length-map (cutAfter endsItem (walkIn (job .setting) f)) (map commandOf)
+          ∙ pieces-count (quadRowAt (w .quads)) (w .splines) (job .setting) (w .state .splines) 0 0;
       each = λ k h.
           let z = piece-at (quadRowAt (w .quads)) (w .splines) (job .setting) (λ (j c : ℕ). Unit {0}) (w .state .splines) 0 0 tt (λ j c l u. tt) k h in
           decoded-at (piecesIn (wordsIn f)) k

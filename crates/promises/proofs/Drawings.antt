@@ -18,7 +18,8 @@ use Rattle.command.specs.Packing.{packOf, unpackOf}
 use Rattle.store.specs.Closing.{unclosedOf}
 use Rattle.store.specs.Columns.{storedPointOf, lastCommandOf, putPoint, putCommand, evenOf, usableOf}
 use Rattle.store.specs.Drawable.{storedOkOf, knownOf, totalUsesOf, drawableOf}
-use Rattle.store.specs.Drawing.{coordinateOkOf, weightOkOf, every, coordinatesOf, weightsOf, appended, closed, moved, writesOf, putPoints, putCommands, written, stateAfter, roomOf, answerOf, drawOf, freshOf}
+use Rattle.store.specs.Drawing.{coordinateOkOf, weightOkOf, every, coordinatesOf, weightsOf, appended, closed, moved, writesOf, putPoints}
+use Rattle.store.specs.Drawing.{putCommands, written, stateAfter, roomOf, answerOf, drawOf, freshOf}
 use Rattle.store.specs.Replay.{replayOf}
 use Rattle.primitives.specs.Cubics.{bendOf, cubicErrorOf, cubicPiecesOf, cubicPointOf, controlOf, quadsFrom, cutOf, cubicQuadsOf}
 use Rattle.primitives.specs.Plan.{refusedOf, markedOf, planLineOf, quadRowOf, planCurveOf, planLegsOf, planQuadOf, planOf}
@@ -36,5 +37,16 @@ use Rattle.promises.specs.Drawings.{drawings, wordsAlong}
 use Rattle.promises.specs.Room.{emptyColumns, emptyQuads, emptySplines, emptyOutput}
 
 pub drawings-hold : map (λ (e : Example). e .given) drawings ≡ map (λ (e : Example). e .claimed) drawings
-unfolding wordsAlong rootIn root rooted bitsOf floatOf fmaOf piecesOf cutTo sixthRootOf negativeOf absOf lessOf minOf maxOf clampOf ceilOf sqrtOf wholeUpOf approxAtan2Of angleOf diffOf changedOf lerpOf curvatureOf invCurvatureOf quadAtOf cubicAtOf evalCubicOf evalQuadOf rationalOf appliedOf minusOf sameOf lenOf packOf unpackOf unclosedOf storedPointOf lastCommandOf putPoint putCommand evenOf usableOf storedOkOf knownOf totalUsesOf drawableOf coordinateOkOf weightOkOf every coordinatesOf weightsOf appended closed moved writesOf putPoints putCommands written stateAfter roomOf answerOf drawOf freshOf replayOf bendOf cubicErrorOf cubicPiecesOf cubicPointOf controlOf quadsFrom cutOf cubicQuadsOf refusedOf markedOf planLineOf quadRowOf planCurveOf planLegsOf planQuadOf planOf crossOf legOf ownCurvatureOf straightOf curveOf farOf opensOf lineAngleOf sumBefore splineEditOf cubicFrom commandPrimitivesOf primitivesFrom primitivesOf tablesOf applyOf pushOf runOf flagByteOf isFlagOf quadCapacityOf splineCapacityOf capacitiesOf numbersOf putQuad numberAt quadRowAt clearFlag putSpline splineAt lastSplineOf subdivisionsOf stepSizeOf startsOf cursorAt stepsFrom cursorFrom cursorAfter splineItemsOf walkFrom walkOf wordOf wordsOf previousSumOf parameterOf stepPointOf commandPointOf itemPointOf pointsOf over fitsOutput writeOutput walked tabled flattenDrawable flattenOf drawn flat wordsAfter pointsAfter rowAfter storedAfter joinedQuads joinedSplines joinedCursors emptyColumns emptyQuads emptySplines emptyOutput trailingZeros size span climb odd units round neg sum add sub mul div lt eq le ofInt isNan ofFields ofBits toBits
+unfolding wordsAlong rootIn root rooted bitsOf floatOf fmaOf piecesOf cutTo sixthRootOf negativeOf absOf lessOf minOf maxOf clampOf ceilOf sqrtOf
+    wholeUpOf approxAtan2Of angleOf diffOf changedOf lerpOf curvatureOf invCurvatureOf quadAtOf cubicAtOf evalCubicOf evalQuadOf rationalOf appliedOf
+    minusOf sameOf lenOf packOf unpackOf unclosedOf storedPointOf lastCommandOf putPoint putCommand evenOf usableOf storedOkOf knownOf totalUsesOf
+    drawableOf coordinateOkOf weightOkOf every coordinatesOf weightsOf appended closed moved writesOf putPoints putCommands written stateAfter roomOf
+    answerOf drawOf freshOf replayOf bendOf cubicErrorOf cubicPiecesOf cubicPointOf controlOf quadsFrom cutOf cubicQuadsOf refusedOf markedOf
+    planLineOf quadRowOf planCurveOf planLegsOf planQuadOf planOf crossOf legOf ownCurvatureOf straightOf curveOf farOf opensOf lineAngleOf sumBefore
+    splineEditOf cubicFrom commandPrimitivesOf primitivesFrom primitivesOf tablesOf applyOf pushOf runOf flagByteOf isFlagOf quadCapacityOf
+    splineCapacityOf capacitiesOf numbersOf putQuad numberAt quadRowAt clearFlag putSpline splineAt lastSplineOf subdivisionsOf stepSizeOf startsOf
+    cursorAt stepsFrom cursorFrom cursorAfter splineItemsOf walkFrom walkOf wordOf wordsOf previousSumOf parameterOf stepPointOf commandPointOf
+    itemPointOf pointsOf over fitsOutput writeOutput walked tabled flattenDrawable flattenOf drawn flat wordsAfter pointsAfter rowAfter storedAfter
+    joinedQuads joinedSplines joinedCursors emptyColumns emptyQuads emptySplines emptyOutput trailingZeros size span climb odd units round neg sum add
+    sub mul div lt eq le ofInt isNan ofFields ofBits toBits
 drawings-hold = refl

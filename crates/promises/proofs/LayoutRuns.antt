@@ -1,8 +1,8 @@
--- A run in any lawful layout goes with the library's: the plan reads no quad table, so every edit is the same, and each quad is stored after the last one, where both tables
--- have room. So states and spline tables are the same, and so is each row in use. Assumes nothing.
+-- A run in any lawful layout goes with the library's: the plan reads no quad table, so every edit is the same, and each quad is stored after the last one,
+-- where both tables have room. So states and spline tables are the same, and so is each row in use. Assumes nothing.
 use Prim.Native.Nat.{ℕ, suc, _+_, _≤_, _<_}
 use mathlib.Core.Path.{_≡_, refl, sym, ap, _∙_, subst}
-use mathlib.Core.Logic.{_⊎_, inl, inr, _≢_}
+use mathlib.Core.Logic.{inl, inr}
 use mathlib.Core.Bool.{Bool, true, false, not, _&&_, cond}
 use mathlib.Core.List.{List, [], _∷_}
 use native.Mathlib.Nat.{le-trans, le-of-eq, lt-of-lt-of-le, eq-or-lt-of-le, le-of-suc-le-suc, ne-of-lt}
@@ -33,7 +33,7 @@ use Rattle.primitives.specs.Quads.{curveOf}
 use Rattle.primitives.specs.Splines.{opensOf, sumBefore, splineEditOf}
 use Rattle.primitives.specs.Plan.{refusedOf, markedOf, planLineOf, planCurveOf, planLegsOf, planQuadOf, planOf}
 use Rattle.tables.specs.Tables.{QuadTable, quadCapacityOf, putQuad, quadRowAt, lastSplineOf}
-use Rattle.tables.specs.Run.{World, world, applyOf, pushOf, runOf}
+use Rattle.tables.specs.Run.{World, applyOf, pushOf, runOf}
 use Rattle.tables.proofs.RowLaws.{row-put, row-stays, capacity-stays}
 use Rattle.tables.proofs.Spans.{Agree}
 use Rattle.promises.specs.Layouts.{Layout, inRows, Laid, laid, applyIn, pushIn, runIn, Lawful}
@@ -49,7 +49,8 @@ module _ (setting : Setting) (caps : Capacities) (st : State) (last : SplineRow)
   tested true p q = p
   tested false p q = q refl
 
-  edit-quads : (opens : Bool) (start end : Point) (sum : Float) (quads : ℕ) (angle : Angle) → splineEditOf opens st last start end sum quads angle .next .quads ≡ quads
+  edit-quads : (opens : Bool) (start end : Point) (sum : Float) (quads : ℕ) (angle : Angle)
+      → splineEditOf opens st last start end sum quads angle .next .quads ≡ quads
   unfolding splineEditOf
   edit-quads true start end sum quads angle = refl
   edit-quads false start end sum quads angle = refl
@@ -109,7 +110,8 @@ module _ (Q : Type 0) (L : Layout Q) (law : Lawful L) (caps : Capacities) where
     | inr l ↦ law .others q k i row (ne-of-lt l) ∙ A i l ∙ sym (row-stays q₀ k row i (ne-of-lt l))
   ]
 
-  apply-follows : (w : World) (q : Q) → Beside w q → {e : Edit} → Planned caps (w .state) e → Follows (applyOf e (w .quads) (w .splines)) (applyIn L e q (w .splines))
+  apply-follows : (w : World) (q : Q) → Beside w q → {e : Edit} → Planned caps (w .state) e
+      → Follows (applyOf e (w .quads) (w .splines)) (applyIn L e q (w .splines))
   unfolding applyOf applyIn
   apply-follows w q B (keeps next e) =
       record { quads = q; same = refl; beside = record { rows = λ i h. B .rows i (lt-of-lt-of-le h (le-of-eq e)); own = B .own; other = B .other } }
@@ -129,7 +131,8 @@ module _ (Q : Type 0) (L : Layout Q) (law : Lawful L) (caps : Capacities) where
             };
       }
 
-  push-follows : (setting : Setting) (p : Primitive) (w : World) (q : Q) → Beside w q → Follows (pushOf setting caps p w) (pushIn L setting caps p (laid (w .state) q (w .splines)))
+  push-follows : (setting : Setting) (p : Primitive) (w : World) (q : Q) → Beside w q
+      → Follows (pushOf setting caps p w) (pushIn L setting caps p (laid (w .state) q (w .splines)))
   unfolding pushOf pushIn
   push-follows setting p w q B = apply-follows w q B (planned setting caps (w .state) (lastSplineOf (w .splines) (w .state .splines)) p)
 
@@ -159,11 +162,13 @@ apply-rows (Keep st) w = refl
 apply-rows (Extend edit) w = refl
 apply-rows (Bend edit i row) w = refl
 
-pub run-rows : (setting : Setting) (caps : Capacities) (ps : List Primitive) (w : World) → runIn inRows setting caps ps (laidOf w) ≡ laidOf (runOf setting caps ps w)
+pub run-rows : (setting : Setting) (caps : Capacities) (ps : List Primitive) (w : World)
+    → runIn inRows setting caps ps (laidOf w) ≡ laidOf (runOf setting caps ps w)
 unfolding runIn runOf pushIn pushOf
 run-rows setting caps [] w = refl
 run-rows setting caps (p ∷ ps) w =
-    ap (runIn inRows setting caps ps) (step (isDone (w .state .answer))) ∙ run-rows setting caps ps (cond (isDone (w .state .answer)) (pushOf setting caps p w) w)
+    ap (runIn inRows setting caps ps) (step (isDone (w .state .answer)))
+    ∙ run-rows setting caps ps (cond (isDone (w .state .answer)) (pushOf setting caps p w) w)
   where
     step : (b : Bool) → cond b (pushIn inRows setting caps p (laidOf w)) (laidOf w) ≡ laidOf (cond b (pushOf setting caps p w) w)
     step true = apply-rows _ w

@@ -1,8 +1,9 @@
--- Over sound tables the walk and its points read the rows in use and no other, so rows that agree there give the same walk and the same outputs. Assumes nothing.
+-- Over sound tables the walk and its points read the rows in use and no other: rows that agree there give the same walk and the same outputs. Assumes
+-- nothing.
 use Prim.Native.Nat.{ℕ, zero, suc, _+_, _-_, _≤_, _<_, zero-le, suc-le-suc}
 use mathlib.Core.Path.{_≡_, refl, sym, ap, ap₂, _∙_, subst}
-use mathlib.Core.Logic.{_⊎_, inl, inr}
-use mathlib.Core.Bool.{Bool, false, cond}
+use mathlib.Core.Logic.{inl, inr}
+use mathlib.Core.Bool.{false, cond}
 use mathlib.Core.List.{List, [], _∷_, _++_, map}
 use native.Mathlib.Nat.{le-trans, le-of-eq, lt-of-lt-of-le, lt-of-le-of-lt, sub-le, zero-add}
 use native.Mathlib.Numerals.{suc-eq-add-one}
@@ -22,7 +23,8 @@ use Rattle.tables.specs.Run.{World}
 use Rattle.tables.proofs.RunningSums.{Sum, Up}
 use Rattle.tables.proofs.Spans.{Agree, sumAt}
 use Rattle.tables.proofs.Sound.{Sound, cut-le}
-use Rattle.walk.specs.Walk.{Item, item, subdivisionsOf, stepSizeOf, startsOf, cursorAtOf, cursorAt, stepsFrom, cursorFrom, cursorAfter, splineItemsOf, walkFrom, walkOf, wordsOf}
+use Rattle.walk.specs.Walk.{Item, item, subdivisionsOf, stepSizeOf, startsOf, cursorAtOf, cursorAt, stepsFrom, cursorFrom, cursorAfter}
+use Rattle.walk.specs.Walk.{splineItemsOf, walkFrom, walkOf, wordsOf}
 use Rattle.evaluate.specs.declared.StepQuad.{StepQuad}
 use Rattle.evaluate.specs.Evaluate.{Finished, finished, previousSumOf, stepQuadOf, stepPointOf, commandPointOf, itemPointOf, pointsOf}
 use Rattle.evaluate.specs.Output.{Output, output, over, writeOutput}
@@ -60,7 +62,8 @@ module _ (rows rows' : ℕ → QuadRow) (l m : ℕ) (S : Sum (sumAt rows l)) (U 
       ∙ from-same n (p + 1) (cursorAt rows p c) (cursor-under rows l m S U p c h (first p n k)) (rest p n k)
 
 -- ---- the walk over sound tables, with rows' for those of the table
-module _ (setting : Setting) (caps : Capacities) (w : World) (S : Sound caps w) (rows' : ℕ → QuadRow) (A : Agree (quadRowAt (w .quads)) rows' (w .state .quads)) where
+module _ (setting : Setting) (caps : Capacities) (w : World) (S : Sound caps w) (rows' : ℕ → QuadRow)
+    (A : Agree (quadRowAt (w .quads)) rows' (w .state .quads)) where
   abbrev rows : ℕ → QuadRow
   rows = quadRowAt (w .quads)
 
@@ -140,7 +143,8 @@ module _ (setting : Setting) (caps : Capacities) (w : World) (S : Sound caps w) 
   step-quad-same : (i : ℕ) → i < w .state .quads → stepQuadOf rows' i ≡ stepQuadOf rows i
   step-quad-same i h = rw (previous-same i h, A i h)
 
-  command-same : (command : PointCommand) (p i : ℕ) → (T (isStep command) → i < w .state .quads) → commandPointOf rows' s command p i ≡ commandPointOf rows s command p i
+  command-same : (command : PointCommand) (p i : ℕ) → (T (isStep command) → i < w .state .quads)
+      → commandPointOf rows' s command p i ≡ commandPointOf rows s command p i
   unfolding commandPointOf
   command-same (Start k) p i u = refl
   command-same (Incr size) p i u = ap (λ (quad : StepQuad). finished (stepPointOf quad size p) false) (step-quad-same i (u tt))

@@ -1,5 +1,5 @@
 -- Both layouts of the quad table give the same: answer and counts, spline table, words and points, and every row in use, on each answer. Assumes nothing.
-use Prim.Native.Nat.{ℕ, _<_}
+use Prim.Native.Nat.{ℕ}
 use mathlib.Core.Path.{_≡_, refl, sym, ap, _∙_, subst}
 use mathlib.Core.Bool.{Bool, true, false, cond}
 use mathlib.Core.List.{List}
@@ -10,11 +10,11 @@ use Rattle.answer.specs.Number.{isDone}
 use Rattle.primitives.specs.declared.Primitive.{Primitive}
 use Rattle.store.specs.Drawable.{drawableOf}
 use Rattle.tables.specs.Tables.{QuadTable, quadCapacityOf, splineCapacityOf, capacitiesOf, quadRowAt}
-use Rattle.tables.specs.Run.{World, world, startState}
+use Rattle.tables.specs.Run.{world, startState}
 use Rattle.tables.specs.Commands.{primitivesOf, tablesOf}
 use Rattle.tables.proofs.Spans.{Agree}
 use Rattle.walk.specs.Walk.{Item}
-use Rattle.evaluate.specs.Output.{Output, fitsOutput}
+use Rattle.evaluate.specs.Output.{fitsOutput}
 use Rattle.flatten.specs.Flatten.{flattened, walked, tabled, flattenDrawable, flattenOf}
 use Rattle.promises.specs.Accepted.{Job}
 use Rattle.promises.specs.Layouts.{Layout, inRows, inColumns, Laid, laid, Flat, flat, runIn, tablesIn, walkedIn, tabledIn, flattenIn}
@@ -47,7 +47,8 @@ module _ (job : Job) where
   rows-walked true = refl
   rows-walked false = refl
 
-  rows-tabled : (b : Bool) → tabledIn inRows (job .setting) b (laidOf (worldOf job)) (job .output) ≡ flatOf (tabled (job .setting) b (worldOf job) (job .output))
+  rows-tabled : (b : Bool)
+      → tabledIn inRows (job .setting) b (laidOf (worldOf job)) (job .output) ≡ flatOf (tabled (job .setting) b (worldOf job) (job .output))
   unfolding tabledIn tabled
   rows-tabled true = rows-walked (fitsOutput (length items) (job .output))
   rows-tabled false = refl

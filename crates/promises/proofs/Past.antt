@@ -1,29 +1,25 @@
 -- A run writes below its counts alone, and so does a walk that is delivered: every entry past them is as it was. Assumes nothing.
-use Prim.Native.Nat.{ℕ, suc, _+_, _-_, _*_, _≤_, _<_}
-use mathlib.Core.Path.{_≡_, refl, sym, ap, _∙_, subst}
+use Prim.Native.Nat.{ℕ, _+_, _-_, _≤_, _<_}
+use mathlib.Core.Path.{_≡_, refl, sym, ap, _∙_}
 use mathlib.Core.Logic.{_≢_}
 use mathlib.Core.Bool.{Bool, true, false, cond}
 use mathlib.Core.List.{List, [], _∷_, _++_}
 use native.Mathlib.Nat.{le-refl, le-add-right}
 use native.Mathlib.Omega.{arith}
-use lib.Ieee.{Float}
 use lib.ListN.{length, getD, set, drop, length-set, length-append, length-drop}
 use lib.Seq.{getD-set-other, getD-append-add, getD-drop}
 use native.Mathlib.Numerals.{lt-add-one}
 use Rattle.columns.specs.Flags.{flagByteOf}
 use Rattle.answer.specs.Number.{isDone}
-use Rattle.point.specs.declared.Point.{Point}
-use Rattle.point.specs.declared.Angle.{Angle}
 use Rattle.primitives.specs.declared.SplineEdit.{SplineEdit}
 use Rattle.point.specs.declared.Setting.{Setting}
 use Rattle.primitives.specs.declared.Capacities.{Capacities}
 use Rattle.primitives.specs.declared.Primitive.{Primitive}
-use Rattle.primitives.specs.declared.State.{State}
 use Rattle.primitives.specs.Splines.{splineEditOf}
 use Rattle.primitives.specs.Plan.{refusedOf, markedOf}
 use Rattle.tables.specs.Tables.{QuadTable, SplineTable, clearFlag, putSpline}
 use Rattle.tables.specs.Past.{Past, QuadsPast, SplinesPast}
-use Rattle.tables.specs.Run.{World, world, applyOf, pushOf, runOf}
+use Rattle.tables.specs.Run.{World, applyOf, pushOf, runOf}
 use Rattle.tables.proofs.RowLaws.{past-self, put-past}
 use Rattle.tables.proofs.Pushes.{Pushed, kept, marked, lined, bent, pushed}
 use Rattle.tables.proofs.Sound.{Sound, sound-push, pred-lt}

@@ -27,7 +27,10 @@ use Rattle.listing.specs.declared.Listed.the-variants.{Bytes, Short}
 use Rattle.listing.specs.Reading.{Fields, read, wrong, pairFields, twoPointsFields, threePointsFields, Progress, going, finished, stopped, progressOf}
 use Rattle.listing.specs.Writing.{Listing, listed, listedAs}
 use Rattle.listing.specs.Program.{listingOf}
-use Rattle.promises.specs.Settled.{Settles, ValueSettled, ResultAndKeptSettled, ColumnsSettled, QuadsSettled, SplinesSettled, OutputSettled, DrawnSettled, TablesSettled, DeliveredSettled, FlattenSettled, ReplySettled, FlatReplySettled, ListingSettled, Lists, ListingLists, PairSettled, TwoPointsSettled, ThreePointsSettled, HasStopped, has-stopped, ReadSettled}
+use Rattle.promises.specs.Settled.{Settles, ValueSettled, ResultAndKeptSettled, ColumnsSettled, QuadsSettled, SplinesSettled, OutputSettled}
+use Rattle.promises.specs.Settled.{DrawnSettled, TablesSettled, DeliveredSettled, FlattenSettled, ReplySettled, FlatReplySettled}
+use Rattle.promises.specs.Settled.{ListingSettled, Lists, ListingLists, PairSettled, TwoPointsSettled, ThreePointsSettled, HasStopped}
+use Rattle.promises.specs.Settled.{has-stopped, ReadSettled}
 
 -- a form settles an outcome if the outcome's parts can be found again in what the form puts together
 told : {A D : Type 0} (form : A → D) (back : D → A) → ((a : A) → back (form a) ≡ a) → Settles form

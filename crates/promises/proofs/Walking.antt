@@ -97,12 +97,16 @@ module _ (rows : ℕ → QuadRow) (s : SplineTable) where
   piece-at setting inv (suc n) k cursor h step zero l =
       record {
         cursor = cursor;
-        is = ap (λ (x : List (List Item)). getD x 0 []) (cut-spline k cursor (walkFrom setting rows s n (k + 1) (cursorAfter rows s k cursor))) ∙ ap (λ (x : ℕ). splineItemsOf rows s x cursor) (sym (add-zero k));
+        is =
+            ap (λ (x : List (List Item)). getD x 0 []) (cut-spline k cursor (walkFrom setting rows s n (k + 1) (cursorAfter rows s k cursor)))
+            ∙ ap (λ (x : ℕ). splineItemsOf rows s x cursor) (sym (add-zero k));
         holds = subst (λ (x : ℕ). inv x cursor) (sym (add-zero k)) h;
       }
   piece-at setting inv (suc n) k cursor h step (suc i) l =
       let c = cursorAfter rows s k cursor in
-      let z = piece-at setting inv n (k + 1) c (subst (λ (x : ℕ). inv x c) (suc-eq-add-one k) (step k cursor (far k n) h)) (λ j d m. step j d (lt-of-lt-of-le m (le-of-eq (shift-one k n)))) i (le-of-suc-le-suc l) in
+      let z =
+      piece-at setting inv n (k + 1) c (subst (λ (x : ℕ). inv x c) (suc-eq-add-one k) (step k cursor (far k n) h))
+      (λ j d m. step j d (lt-of-lt-of-le m (le-of-eq (shift-one k n)))) i (le-of-suc-le-suc l) in
       record {
         cursor = z .cursor;
         is = ap (λ (x : List (List Item)). getD x (suc i) []) (cut-spline k cursor (walkFrom setting rows s n (k + 1) c)) ∙ z .is ∙ ap (λ (x : ℕ). splineItemsOf rows s x (z .cursor)) (shift-one k i);
@@ -127,7 +131,8 @@ module _ (rows : ℕ → QuadRow) (s : SplineTable) where
   piece-commands k cursor =
       map-append (cond (startsOf s k) (item (Start k) 0 0 ∷ []) []) _
       ∙ ap₂ (λ (x y : List PointCommand). x ++ y) (start (startsOf s k))
-      (map-append (stepsFrom rows (stepSizeOf s k) (stepsOf s k) 1 cursor) _ ∙ ap (λ (x : List PointCommand). x ++ (End k (splineAt s k .contour) ∷ [])) (steps-commands (stepSizeOf s k) (stepsOf s k) 1 cursor))
+      (map-append (stepsFrom rows (stepSizeOf s k) (stepsOf s k) 1 cursor) _
+      ∙ ap (λ (x : List PointCommand). x ++ (End k (splineAt s k .contour) ∷ [])) (steps-commands (stepSizeOf s k) (stepsOf s k) 1 cursor))
     where
       start : (b : Bool) → map commandOf (cond b (item (Start k) 0 0 ∷ []) []) ≡ cond b (Start k ∷ []) []
       start true = refl
@@ -162,7 +167,8 @@ module _ (caps : Capacities) (w : World) (S : Sound caps w) (limit : caps .splin
   unfolding splineItemsOf
   spline-packed k cursor h =
       all-append Packed (cond (startsOf (w .splines) k) (item (Start k) 0 0 ∷ []) []) _ (start (startsOf (w .splines) k))
-      (all-append Packed (stepsFrom (quadRowAt (w .quads)) (stepSizeOf (w .splines) k) (stepsOf (w .splines) k) 1 cursor) _ (steps-packed (stepSizeOf (w .splines) k) (stepsOf (w .splines) k) 1 cursor (step-packs k h)) (index k h, tt))
+      (all-append Packed (stepsFrom (quadRowAt (w .quads)) (stepSizeOf (w .splines) k) (stepsOf (w .splines) k) 1 cursor) _
+      (steps-packed (stepSizeOf (w .splines) k) (stepsOf (w .splines) k) 1 cursor (step-packs k h)) (index k h, tt))
     where
       start : (b : Bool) → All Packed (cond b (item (Start k) 0 0 ∷ []) [])
       start true = (index k h, tt)

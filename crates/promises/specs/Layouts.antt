@@ -1,5 +1,6 @@
--- Request Eleven: "Show that both layouts give the same words and points for every drawing at equal capacities." The older layout, which has a column for each number of
--- a quad, and a flattening that is told how the quad table lies. It reads the table by whole rows alone, as the plan, the walk and the points do. Assumes nothing.
+-- Request Eleven: "Show that both layouts give the same words and points for every drawing at equal capacities." The older layout, which has a column for
+-- each number of a quad, and a flattening that is told how the quad table lies. It reads the table by whole rows alone, as the walk and the points do; the plan
+-- reads none of it. Assumes nothing.
 use Prim.Native.Nat.{ℕ, _+_, _*_, _/_, _<_, min}
 use mathlib.Core.Path.{_≡_}
 use mathlib.Core.Logic.{_≢_}
@@ -148,7 +149,9 @@ walkedIn L true w items o =
 
 unfoldable pub tabledIn : {Q : Type 0} → Layout Q → Setting → Bool → Laid Q → Output → Flat Q
 tabledIn L setting false w o = flat (flattened (w .state .answer) (w .state .splines) (w .state .quads) 0) (w .quads) (w .splines) o
-tabledIn L setting true w o = let items = walkOf setting (L .row (w .quads)) (w .splines) (w .state .splines) in walkedIn L (fitsOutput (length items) o) w items o
+tabledIn L setting true w o =
+    let items = walkOf setting (L .row (w .quads)) (w .splines) (w .state .splines) in
+    walkedIn L (fitsOutput (length items) o) w items o
 
 unfoldable pub flattenIn : {Q : Type 0} → Layout Q → Setting → StoreState → Columns → Q → SplineTable → Output → Flat Q
 flattenIn L setting st c q s o =
@@ -173,7 +176,9 @@ flatOf f = flat (f .result) (f .quads) (f .splines) (f .output)
 
 -- "for every drawing at equal capacities", on every answer; whatever the tables held
 abbrev pub BothLayouts : Type 0
-BothLayouts = (job : Job) (q : QuadColumns) → columnsCapacityOf q ≡ quadCapacityOf (job .quads) → Same inRows inColumns (flatOf (flatteningOf job)) (flatteningIn inColumns q job)
+BothLayouts =
+    (job : Job) (q : QuadColumns) → columnsCapacityOf q ≡ quadCapacityOf (job .quads)
+    → Same inRows inColumns (flatOf (flatteningOf job)) (flatteningIn inColumns q job)
 
 -- the flattening that is told of the rows is the library's
 abbrev pub InRows : Type 0
@@ -186,4 +191,6 @@ pub record Lawful {Q : Type 0} (L : Layout Q) : Type 0 where
   pub capacity : (q : Q) (i : ℕ) (row : QuadRow) → L .capacity (L .put q i row) ≡ L .capacity q
 
 abbrev pub AnyLayout : Type 1
-AnyLayout = (Q : Type 0) (L : Layout Q) → Lawful L → (job : Job) (q : Q) → L .capacity q ≡ quadCapacityOf (job .quads) → Same inRows L (flatOf (flatteningOf job)) (flatteningIn L q job)
+AnyLayout =
+    (Q : Type 0) (L : Layout Q) → Lawful L → (job : Job) (q : Q) → L .capacity q ≡ quadCapacityOf (job .quads)
+    → Same inRows L (flatOf (flatteningOf job)) (flatteningIn L q job)
