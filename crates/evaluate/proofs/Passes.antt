@@ -1,27 +1,29 @@
 -- The two loops that write. Their invariant: writing what is left, from here, leaves the same as writing the whole; and the place stays small. Assumes nothing.
 use Prim.Native.Nat.{ℕ, zero, suc, _+_, _-_, _*_, _≤_, _<_}
 use native.Mathlib.Omega.{arith}
-use mathlib.Core.Path.{_≡_, refl, sym, _∙_, ap, subst}
+use mathlib.Core.Path.{_≡_, refl, sym, _∙_, ap}
 use mathlib.Core.Bool.{Bool, true, false, cond}
 use lib.Dec.{eqb}
 use lib.ListN.{length}
 use lib.Ieee.{Float}
-use Rattle.command.specs.declared.PointCommand.the-variants.{Start, Incr, End}
+use Rattle.command.specs.declared.PointCommand.the-variants.{Incr, End}
 use Rattle.command.specs.Packing.{packOf}
 use Rattle.point.specs.declared.Point.{Point}
 use Rattle.point.specs.declared.Setting.{Setting}
 use Rattle.primitives.specs.declared.SplineRow.{SplineRow}
-use Rattle.tables.specs.Tables.{QuadTable, SplineTable, splineAt}
+use Rattle.primitives.specs.declared.QuadRow.{QuadRow}
+use Rattle.tables.specs.Tables.{SplineTable, splineAt}
 use Rattle.leaves.specs.Single.{whole32}
-use Rattle.walk.specs.Walk.{cursorAtOf, cursorAt, cursorFrom, cursorAfter, startsAfterOf, subdivisionsOf, splineItemsOf, walkOf}
-use Rattle.walk.specs.Length.{stepsOf, sizeOf, splineLengthOf, walkLengthOf}
+use Rattle.walk.specs.Walk.{cursorAtOf, cursorAt, cursorFrom, cursorAfter, startsAfterOf, subdivisionsOf, walkOf}
+use Rattle.walk.specs.Length.{stepsOf, sizeOf, walkLengthOf}
 use Rattle.walk.proofs.Lengths.{whole-up-bound, steps-bound, spline-length, spline-length-bound, walk-length}
 use Rattle.evaluate.specs.declared.Place.{Place}
 use Rattle.evaluate.specs.declared.StepQuad.{StepQuad}
 use Rattle.evaluate.specs.Evaluate.{finished, stepQuadOf, stepPointOf}
 use Rattle.evaluate.specs.Output.{Output, fitsOutput, writeOutput}
-use Rattle.evaluate.specs.Writing.{Written, written, placeAt, writeEntryOf, writeStartOf, writeStepsFrom, writeStepsOf, endPlaceOf, writeSplineOf, writeWalkFrom, writeWalkOf}
-use Rattle.evaluate.specs.Delivery.{Delivery, delivery, deliverOf}
+use Rattle.evaluate.specs.Writing.{Written, written, placeAt, writeEntryOf, writeStartOf, writeStepsFrom, writeStepsOf, endPlaceOf}
+use Rattle.evaluate.specs.Writing.{writeSplineOf, writeWalkFrom, writeWalkOf}
+use Rattle.evaluate.specs.Delivery.{delivery, deliverOf}
 use Rattle.evaluate.proofs.Entries.{cursor-from-bound, steps-place, spline-written, walk-written}
 
 -- outputs as long as others
@@ -37,42 +39,52 @@ same-refl = record { words = refl; x = refl; y = refl; end = refl }
 pub same-trans : {a b c : Output} → Same a b → Same b c → Same a c
 same-trans r s = record { words = r .words ∙ s .words; x = r .x ∙ s .x; y = r .y ∙ s .y; end = r .end ∙ s .end }
 
+-- what a call that writes the outputs keeps, one after the other
+pub same-kept : {A : Type 0} (o o₀ : Output)
+    → (length (o .words) ≡ length (o₀ .words))
+    × ((length (o .x) ≡ length (o₀ .x)) × ((length (o .y) ≡ length (o₀ .y)) × ((length (o .end) ≡ length (o₀ .end)) × A)))
+    → Same o o₀
+same-kept o o₀ h = record { words = h .0; x = h .1 .0; y = h .1 .1 .0; end = h .1 .1 .1 .0 }
+
 -- ---- the steps of a spline
-pub record Stepping (q : QuadTable) (size : Float) (n at₀ cursor₀ : ℕ) (o₀ o : Output) (at cursor p left : ℕ) : Type 0 where
+pub record Stepping (rows : ℕ → QuadRow) (size : Float) (n at₀ cursor₀ : ℕ) (o₀ o : Output) (at cursor p left : ℕ) : Type 0 where
   pub count : p + left ≡ n + 1
   pub room : at + left ≡ at₀ + n
   pub long : Same o o₀
-  pub same : writeStepsOf q size n (placeAt at₀ cursor₀) o₀ ≡ writeStepsFrom q size left p (placeAt at cursor) o
+  pub same : writeStepsOf rows size n (placeAt at₀ cursor₀) o₀ ≡ writeStepsFrom rows size left p (placeAt at cursor) o
 
-pub stepping-start : (q : QuadTable) (size : Float) (n at cursor : ℕ) (o : Output) → Stepping q size n at cursor o o at cursor 1 n
+pub stepping-start : {rows : ℕ → QuadRow} {size : Float} {n at cursor : ℕ} {o : Output} → Stepping rows size n at cursor o o at cursor 1 n
 unfolding writeStepsOf
-stepping-start q size n at cursor o = record { count = omega arith; room = refl; long = same-refl; same = refl }
+stepping-start = record { count = omega arith; room = refl; long = same-refl; same = refl }
 
-steps-more : (q : QuadTable) (size : Float) (left p at cursor : ℕ) (o : Output) → 0 < left
-    → writeStepsFrom q size left p (placeAt at cursor) o
-    ≡ writeStepsFrom q size (left - 1) (p + 1) (placeAt (at + 1) (cursorAt q p cursor))
-    (writeEntryOf at (packOf (Incr size)) (finished (stepPointOf (stepQuadOf q (cursorAt q p cursor)) size p) false) o)
+steps-more : (rows : ℕ → QuadRow) (size : Float) (left p at cursor : ℕ) (o : Output) → 0 < left
+    → writeStepsFrom rows size left p (placeAt at cursor) o
+    ≡ writeStepsFrom rows size (left - 1) (p + 1) (placeAt (at + 1) (cursorAt rows p cursor))
+    (writeEntryOf at (packOf (Incr size)) (finished (stepPointOf (stepQuadOf rows (cursorAt rows p cursor)) size p) false) o)
 unfolding writeStepsFrom
-steps-more q size zero p at cursor o h = absurd (let z : _≡_ {A = ℕ} 0 1 = omega arith in omega arith)
-steps-more q size (suc n) p at cursor o h = let e : suc n - 1 ≡ n = omega arith in rw e
+steps-more rows size zero p at cursor o h = absurd (let z : _≡_ {A = ℕ} 0 1 = omega arith in omega arith)
+steps-more rows size (suc n) p at cursor o h = let e : suc n - 1 ≡ n = omega arith in rw e
 
-module _ (q : QuadTable) (size : Float) (n at₀ cursor₀ : ℕ) (o₀ o : Output) (at cursor p left : ℕ) (g : Stepping q size n at₀ cursor₀ o₀ o at cursor p left) where
-  pub stepping-more : (cursor' : ℕ) (quad : StepQuad) (point : Point) (word : ℕ) (o' : Output) → 0 < left
-      → cursor' ≡ cursorAtOf (q .partial-curvatures) (whole32 p) cursor → quad ≡ stepQuadOf q cursor' → point ≡ stepPointOf quad size p → word ≡ packOf (Incr size)
+module _
+    {rows : ℕ → QuadRow} {size : Float} {n at₀ cursor₀ : ℕ} {o₀ o : Output} {at cursor p left : ℕ}
+    (g : Stepping rows size n at₀ cursor₀ o₀ o at cursor p left) where
+  pub stepping-more : {cursor' : ℕ} {quad : StepQuad} {point : Point} {word : ℕ} {o' : Output} → 0 < left
+      → cursor' ≡ cursorAtOf (rows cursor .«partial_curvature») (whole32 p) cursor → quad ≡ stepQuadOf rows cursor'
+      → point ≡ stepPointOf quad size p → word ≡ packOf (Incr size)
       → o' ≡ writeEntryOf at word (finished point false) o → Same o' o
-      → Stepping q size n at₀ cursor₀ o₀ o' (at + 1) cursor' (p + 1) (left - 1)
+      → Stepping rows size n at₀ cursor₀ o₀ o' (at + 1) cursor' (p + 1) (left - 1)
   unfolding cursorAt
-  stepping-more cursor' quad point word o' h ec eq ep ew eo l =
+  stepping-more h ec eq ep ew eo l =
       record {
         count = let w = g .count in omega arith;
         room = let w = g .room in omega arith;
         long = same-trans l (g .long);
-        same = g .same ∙ steps-more q size left p at cursor o h ∙ rw (eo, ew, ep, eq, ec);
+        same = g .same ∙ steps-more rows size left p at cursor o h ∙ rw (eo, ew, ep, eq, ec);
       }
 
-  pub stepping-end : left ≤ 0 → written o (placeAt at cursor) ≡ writeStepsOf q size n (placeAt at₀ cursor₀) o₀
+  pub stepping-end : left ≤ 0 → written o (placeAt at cursor) ≡ writeStepsOf rows size n (placeAt at₀ cursor₀) o₀
   unfolding writeStepsFrom
-  stepping-end h = let e : left ≡ 0 = omega arith in sym (g .same ∙ ap (λ (m : ℕ). writeStepsFrom q size m p (placeAt at cursor) o) e)
+  stepping-end h = let e : left ≡ 0 = omega arith in sym (g .same ∙ ap (λ (m : ℕ). writeStepsFrom rows size m p (placeAt at cursor) o) e)
 
 -- ---- one spline
 pub few : (n : ℕ) (sum : Float) → n ≡ stepsOf sum → n ≤ 65536
@@ -88,100 +100,104 @@ start-place k last row from to o₀ o e = go (startsAfterOf k last row) _ e
     go true o' h = let a = ap (λ (w : Written). w .place .at) h in (omega arith, ap (λ (w : Written). w .place .cursor) h)
     go false o' h = let a = ap (λ (w : Written). w .place .at) h in (omega arith, ap (λ (w : Written). w .place .cursor) h)
 
-pub end-place : (q : QuadTable) (size : Float) (n : ℕ) (from start to : Place) (o₀ o : Output) → n ≤ 65536
+pub end-place : (rows : ℕ → QuadRow) (size : Float) (n : ℕ) (from start to : Place) (o₀ o : Output) → n ≤ 65536
     → (from .at ≤ 0x4000_0000_0000_0000) × (from .cursor ≤ 0x4000_0000_0000_0000)
     → (start .at ≤ from .at + 1) × (start .cursor ≡ from .cursor)
-    → written o to ≡ writeStepsOf q size n start o₀
+    → written o to ≡ writeStepsOf rows size n start o₀
     → (to .at ≤ 0x4000_0000_0002_0000) × (to .cursor ≤ 0x4000_0000_0002_0000)
 unfolding writeStepsOf
-end-place q size n from start to o₀ o h f g e =
-    let p = ap (λ (w : Written). w .place) e ∙ steps-place q size n 1 start o₀ in
+end-place rows size n from start to o₀ o h f g e =
+    let p = ap (λ (w : Written). w .place) e ∙ steps-place rows size n 1 start o₀ in
     let a = ap (λ (x : Place). x .at) p in
     let c = ap (λ (x : Place). x .cursor) p in
-    let b = cursor-from-bound q n 1 (start .cursor) in
+    let b = cursor-from-bound rows n 1 (start .cursor) in
     (omega (arith, f .0, g .0), omega (arith, f .1, g .1))
 
-pub spline-passes : (q : QuadTable) (k : ℕ) (last row : SplineRow) (from start to r : Place) (o₀ o₁ o₂ o₃ : Output) (size : Float) (n word : ℕ)
+pub spline-passes : (rows : ℕ → QuadRow) (k : ℕ) (last row : SplineRow) (from start to r : Place) (o₀ o₁ o₂ o₃ : Output) (size : Float) (n word : ℕ)
     → written o₁ start ≡ writeStartOf k last row from o₀
     → size ≡ sizeOf (row .curvature)
     → n ≡ stepsOf (row .curvature)
-    → written o₂ to ≡ writeStepsOf q size n start o₁
+    → written o₂ to ≡ writeStepsOf rows size n start o₁
     → word ≡ packOf (End k (row .contour))
     → o₃ ≡ writeEntryOf (to .at) word (finished (row .p2) (row .contour)) o₂
     → r ≡ endPlaceOf (row .curvature) to
-    → written o₃ r ≡ writeSplineOf q k last row from o₀
+    → written o₃ r ≡ writeSplineOf rows k last row from o₀
 unfolding writeSplineOf
-spline-passes q k last row from start to r o₀ o₁ o₂ o₃ size n word hs hz hn ht hw ho hr = rw (← hs, ← hz, ← hn, ← ht, ← hw, ← ho, ← hr)
+spline-passes rows k last row from start to r o₀ o₁ o₂ o₃ size n word hs hz hn ht hw ho hr = rw (← hs, ← hz, ← hn, ← ht, ← hw, ← ho, ← hr)
 
 -- ---- all splines
-pub record Walking (q : QuadTable) (s : SplineTable) (n : ℕ) (o₀ o : Output) (last : SplineRow) (place : Place) (k left : ℕ) : Type 0 where
+pub record Walking (rows : ℕ → QuadRow) (s : SplineTable) (n : ℕ) (o₀ o : Output) (last : SplineRow) (place : Place) (k left : ℕ) : Type 0 where
   pub within : k + left ≡ n
   pub entry : place .at ≤ 65538 * k
   pub cursor : place .cursor ≤ 65538 * k
   pub before : last ≡ splineAt s (k - 1)
   pub long : Same o o₀
-  pub same : writeWalkOf q s n o₀ ≡ writeWalkFrom q s left k place o
+  pub same : writeWalkOf rows s n o₀ ≡ writeWalkFrom rows s left k place o
 
-pub walking-start : (q : QuadTable) (s : SplineTable) (n : ℕ) (o : Output) (last : SplineRow) → last ≡ splineAt s 0 → Walking q s n o o last (placeAt 0 0) 0 n
+pub walking-start : {rows : ℕ → QuadRow} {s : SplineTable} {n : ℕ} {o : Output} {last : SplineRow}
+    → last ≡ splineAt s 0 → Walking rows s n o o last (placeAt 0 0) 0 n
 unfolding writeWalkOf
-walking-start q s n o last e = record { within = omega arith; entry = omega arith; cursor = omega arith; before = e; long = same-refl; same = refl }
+walking-start e = record { within = omega arith; entry = omega arith; cursor = omega arith; before = e; long = same-refl; same = refl }
 
-after-bound : (q : QuadTable) (s : SplineTable) (k cursor : ℕ) → cursorAfter q s k cursor ≤ cursor + 65537
+after-bound : (rows : ℕ → QuadRow) (s : SplineTable) (k cursor : ℕ) → cursorAfter rows s k cursor ≤ cursor + 65537
 unfolding cursorAfter subdivisionsOf
-after-bound q s k cursor =
+after-bound rows s k cursor =
     let m = subdivisionsOf s k in
     let h : m ≤ 65537 = whole-up-bound (splineAt s k .curvature) in
-    go (eqb m 0) m (cursorFrom q (m - 1) 1 cursor) h (cursor-from-bound q (m - 1) 1 cursor)
+    go (eqb m 0) m (cursorFrom rows (m - 1) 1 cursor) h (cursor-from-bound rows (m - 1) 1 cursor)
   where
     go : (b : Bool) (m c : ℕ) → m ≤ 65537 → c ≤ cursor + (m - 1) → cond b cursor (c + 1) ≤ cursor + 65537
     go true m c h l = omega arith
     go false m c h l = omega arith
 
-walk-more : (q : QuadTable) (s : SplineTable) (left k : ℕ) (from : Place) (o : Output) → 0 < left
-    → writeWalkFrom q s left k from o
-    ≡ writeWalkFrom q s (left - 1) (k + 1) (writeSplineOf q k (splineAt s (k - 1)) (splineAt s k) from o .place)
-    (writeSplineOf q k (splineAt s (k - 1)) (splineAt s k) from o .output)
+walk-more : (rows : ℕ → QuadRow) (s : SplineTable) (left k : ℕ) (from : Place) (o : Output) → 0 < left
+    → writeWalkFrom rows s left k from o
+    ≡ writeWalkFrom rows s (left - 1) (k + 1) (writeSplineOf rows k (splineAt s (k - 1)) (splineAt s k) from o .place)
+    (writeSplineOf rows k (splineAt s (k - 1)) (splineAt s k) from o .output)
 unfolding writeWalkFrom
-walk-more q s zero k from o h = absurd (let z : _≡_ {A = ℕ} 0 1 = omega arith in omega arith)
-walk-more q s (suc n) k from o h = let e : suc n - 1 ≡ n = omega arith in rw e
+walk-more rows s zero k from o h = absurd (let z : _≡_ {A = ℕ} 0 1 = omega arith in omega arith)
+walk-more rows s (suc n) k from o h = let e : suc n - 1 ≡ n = omega arith in rw e
 
-module _ (q : QuadTable) (s : SplineTable) (n : ℕ) (o₀ o : Output) (last : SplineRow) (place : Place) (k left : ℕ) (g : Walking q s n o₀ o last place k left) where
-  pub walking-more : (row : SplineRow) (place' : Place) (o' : Output) → 0 < left
-      → row ≡ splineAt s k → written o' place' ≡ writeSplineOf q k last row place o → Same o' o
-      → Walking q s n o₀ o' row place' (k + 1) (left - 1)
-  walking-more row place' o' h hr hw l =
+module _
+    {rows : ℕ → QuadRow} {s : SplineTable} {n : ℕ} {o₀ o : Output} {last : SplineRow} {place : Place} {k left : ℕ}
+    (g : Walking rows s n o₀ o last place k left) where
+  pub walking-more : {row : SplineRow} {place' : Place} {o' : Output} → 0 < left
+      → row ≡ splineAt s k → written o' place' ≡ writeSplineOf rows k last row place o → Same o' o
+      → Walking rows s n o₀ o' row place' (k + 1) (left - 1)
+  walking-more {row} {place'} {o'} h hr hw l =
       let e : k + 1 - 1 ≡ k = omega arith in
-      let w : written o' place' ≡ writeSplineOf q k (splineAt s (k - 1)) (splineAt s k) place o = rw (← g .before, ← hr) hw in
-      let p = ap (λ (x : Written). x .place) (w ∙ spline-written q s k place o) in
+      let w : written o' place' ≡ writeSplineOf rows k (splineAt s (k - 1)) (splineAt s k) place o = rw (← g .before, ← hr) hw in
+      let p = ap (λ (x : Written). x .place) (w ∙ spline-written rows s k place o) in
       let pa = ap (λ (x : Place). x .at) p in
       let pc = ap (λ (x : Place). x .cursor) p in
-      let la = spline-length q s k (place .cursor) in
+      let la = spline-length rows s k (place .cursor) in
       let lb = spline-length-bound k (splineAt s (k - 1)) (splineAt s k) in
-      let lc = after-bound q s k (place .cursor) in
+      let lc = after-bound rows s k (place .cursor) in
       record {
         within = let x = g .within in omega arith;
         entry = let x = g .entry in omega arith;
         cursor = let x = g .cursor in omega arith;
         before = rw e hr;
         long = same-trans l (g .long);
-        same = g .same ∙ walk-more q s left k place o h ∙ rw (← w);
+        same = g .same ∙ walk-more rows s left k place o h ∙ rw (← w);
       }
 
-  pub walking-end : left ≤ 0 → o ≡ writeWalkOf q s n o₀
+  pub walking-end : left ≤ 0 → o ≡ writeWalkOf rows s n o₀
   unfolding writeWalkFrom
-  walking-end h = let e : left ≡ 0 = omega arith in sym (g .same ∙ ap (λ (m : ℕ). writeWalkFrom q s m k place o) e)
+  walking-end h = let e : left ≡ 0 = omega arith in sym (g .same ∙ ap (λ (m : ℕ). writeWalkFrom rows s m k place o) e)
 
 -- ---- the length tested, then all written
-module _ (setting : Setting) (q : QuadTable) (s : SplineTable) (n len : ℕ) (o : Output) (hl : len ≡ walkLengthOf s n) where
-  counted : length (walkOf setting q s n) ≡ len
-  counted = walk-length setting q s n ∙ sym hl
+module _ (setting : Setting) (rows : ℕ → QuadRow) (s : SplineTable) (n len : ℕ) (o : Output) (hl : len ≡ walkLengthOf s n) where
+  counted : length (walkOf setting rows s n) ≡ len
+  counted = walk-length setting rows s n ∙ sym hl
 
-  pub delivered-not : fitsOutput len o ≡ false → delivery false 0 o ≡ deliverOf setting q s n o
+  pub delivered-not : fitsOutput len o ≡ false → delivery false 0 o ≡ deliverOf setting rows s n o
   unfolding deliverOf
   delivered-not h = rw (counted, h)
 
-  pub delivered : (o' : Output) → fitsOutput len o ≡ true → o' ≡ writeWalkOf q s n o → delivery true len o' ≡ deliverOf setting q s n o
+  pub delivered : (o' : Output) → fitsOutput len o ≡ true → o' ≡ writeWalkOf rows s n o → delivery true len o' ≡ deliverOf setting rows s n o
   unfolding deliverOf
   delivered o' h e =
-      let f : fitsOutput (length (walkOf setting q s n)) o ≡ true = ap (λ (m : ℕ). fitsOutput m o) counted ∙ h in
-      rw f (ap (λ (x : Output). delivery true len x) (e ∙ walk-written setting q s n o f) ∙ ap (λ (m : ℕ). delivery true m (writeOutput q s (walkOf setting q s n) o)) (sym counted))
+      let f : fitsOutput (length (walkOf setting rows s n)) o ≡ true = ap (λ (m : ℕ). fitsOutput m o) counted ∙ h in
+      let o'' = writeOutput rows s (walkOf setting rows s n) o in
+      rw f (ap (λ (x : Output). delivery true len x) (e ∙ walk-written setting rows s n o f) ∙ ap (λ (m : ℕ). delivery true m o'') (sym counted))

@@ -3,11 +3,11 @@ use Prim.Native.Nat.{ℕ}
 use mathlib.Core.Bool.{Bool, true, false, cond}
 use lib.ListN.{length}
 use Rattle.point.specs.declared.Setting.{Setting}
+use Rattle.primitives.specs.declared.QuadRow.{QuadRow}
 use Rattle.tables.specs.Tables.{SplineTable}
 use Rattle.walk.specs.Walk.{walkOf}
 use Rattle.evaluate.specs.declared.Delivered.{Delivered}
 use Rattle.evaluate.specs.Output.{Output, fitsOutput, writeOutput}
-use Rattle.primitives.specs.declared.QuadRow.{QuadRow}
 
 -- whether the walk fits and how long it is, with the outputs
 pub record Delivery : Type 0 where

@@ -1,20 +1,19 @@
 -- RULES, Points: "Points follow `into_segments`". Assumes nothing.
-use Prim.Native.Nat.{ℕ, _+_, _-_, _*_}
+use Prim.Native.Nat.{ℕ, _-_}
 use mathlib.Core.Bool.{Bool, false, _&&_, cond}
 use mathlib.Core.List.{List, map}
 use lib.Dec.{leb, eqb}
-use lib.Ieee.{Float, nan, neg}
-use lib.ListN.{getD}
+use lib.Ieee.{Float, neg}
 use Rattle.leaves.specs.Single.{_⊖_, _⊗_, zero32, one32, whole32}
 use Rattle.leaves.specs.Fma.{fma32}
 use Rattle.leaves.specs.Small.{clampOf}
 use Rattle.point.specs.declared.Point.{Point}
-use Rattle.point.specs.declared.WeightedPoint.{WeightedPoint}
 use Rattle.point.specs.Point.{pointAt, weighted}
 use Rattle.point.specs.Curve.{invCurvatureOf, evalQuadOf}
 use Rattle.command.specs.declared.PointCommand.{PointCommand}
 use Rattle.command.specs.declared.PointCommand.the-variants.{Start, Incr, End}
-use Rattle.tables.specs.Tables.{QuadTable, SplineTable, splineAt}
+use Rattle.primitives.specs.declared.QuadRow.{QuadRow}
+use Rattle.tables.specs.Tables.{SplineTable, splineAt}
 use Rattle.walk.specs.Walk.{Item}
 use Rattle.evaluate.specs.declared.StepQuad.{StepQuad}
 

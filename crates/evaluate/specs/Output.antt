@@ -6,10 +6,10 @@ use lib.Dec.{leb}
 use lib.Ieee.{Float}
 use lib.ListN.{length, drop}
 use Rattle.columns.specs.Flags.{flagByteOf}
+use Rattle.primitives.specs.declared.QuadRow.{QuadRow}
 use Rattle.tables.specs.Tables.{SplineTable}
 use Rattle.walk.specs.Walk.{Item, wordsOf}
 use Rattle.evaluate.specs.Evaluate.{pointsOf}
-use Rattle.primitives.specs.declared.QuadRow.{QuadRow}
 
 -- the words and the outputs: x, y, and 1 for a flagged End
 pub record Output : Type 0 where

@@ -9,6 +9,7 @@ use Rattle.leaves.specs.Whole.{wholeUpOf}
 use Rattle.command.specs.declared.PointCommand.the-variants.{Start, Incr, End}
 use Rattle.command.specs.Packing.{packOf}
 use Rattle.columns.specs.Flags.{flagByteOf}
+use Rattle.primitives.specs.declared.QuadRow.{QuadRow}
 use Rattle.primitives.specs.declared.SplineRow.{SplineRow}
 use Rattle.tables.specs.Tables.{SplineTable, splineAt}
 use Rattle.walk.specs.Walk.{cursorAt, startsAfterOf}
@@ -16,7 +17,6 @@ use Rattle.walk.specs.Length.{stepsOf, sizeOf}
 use Rattle.evaluate.specs.declared.Place.{Place}
 use Rattle.evaluate.specs.Evaluate.{Finished, finished, stepQuadOf, stepPointOf}
 use Rattle.evaluate.specs.Output.{Output, output}
-use Rattle.primitives.specs.declared.QuadRow.{QuadRow}
 
 -- the outputs, and the place that comes next
 pub record Written : Type 0 where
@@ -58,7 +58,8 @@ unfoldable pub writeSplineOf : (ℕ → QuadRow) → ℕ → SplineRow → Splin
 writeSplineOf rows k last row from o =
     let a = writeStartOf k last row from o in
     let b = writeStepsOf rows (sizeOf (row .curvature)) (stepsOf (row .curvature)) (a .place) (a .output) in
-    written (writeEntryOf (b .place .at) (packOf (End k (row .contour))) (finished (row .p2) (row .contour)) (b .output)) (endPlaceOf (row .curvature) (b .place))
+    let o' = writeEntryOf (b .place .at) (packOf (End k (row .contour))) (finished (row .p2) (row .contour)) (b .output) in
+    written o' (endPlaceOf (row .curvature) (b .place))
 
 -- n splines from spline k on
 unfoldable pub writeWalkFrom : (ℕ → QuadRow) → SplineTable → ℕ → ℕ → Place → Output → Output

@@ -17,7 +17,7 @@ use Rattle.point.specs.declared.Setting.{Setting}
 use Rattle.store.specs.declared.StoreState.{StoreState}
 use Rattle.store.specs.Columns.{Columns}
 use Rattle.store.specs.Drawable.{drawableOf}
-use Rattle.tables.specs.Tables.{QuadTable, SplineTable}
+use Rattle.tables.specs.Tables.{QuadTable, SplineTable, quadRowAt}
 use Rattle.tables.specs.Run.{World}
 use Rattle.tables.specs.Commands.{tablesOf}
 use Rattle.point.specs.Point.{pointAt}
@@ -29,21 +29,21 @@ use Rattle.listing.specs.Writing.{columnPoints}
 
 -- ---- what was delivered
 abbrev itemsOf : Setting → Flattening → List Item
-itemsOf setting f = walkOf setting (f .quads) (f .splines) (f .result .splines)
+itemsOf setting f = walkOf setting (quadRowAt (f .quads)) (f .splines) (f .result .splines)
 
 pub record Delivered (setting : Setting) (f : Flattening) (o : Output) : Type 0 where
   pub fits : fitsOutput (length (itemsOf setting f)) o ≡ true
   pub points : f .result .points ≡ length (itemsOf setting f)
-  pub written : f .output ≡ writeOutput (f .quads) (f .splines) (itemsOf setting f) o
+  pub written : f .output ≡ writeOutput (quadRowAt (f .quads)) (f .splines) (itemsOf setting f) o
 
-walked-done : (setting : Setting) (b : Bool) (w : World) (o : Output) → fitsOutput (length (walkOf setting (w .quads) (w .splines) (w .state .splines))) o ≡ b → isDone (walked b w (walkOf setting (w .quads) (w .splines) (w .state .splines)) o .result .answer) ≡ true → Delivered setting (walked b w (walkOf setting (w .quads) (w .splines) (w .state .splines)) o) o
+walked-done : (setting : Setting) (b : Bool) (w : World) (o : Output) → fitsOutput (length (walkOf setting (quadRowAt (w .quads)) (w .splines) (w .state .splines))) o ≡ b → isDone (walked b w (walkOf setting (quadRowAt (w .quads)) (w .splines) (w .state .splines)) o .result .answer) ≡ true → Delivered setting (walked b w (walkOf setting (quadRowAt (w .quads)) (w .splines) (w .state .splines)) o) o
 unfolding walked
 walked-done setting true w o e h = record { fits = e; points = refl; written = refl }
 walked-done setting false w o e h = absurd (let z : _≡_ {A = ℕ} 0 1 = cc in omega arith)
 
 tabled-done : (setting : Setting) (b : Bool) (w : World) (o : Output) → isDone (w .state .answer) ≡ b → isDone (tabled setting b w o .result .answer) ≡ true → Delivered setting (tabled setting b w o) o
 unfolding tabled
-tabled-done setting true w o e h = walked-done setting (fitsOutput (length (walkOf setting (w .quads) (w .splines) (w .state .splines))) o) w o refl h
+tabled-done setting true w o e h = walked-done setting (fitsOutput (length (walkOf setting (quadRowAt (w .quads)) (w .splines) (w .state .splines))) o) w o refl h
 tabled-done setting false w o e h = absurd (let z : _≡_ {A = ℕ} 0 1 = cc in omega arith)
 
 drawable-done : (b : Bool) (setting : Setting) (st : StoreState) (c : Columns) (q : QuadTable) (s : SplineTable) (o : Output) → isDone (flattenDrawable b setting st c q s o .result .answer) ≡ true → Delivered setting (flattenDrawable b setting st c q s o) o
@@ -85,16 +85,16 @@ first-of false b c d h = h
 
 module _ (setting : Setting) (f : Flattening) (o : Output) (d : Delivered setting f o) where
   abbrev delivered : List Finished
-  delivered = pointsOf (f .quads) (f .splines) (itemsOf setting f)
+  delivered = pointsOf (quadRowAt (f .quads)) (f .splines) (itemsOf setting f)
 
   delivered-count : length delivered ≡ f .result .points
   unfolding pointsOf
-  delivered-count = length-map (itemsOf setting f) (itemPointOf (f .quads) (f .splines)) ∙ sym (d .points)
+  delivered-count = length-map (itemsOf setting f) (itemPointOf (quadRowAt (f .quads)) (f .splines)) ∙ sym (d .points)
 
   pub delivered-points : columnPoints 0 (f .result .points) (f .output .x) (f .output .y) (f .output .end) ≡ delivered
   unfolding writeOutput over
   delivered-points =
-      let w = writeOutput (f .quads) (f .splines) (itemsOf setting f) o in
+      let w = writeOutput (quadRowAt (f .quads)) (f .splines) (itemsOf setting f) o in
       ap (λ (n : ℕ). columnPoints 0 n (f .output .x) (f .output .y) (f .output .end)) (sym delivered-count)
       ∙ ap (λ (u : Output). columnPoints 0 (length delivered) (u .x) (u .y) (u .end)) (d .written)
       ∙ points-from delivered 0 (w .x) (w .y) (w .end) (drop (length (map (λ p. p .point .x) delivered)) (o .x)) (drop (length (map (λ p. p .point .y) delivered)) (o .y)) (drop (length (map (λ p. flagByteOf (p .end)) delivered)) (o .end)) refl refl refl

@@ -14,7 +14,7 @@ use Rattle.store.specs.declared.Call.the-variants.{Build}
 use Rattle.store.specs.declared.StoreState.{StoreState}
 use Rattle.store.specs.Columns.{Columns, columns}
 use Rattle.store.specs.Drawing.{Outcome, drawOf, freshOf}
-use Rattle.tables.specs.Tables.{QuadTable, quadTable, SplineTable, splineTable}
+use Rattle.tables.specs.Tables.{QuadTable, quadTable, SplineTable, splineTable, quadRowAt}
 use Rattle.walk.specs.Walk.{walkOf}
 use Rattle.evaluate.specs.Evaluate.{Finished, pointsOf}
 use Rattle.flatten.specs.Flatten.{Flattening, Output, output, flattenOf}
@@ -53,7 +53,7 @@ inBytes s = reportOf (s .answer) (s .line) (s .points)
 -- "On a refusal points is 0 and no point follows."; line is 0 for 5 to 9 and for 0
 unfoldable pub flatReport : Bool → Flattening → Said
 flatReport false f = said (f .result .answer) 0 []
-flatReport true f = said Done 0 (pointsOf (f .quads) (f .splines) (walkOf Screen (f .quads) (f .splines) (f .result .splines)))
+flatReport true f = said Done 0 (pointsOf (quadRowAt (f .quads)) (f .splines) (walkOf Screen (quadRowAt (f .quads)) (f .splines) (f .result .splines)))
 
 unfoldable pub flatOf : StoreState → Columns → Said
 flatOf st c = let f = flattenOf Screen st c programQuads programSplines programOutput in flatReport (isDone (f .result .answer)) f

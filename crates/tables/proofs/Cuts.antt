@@ -29,7 +29,8 @@ and-going true e = e
 and-going false e = refl
 
 -- the invariant: pieces i to n are left, from the point start on
-pub record Cutting (setting : Setting) (caps : Capacities) (c : Cubic) (n : ℕ) (incr : Float) (start₀ : Point) (w₀ w : World) (start : Point) (i : ℕ) (going : Bool) : Type 0 where
+pub record Cutting (setting : Setting) (caps : Capacities) (c : Cubic) (n : ℕ) (incr : Float) (start₀ : Point) (w₀ w : World) (start : Point) (i : ℕ)
+    (going : Bool) : Type 0 where
   pub same : runOf setting caps (quadsFrom n 1 start₀ incr c) w₀ ≡ runOf setting caps (quadsFrom (n + 1 - i) i start incr c) w
   pub within : i ≤ n + 1
   pub done : going ≡ isDone (w .state .answer)

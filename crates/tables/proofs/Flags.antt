@@ -70,7 +70,8 @@ module _ (s : SplineTable) (edit : SplineEdit) where
   flag-new : edit .at < length (s .contour) → flagAt (putSpline s edit) (edit .at) ≡ edit .row .contour
   unfolding putSpline splineAt
   flag-new h =
-      ap isFlagOf (getD-set-same (clearFlag (edit .clears) (s .contour) (edit .at)) (edit .at) (flagByteOf (edit .row .contour)) 0 (lt-of-lt-of-le h (le-of-eq (sym (clear-length (edit .clears))))))
+      ap isFlagOf (getD-set-same (clearFlag (edit .clears) (s .contour) (edit .at)) (edit .at) (flagByteOf (edit .row .contour)) 0
+      (lt-of-lt-of-le h (le-of-eq (sym (clear-length (edit .clears))))))
       ∙ flag-back (edit .row .contour)
 
   flag-rest : (j : ℕ) → j ≢ edit .at → flagAt (putSpline s edit) j ≡ isFlagOf (getD (clearFlag (edit .clears) (s .contour) (edit .at)) j 0)
@@ -115,11 +116,15 @@ module _ (caps : Capacities) (E : ℕ → Type 0) (w : World) (S : Sound caps w)
 
   -- one spline more, which is flagged
   one-more : (w' : World) → w' .state .splines ≡ suc (w .state .splines) → w' .state .mark ≡ false → flagAt (w' .splines) (w .state .splines) ≡ true
-      → ((j : ℕ) → j < w .state .splines → flagAt (w' .splines) j ≡ true → E (suc j)) → ((j : ℕ) → j < w .state .splines → E (suc j) → flagAt (w' .splines) j ≡ true) → Flagged E w'
+      → ((j : ℕ) → j < w .state .splines → flagAt (w' .splines) j ≡ true → E (suc j))
+      → ((j : ℕ) → j < w .state .splines → E (suc j) → flagAt (w' .splines) j ≡ true) → Flagged E w'
   one-more w' next done new set unset =
       record {
-        closed = λ j h e. elim (eq-or-lt-of-le (le-of-suc-le-suc (lt-of-lt-of-le h (le-of-eq next)))) [ inl z ↦ inl (ap suc z ∙ sym next) | inr l ↦ inr (set j l e) ];
-        closing = λ j h c. elim (eq-or-lt-of-le (le-of-suc-le-suc (lt-of-lt-of-le h (le-of-eq next)))) [ inl z ↦ subst (λ (x : ℕ). flagAt (w' .splines) x ≡ true) (sym z) new | inr l ↦ old j l c ];
+        closed = λ j h e. elim
+            (eq-or-lt-of-le (le-of-suc-le-suc (lt-of-lt-of-le h (le-of-eq next)))) [ inl z ↦ inl (ap suc z ∙ sym next) | inr l ↦ inr (set j l e) ];
+        closing = λ j h c. elim
+            (eq-or-lt-of-le (le-of-suc-le-suc (lt-of-lt-of-le h (le-of-eq next))))
+            [ inl z ↦ subst (λ (x : ℕ). flagAt (w' .splines) x ≡ true) (sym z) new | inr l ↦ old j l c ];
         waits = λ e h. absurd (true≢false (sym e ∙ done));
         free = λ e h. lt-irrefl (w .state .splines) (G .within (suc (w .state .splines)) (subst E next h));
         within = λ m h. le-trans (G .within m h) (le-trans (le-of-lt (le-refl (suc (w .state .splines)))) (le-of-eq (sym next)));
@@ -130,37 +135,43 @@ module _ (caps : Capacities) (E : ℕ → Type 0) (w : World) (S : Sound caps w)
       old j l (inr e) = unset j l e
 
   -- "The mark moves to the new spline": if one waits, the last spline keeps its flag; otherwise the flag is cleared
-  opened : (edit : SplineEdit) (q' : QuadTable) (m : Bool) → w .state .mark ≡ m → edit .at ≡ w .state .splines → edit .row .contour ≡ true → edit .clears ≡ not m → edit .next .splines ≡ suc (w .state .splines) → edit .next .mark ≡ false
+  opened : (edit : SplineEdit) (q' : QuadTable) (m : Bool) → w .state .mark ≡ m → edit .at ≡ w .state .splines → edit .row .contour ≡ true
+      → edit .clears ≡ not m → edit .next .splines ≡ suc (w .state .splines) → edit .next .mark ≡ false
       → w .state .splines < caps .splines → Flagged E (world (edit .next) q' (putSpline (w .splines) edit))
   opened edit q' m mark at row clears next done room =
       one-more (world (edit .next) q' (putSpline (w .splines) edit)) next done
-      (subst (λ (x : ℕ). flagAt (putSpline (w .splines) edit) x ≡ edit .row .contour) at (flag-new (w .splines) edit (lt-of-le-of-lt (le-of-eq at) (fits-flags (w .state .splines) room))) ∙ row)
+      (subst (λ (x : ℕ). flagAt (putSpline (w .splines) edit) x ≡ edit .row .contour) at
+      (flag-new (w .splines) edit (lt-of-le-of-lt (le-of-eq at) (fits-flags (w .state .splines) room))) ∙ row)
       (set m mark clears) (unset m mark clears)
     where
       off : (j : ℕ) → j < w .state .splines → j ≢ edit .at
       off j h e = ne-of-lt h (e ∙ at)
 
       gone : (j : ℕ) → j < w .state .splines → suc j ≡ w .state .splines → edit .clears ≡ true → flagAt (putSpline (w .splines) edit) j ≡ false
-      gone j h e c = flag-gone (w .splines) edit j (off j h) (before-is j (w .state .splines) e ∙ ap (λ (x : ℕ). x - 1) (sym at)) (fits-flags j (lt-of-lt-of-le h (S .room .splines))) c
+      gone j h e c = flag-gone (w .splines) edit j (off j h) (before-is j (w .state .splines) e ∙ ap (λ (x : ℕ). x - 1) (sym at))
+          (fits-flags j (lt-of-lt-of-le h (S .room .splines))) c
 
       far : (j : ℕ) → j < w .state .splines → suc j ≢ w .state .splines → edit .clears ≡ true → flagAt (putSpline (w .splines) edit) j ≡ flagAt (w .splines) j
       far j h e c = flag-far (w .splines) edit j (off j h) (λ k. not-before j (w .state .splines) (lt-of-le-of-lt zero-le h) e (k ∙ ap (λ (x : ℕ). x - 1) at)) c
 
       set : (m : Bool) → w .state .mark ≡ m → edit .clears ≡ not m → (j : ℕ) → j < w .state .splines → flagAt (putSpline (w .splines) edit) j ≡ true → E (suc j)
-      set true e c j h f = elim (G .closed j h (sym (flag-kept (w .splines) edit j (off j h) c) ∙ f)) [ inl z ↦ subst E (sym z) (G .waits e (lt-of-le-of-lt zero-le h)) | inr z ↦ z ]
+      set true e c j h f = elim
+          (G .closed j h (sym (flag-kept (w .splines) edit j (off j h) c) ∙ f)) [ inl z ↦ subst E (sym z) (G .waits e (lt-of-le-of-lt zero-le h)) | inr z ↦ z ]
       set false e c j h f = elim (le-or-next j (w .state .splines) h) [
         | inl z ↦ absurd (true≢false (sym f ∙ gone j h z c))
         | inr z ↦ elim (G .closed j h (sym (far j h z c) ∙ f)) [ inl y ↦ absurd (z y) | inr y ↦ y ]
       ]
 
-      unset : (m : Bool) → w .state .mark ≡ m → edit .clears ≡ not m → (j : ℕ) → j < w .state .splines → E (suc j) → flagAt (putSpline (w .splines) edit) j ≡ true
+      unset : (m : Bool) → w .state .mark ≡ m → edit .clears ≡ not m → (j : ℕ) → j < w .state .splines → E (suc j)
+          → flagAt (putSpline (w .splines) edit) j ≡ true
       unset true e c j h f = flag-kept (w .splines) edit j (off j h) c ∙ G .closing j h (inr f)
       unset false e c j h f = elim (le-or-next j (w .state .splines) h) [
         | inl z ↦ absurd (G .free e (subst E z f))
         | inr z ↦ far j h z c ∙ G .closing j h (inr f)
       ]
 
-  joined : (edit : SplineEdit) (q' : QuadTable) → w .state .mark ≡ false → edit .at ≡ w .state .splines - 1 → edit .row .contour ≡ lastOf w .contour → edit .clears ≡ false → edit .next .splines ≡ w .state .splines → edit .next .mark ≡ false
+  joined : (edit : SplineEdit) (q' : QuadTable) → w .state .mark ≡ false → edit .at ≡ w .state .splines - 1 → edit .row .contour ≡ lastOf w .contour
+      → edit .clears ≡ false → edit .next .splines ≡ w .state .splines → edit .next .mark ≡ false
       → Flagged E (world (edit .next) q' (putSpline (w .splines) edit))
   joined edit q' mark at row clears next done =
       record {
@@ -186,14 +197,17 @@ module _ (caps : Capacities) (E : ℕ → Type 0) (w : World) (S : Sound caps w)
         | inl z ↦
             let e : j ≡ edit .at = before-is j (w .state .splines) z ∙ sym at in
             subst (λ (x : ℕ). flagAt (putSpline (w .splines) edit) x ≡ flagAt (w .splines) x) (sym e)
-            (flag-new (w .splines) edit (fits-flags (edit .at) (lt-of-le-of-lt (le-of-eq at) (lt-of-lt-of-le (pred-lt (w .state .splines) N) (S .room .splines)))) ∙ row ∙ ap (λ (r : SplineRow). r .contour) (last-is w N) ∙ ap (flagAt (w .splines)) (sym at))
+            (flag-new (w .splines) edit
+            (fits-flags (edit .at) (lt-of-le-of-lt (le-of-eq at) (lt-of-lt-of-le (pred-lt (w .state .splines) N) (S .room .splines)))) ∙ row
+            ∙ ap (λ (r : SplineRow). r .contour) (last-is w N) ∙ ap (flagAt (w .splines)) (sym at))
         | inr z ↦ flag-kept (w .splines) edit j (λ e. not-before j (w .state .splines) N z (e ∙ at)) clears
       ]
 
   edited : (opens : Bool) (start end : Point) (sum : Float) (quads : ℕ) (angle : Angle) (q' : QuadTable) → Allowed caps w opens
       → Flagged E (world (splineEdit w opens start end sum quads angle .next) q' (putSpline (w .splines) (splineEdit w opens start end sum quads angle)))
   unfolding splineEditOf
-  edited true start end sum quads angle q' A = opened (splineEdit w true start end sum quads angle) q' (w .state .mark) refl refl refl refl (add-one (w .state .splines)) refl (A .room refl)
+  edited true start end sum quads angle q' A = opened (splineEdit w true start end sum quads angle) q' (w .state .mark) refl refl refl refl
+      (add-one (w .state .splines)) refl (A .room refl)
   edited false start end sum quads angle q' A = joined (splineEdit w false start end sum quads angle) q' (A .joins refl) refl refl refl refl refl
 
 -- m splines are there before a push of a Move's primitive
@@ -231,11 +245,13 @@ abbrev pub Met : Setting → Capacities → List Primitive → World → ℕ →
 Met setting caps [] w m = ⊥
 Met setting caps (p ∷ ps) w m = (T (isDone (w .state .answer)) × Now w (isMark p) m) ⊎ Met setting caps ps (nextOf setting caps p w) m
 
-pub flagged-run : (setting : Setting) (caps : Capacities) (ps : List Primitive) (E : ℕ → Type 0) (w : World) → Sound caps w → Flagged E w → Flagged (λ (m : ℕ). E m ⊎ Met setting caps ps w m) (runOf setting caps ps w)
+pub flagged-run : (setting : Setting) (caps : Capacities) (ps : List Primitive) (E : ℕ → Type 0) (w : World) → Sound caps w → Flagged E w
+    → Flagged (λ (m : ℕ). E m ⊎ Met setting caps ps w m) (runOf setting caps ps w)
 unfolding runOf
 flagged-run setting caps [] E w S G = flagged-same E (λ (m : ℕ). E m ⊎ ⊥) w (λ m h. inl h) (λ m h. elim h [ inl a ↦ a | inr a ↦ absurd a ]) G
 flagged-run setting caps (p ∷ ps) E w S G =
-    flagged-same (λ (m : ℕ). E' m ⊎ Met setting caps ps (nextOf setting caps p w) m) (λ (m : ℕ). E m ⊎ Met setting caps (p ∷ ps) w m) (runOf setting caps ps (nextOf setting caps p w)) to from
+    flagged-same (λ (m : ℕ). E' m ⊎ Met setting caps ps (nextOf setting caps p w) m) (λ (m : ℕ). E m ⊎ Met setting caps (p ∷ ps) w m)
+    (runOf setting caps ps (nextOf setting caps p w)) to from
     (flagged-run setting caps ps E' (nextOf setting caps p w) (next-sound (isDone (w .state .answer))) (next-flagged (isDone (w .state .answer))))
   where
     E' : ℕ → Type 0
@@ -257,7 +273,8 @@ flagged-run setting caps (p ∷ ps) E w S G =
 
     next-flagged : (b : Bool) → Flagged (λ (m : ℕ). E m ⊎ (T b × Now w (isMark p) m)) (cond b (pushOf setting caps p w) w)
     next-flagged true =
-        flagged-same (λ (m : ℕ). E m ⊎ Now w (isMark p) m) (λ (m : ℕ). E m ⊎ (Unit {0} × Now w (isMark p) m)) (pushOf setting caps p w) (λ m h. elim h [ inl a ↦ inl a | inr a ↦ inr (tt, a) ])
+        flagged-same (λ (m : ℕ). E m ⊎ Now w (isMark p) m) (λ (m : ℕ). E m ⊎ (Unit {0} × Now w (isMark p) m)) (pushOf setting caps p w)
+        (λ m h. elim h [ inl a ↦ inl a | inr a ↦ inr (tt, a) ])
         (λ m h. elim h [ inl a ↦ inl a | inr a ↦ inr (a .1) ])
         (flagged-push caps E w S G (pushed setting caps w p))
     next-flagged false = flagged-same E (λ (m : ℕ). E m ⊎ (⊥ × Now w (isMark p) m)) w (λ m h. inl h) (λ m h. elim h [ inl a ↦ a | inr a ↦ absurd (a .0) ]) G

@@ -25,4 +25,11 @@ pub splines-same : (a : SplineTable) → SplineLengths a a
 splines-same a = record { curvature = refl; p0x = refl; p0y = refl; p2x = refl; p2y = refl; contour = refl }
 
 pub splines-then : {a b c : SplineTable} → SplineLengths a b → SplineLengths b c → SplineLengths a c
-splines-then r s = record { curvature = r .curvature ∙ s .curvature; p0x = r .p0x ∙ s .p0x; p0y = r .p0y ∙ s .p0y; p2x = r .p2x ∙ s .p2x; p2y = r .p2y ∙ s .p2y; contour = r .contour ∙ s .contour }
+splines-then r s = record {
+  curvature = r .curvature ∙ s .curvature;
+  p0x = r .p0x ∙ s .p0x;
+  p0y = r .p0y ∙ s .p0y;
+  p2x = r .p2x ∙ s .p2x;
+  p2y = r .p2y ∙ s .p2y;
+  contour = r .contour ∙ s .contour;
+}

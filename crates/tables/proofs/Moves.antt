@@ -28,12 +28,14 @@ use Rattle.tables.proofs.Runs
 use lib.Ieee.{Float}
 
 module _ (setting : Setting) (caps : Capacities) where
-  pub run-done : (ps qs : List Primitive) (w : World) → isDone (runOf setting caps (ps ++ qs) w .state .answer) ≡ true → isDone (runOf setting caps ps w .state .answer) ≡ true
+  pub run-done : (ps qs : List Primitive) (w : World) → isDone (runOf setting caps (ps ++ qs) w .state .answer) ≡ true
+      → isDone (runOf setting caps ps w .state .answer) ≡ true
   run-done ps qs w h = go (isDone (runOf setting caps ps w .state .answer)) refl
     where
       go : (b : Bool) → isDone (runOf setting caps ps w .state .answer) ≡ b → isDone (runOf setting caps ps w .state .answer) ≡ true
       go true e = e
-      go false e = sym (ap (λ (v : World). isDone (v .state .answer)) (Runs.run-append setting caps ps qs w ∙ Runs.run-stop setting caps qs (runOf setting caps ps w) e)) ∙ h
+      go false e = sym (ap (λ (v : World). isDone (v .state .answer))
+          (Runs.run-append setting caps ps qs w ∙ Runs.run-stop setting caps qs (runOf setting caps ps w) e)) ∙ h
 
   -- ---- the number of splines never falls
   push-grows : (w : World) {b : Bool} {w' : World} → Pushed caps w b w' → w .state .splines ≤ w' .state .splines
@@ -55,12 +57,15 @@ module _ (setting : Setting) (caps : Capacities) where
       go false = le-refl (w .state .splines)
 
   -- ---- the Moves that a run meets
-  met-append : (ps qs : List Primitive) (w : World) (m : ℕ) → Met setting caps (ps ++ qs) w m → Met setting caps ps w m ⊎ Met setting caps qs (runOf setting caps ps w) m
+  met-append : (ps qs : List Primitive) (w : World) (m : ℕ) → Met setting caps (ps ++ qs) w m
+      → Met setting caps ps w m ⊎ Met setting caps qs (runOf setting caps ps w) m
   unfolding runOf
   met-append [] qs w m h = inr h
   met-append (p ∷ ps) qs w m h = go h (met-append ps qs (nextOf setting caps p w) m)
     where
-      go : Met setting caps (p ∷ (ps ++ qs)) w m → (Met setting caps (ps ++ qs) (nextOf setting caps p w) m → Met setting caps ps (nextOf setting caps p w) m ⊎ Met setting caps qs (runOf setting caps ps (nextOf setting caps p w)) m)
+      go : Met setting caps (p ∷ (ps ++ qs)) w m
+          → (Met setting caps (ps ++ qs) (nextOf setting caps p w) m
+          → Met setting caps ps (nextOf setting caps p w) m ⊎ Met setting caps qs (runOf setting caps ps (nextOf setting caps p w)) m)
           → Met setting caps (p ∷ ps) w m ⊎ Met setting caps qs (runOf setting caps ps (nextOf setting caps p w)) m
       go (inl a) f = inl (inl a)
       go (inr a) f = elim (f a) [ inl b ↦ inl (inr b) | inr b ↦ inr b ]
@@ -119,7 +124,8 @@ module _ (setting : Setting) (caps : Capacities) where
     unfolding primitivesFrom runOf commandPrimitivesOf
     met-move [] j w m h = absurd h
     met-move (k ∷ ks) j w m h =
-        go k (met-append (commandPrimitivesOf c k j) (primitivesFrom c ks (j + usesOf k)) w m h) (met-move ks (j + usesOf k) (runOf setting caps (commandPrimitivesOf c k j) w) m)
+        go k (met-append (commandPrimitivesOf c k j) (primitivesFrom c ks (j + usesOf k)) w m h)
+        (met-move ks (j + usesOf k) (runOf setting caps (commandPrimitivesOf c k j) w) m)
       where
         later : (k : ℕ) → MoveAt ks (j + usesOf k) (runOf setting caps (commandPrimitivesOf c k j) w) m → MoveAt (k ∷ ks) j w m
         later k z =
@@ -127,7 +133,8 @@ module _ (setting : Setting) (caps : Capacities) where
               at = suc (z .at);
               inside = suc-le-suc (z .inside);
               move = z .move;
-              splines = ap (λ (v : World). v .state .splines) (Runs.run-append setting caps (commandPrimitivesOf c k j) (primitivesFrom c (take (z .at) ks) (j + usesOf k)) w) ∙ z .splines;
+              splines = ap (λ (v : World). v .state .splines)
+                  (Runs.run-append setting caps (commandPrimitivesOf c k j) (primitivesFrom c (take (z .at) ks) (j + usesOf k)) w) ∙ z .splines;
             }
 
         first : (k : ℕ) → Met setting caps (commandPrimitivesOf c k j) w m → MoveAt (k ∷ ks) j w m
@@ -135,12 +142,15 @@ module _ (setting : Setting) (caps : Capacities) where
         first zero (inr h) = absurd h
         first (suc k) h = absurd (unmet (commandPrimitivesOf c (suc k) j) w m (command-no-mark c k j) h)
 
-        go : (k : ℕ) → Met setting caps (commandPrimitivesOf c k j) w m ⊎ Met setting caps (primitivesFrom c ks (j + usesOf k)) (runOf setting caps (commandPrimitivesOf c k j) w) m
-            → (Met setting caps (primitivesFrom c ks (j + usesOf k)) (runOf setting caps (commandPrimitivesOf c k j) w) m → MoveAt ks (j + usesOf k) (runOf setting caps (commandPrimitivesOf c k j) w) m) → MoveAt (k ∷ ks) j w m
+        go : (k : ℕ) → Met setting caps (commandPrimitivesOf c k j) w m
+            ⊎ Met setting caps (primitivesFrom c ks (j + usesOf k)) (runOf setting caps (commandPrimitivesOf c k j) w) m
+            → (Met setting caps (primitivesFrom c ks (j + usesOf k)) (runOf setting caps (commandPrimitivesOf c k j) w) m
+            → MoveAt ks (j + usesOf k) (runOf setting caps (commandPrimitivesOf c k j) w) m) → MoveAt (k ∷ ks) j w m
         go k (inl h) f = first k h
         go k (inr h) f = later k (f h)
 
-    pub move-met : (ks : List ℕ) (j : ℕ) (w : World) (i : ℕ) → i < length ks → getD ks i 0 ≡ 0 → isDone (before ks j w i .state .answer) ≡ true → Met setting caps (primitivesFrom c ks j) w (before ks j w i .state .splines)
+    pub move-met : (ks : List ℕ) (j : ℕ) (w : World) (i : ℕ) → i < length ks → getD ks i 0 ≡ 0 → isDone (before ks j w i .state .answer) ≡ true
+        → Met setting caps (primitivesFrom c ks j) w (before ks j w i .state .splines)
     unfolding primitivesFrom runOf commandPrimitivesOf
     move-met [] j w i l h d = absurd (not-suc-le-zero l)
     move-met (zero ∷ ks) j w zero l h d = inl (subst T (sym d) tt, (tt, refl))
@@ -156,21 +166,28 @@ module _ (setting : Setting) (caps : Capacities) where
     unfolding primitivesFrom totalUsesOf
     primitives-append [] ls j = ap (primitivesFrom c ls) (sym (add-zero j))
     primitives-append (k ∷ ks) ls j =
-        ap (λ (x : List Primitive). commandPrimitivesOf c k j ++ x) (primitives-append ks ls (j + usesOf k) ∙ ap (λ (x : ℕ). primitivesFrom c ks (j + usesOf k) ++ primitivesFrom c ls x) (add-assoc j (usesOf k) (totalUsesOf ks)))
+        ap (λ (x : List Primitive). commandPrimitivesOf c k j ++ x)
+        (primitives-append ks ls (j + usesOf k)
+        ∙ ap (λ (x : ℕ). primitivesFrom c ks (j + usesOf k) ++ primitivesFrom c ls x) (add-assoc j (usesOf k) (totalUsesOf ks)))
         ∙ sym (append-assoc (commandPrimitivesOf c k j) (primitivesFrom c ks (j + usesOf k)) _)
 
     -- the commands before the i-th, and d more
-    more : (ks : List ℕ) (w : World) (i d : ℕ) → before ks 0 w (i + d) ≡ runOf setting caps (primitivesFrom c (take d (drop i ks)) (totalUsesOf (take i ks))) (before ks 0 w i)
+    more : (ks : List ℕ) (w : World) (i d : ℕ)
+        → before ks 0 w (i + d) ≡ runOf setting caps (primitivesFrom c (take d (drop i ks)) (totalUsesOf (take i ks))) (before ks 0 w i)
     more ks w i d =
         ap (λ (x : List ℕ). runOf setting caps (primitivesFrom c x 0) w) (take-add i d ks)
-        ∙ ap (λ (x : List Primitive). runOf setting caps x w) (primitives-append (take i ks) (take d (drop i ks)) 0 ∙ ap (λ (x : ℕ). primitivesFrom c (take i ks) 0 ++ primitivesFrom c (take d (drop i ks)) x) (zero-add (totalUsesOf (take i ks))))
+        ∙ ap (λ (x : List Primitive). runOf setting caps x w)
+        (primitives-append (take i ks) (take d (drop i ks)) 0
+        ∙ ap (λ (x : ℕ). primitivesFrom c (take i ks) 0 ++ primitivesFrom c (take d (drop i ks)) x) (zero-add (totalUsesOf (take i ks))))
         ∙ Runs.run-append setting caps (primitivesFrom c (take i ks) 0) (primitivesFrom c (take d (drop i ks)) (totalUsesOf (take i ks))) w
 
     pub before-grows : (ks : List ℕ) (w : World) (i d : ℕ) → before ks 0 w i .state .splines ≤ before ks 0 w (i + d) .state .splines
     before-grows ks w i d =
-        le-trans (run-grows (primitivesFrom c (take d (drop i ks)) (totalUsesOf (take i ks))) (before ks 0 w i)) (le-of-eq (sym (ap (λ (v : World). v .state .splines) (more ks w i d))))
+        le-trans (run-grows (primitivesFrom c (take d (drop i ks)) (totalUsesOf (take i ks))) (before ks 0 w i))
+        (le-of-eq (sym (ap (λ (v : World). v .state .splines) (more ks w i d))))
 
-    pub before-done : (ks : List ℕ) (w : World) (i d : ℕ) → isDone (before ks 0 w (i + d) .state .answer) ≡ true → isDone (before ks 0 w i .state .answer) ≡ true
+    pub before-done : (ks : List ℕ) (w : World) (i d : ℕ) → isDone (before ks 0 w (i + d) .state .answer) ≡ true
+        → isDone (before ks 0 w i .state .answer) ≡ true
     before-done ks w i d h =
         let qs = primitivesFrom c (take d (drop i ks)) (totalUsesOf (take i ks)) in
         run-done (primitivesFrom c (take i ks) 0) qs w

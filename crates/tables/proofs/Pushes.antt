@@ -124,10 +124,13 @@ pub data Pushed (caps : Capacities) (w : World) : Bool → World → Type 0 wher
   marked : (setting : Setting) → Pushed caps w true (world (markedOf setting (w .state)) (w .quads) (w .splines))
   lined : (opens : Bool) (start end : Point) (angle : Angle) → Allowed caps w opens
       → Pushed caps w false (applyOf (Extend (splineEdit w opens start end (sumBefore opens (lastOf w)) (w .state .quads) angle)) (w .quads) (w .splines))
-  bent : (opens : Bool) (start end : Point) (angle : Angle) (c : Float) (row : QuadRow) → Allowed caps w opens → Bent c → w .state .quads < caps .quads → T (le (sumBefore opens (lastOf w) ⊕ c) limit32)
+  bent : (opens : Bool) (start end : Point) (angle : Angle) (c : Float) (row : QuadRow) → Allowed caps w opens → Bent c → w .state .quads < caps .quads
+      → T (le (sumBefore opens (lastOf w) ⊕ c) limit32)
       → row .«partial_curvature» ≡ sumBefore opens (lastOf w) ⊕ c
       → row .spline ≡ splineEdit w opens start end (sumBefore opens (lastOf w) ⊕ c) (w .state .quads + 1) angle .at
-      → Pushed caps w false (applyOf (Bend (splineEdit w opens start end (sumBefore opens (lastOf w) ⊕ c) (w .state .quads + 1) angle) (w .state .quads) row) (w .quads) (w .splines))
+      → Pushed caps w false
+      (applyOf (Bend (splineEdit w opens start end (sumBefore opens (lastOf w) ⊕ c) (w .state .quads + 1) angle) (w .state .quads) row) (w .quads)
+      (w .splines))
 
 -- ---- each push has one of them
 
@@ -135,9 +138,12 @@ unmarked : (setting : Setting) (st : State) (last : SplineRow) (angle : Angle) (
 unfolding opensOf
 unmarked setting st last angle start h = first-false (st .mark) _ _ h
 
-allowed : (setting : Setting) (caps : Capacities) (w : World) (angle : Angle) (start : Point) (opens full : Bool) → opensOf setting (w .state) (lastOf w) angle start ≡ opens → leb (caps .splines) (w .state .splines) ≡ full → opens && full ≡ false → Allowed caps w opens
-allowed setting caps w angle start true full e f h = record { joins = λ k. absurd (true≢false k); room = λ k. leb-false (caps .splines) (w .state .splines) (f ∙ h) }
-allowed setting caps w angle start false full e f h = record { joins = λ k. unmarked setting (w .state) (lastOf w) angle start e; room = λ k. absurd (true≢false (sym k)) }
+allowed : (setting : Setting) (caps : Capacities) (w : World) (angle : Angle) (start : Point) (opens full : Bool)
+    → opensOf setting (w .state) (lastOf w) angle start ≡ opens → leb (caps .splines) (w .state .splines) ≡ full → opens && full ≡ false → Allowed caps w opens
+allowed setting caps w angle start true full e f h = record
+    { joins = λ k. absurd (true≢false k); room = λ k. leb-false (caps .splines) (w .state .splines) (f ∙ h) }
+allowed setting caps w angle start false full e f h = record
+    { joins = λ k. unmarked setting (w .state) (lastOf w) angle start e; room = λ k. absurd (true≢false (sym k)) }
 
 module _ (setting : Setting) (caps : Capacities) (w : World) where
   line-pushed : (start end : Point) → Pushed caps w false (applyOf (planLineOf setting caps (w .state) (lastOf w) start end) (w .quads) (w .splines))
@@ -148,14 +154,19 @@ module _ (setting : Setting) (caps : Capacities) (w : World) where
       angle = angleOf (minusOf end start)
 
       go : (opens full : Bool) → opensOf setting (w .state) (lastOf w) angle start ≡ opens → leb (caps .splines) (w .state .splines) ≡ full
-          → Pushed caps w false (applyOf (cond (opens && full) (Keep (refusedOf (w .state) SplinesFull)) (Extend (splineEdit w opens start end (sumBefore opens (lastOf w)) (w .state .quads) (lineAngleOf setting (w .state .last) angle)))) (w .quads) (w .splines))
+          → Pushed caps w false
+          (applyOf (cond (opens && full) (Keep (refusedOf (w .state) SplinesFull))
+          (Extend (splineEdit w opens start end (sumBefore opens (lastOf w)) (w .state .quads) (lineAngleOf setting (w .state .last) angle)))) (w .quads)
+          (w .splines))
       go true true e f = kept SplinesFull
       go true false e f = lined true start end _ (allowed setting caps w angle start true false e f refl)
       go false full e f = lined false start end _ (allowed setting caps w angle start false full e f refl)
 
-  curve-pushed : (p0 p1 p2 : WeightedPoint) (a b : Angle) → Pushed caps w false (applyOf (planCurveOf setting caps (w .state) (lastOf w) p0 p1 p2 a b) (w .quads) (w .splines))
+  curve-pushed : (p0 p1 p2 : WeightedPoint) (a b : Angle)
+      → Pushed caps w false (applyOf (planCurveOf setting caps (w .state) (lastOf w) p0 p1 p2 a b) (w .quads) (w .splines))
   unfolding planCurveOf applyOf quadRowOf splineEditOf
-  curve-pushed p0 p1 p2 a b = go (opensOf setting (w .state) (lastOf w) a start) (leb (caps .splines) (w .state .splines)) (leb (caps .quads) (w .state .quads)) (le (sum (opensOf setting (w .state) (lastOf w) a start)) limit32) refl refl refl refl
+  curve-pushed p0 p1 p2 a b = go (opensOf setting (w .state) (lastOf w) a start) (leb (caps .splines) (w .state .splines))
+      (leb (caps .quads) (w .state .quads)) (le (sum (opensOf setting (w .state) (lastOf w) a start)) limit32) refl refl refl refl
     where
       start : Point
       start = appliedOf p0
@@ -172,7 +183,8 @@ module _ (setting : Setting) (caps : Capacities) (w : World) where
       fit : (b : Bool) (x : Float) → le x limit32 ≡ b → b ≡ true → T (le x limit32)
       fit b x e f = subst T (sym (e ∙ f)) tt
 
-      go : (opens full qfull low : Bool) → opensOf setting (w .state) (lastOf w) a start ≡ opens → leb (caps .splines) (w .state .splines) ≡ full → leb (caps .quads) (w .state .quads) ≡ qfull → le (sum opens) limit32 ≡ low
+      go : (opens full qfull low : Bool) → opensOf setting (w .state) (lastOf w) a start ≡ opens → leb (caps .splines) (w .state .splines) ≡ full
+          → leb (caps .quads) (w .state .quads) ≡ qfull → le (sum opens) limit32 ≡ low
           → Pushed caps w false
           (applyOf
           (cond qfull (Keep (refusedOf (w .state) QuadsFull))
@@ -184,14 +196,17 @@ module _ (setting : Setting) (caps : Capacities) (w : World) where
       go true true false low e f g h = kept SplinesFull
       go true false false false e f g h = kept SumTooLarge
       go true false false true e f g h =
-          bent true start (appliedOf p2) b (curve .curvature) (quadRowOf p0 p1 p2 curve (edit true)) (allowed setting caps w a start true false e f refl) (curve-bent start (appliedOf p1) (appliedOf p2)) (leb-false (caps .quads) (w .state .quads) g)
+          bent true start (appliedOf p2) b (curve .curvature) (quadRowOf p0 p1 p2 curve (edit true)) (allowed setting caps w a start true false e f refl)
+          (curve-bent start (appliedOf p1) (appliedOf p2)) (leb-false (caps .quads) (w .state .quads) g)
           (fit true (sum true) h refl) refl refl
       go false full false false e f g h = kept SumTooLarge
       go false full false true e f g h =
-          bent false start (appliedOf p2) b (curve .curvature) (quadRowOf p0 p1 p2 curve (edit false)) (allowed setting caps w a start false full e f refl) (curve-bent start (appliedOf p1) (appliedOf p2)) (leb-false (caps .quads) (w .state .quads) g)
+          bent false start (appliedOf p2) b (curve .curvature) (quadRowOf p0 p1 p2 curve (edit false)) (allowed setting caps w a start false full e f refl)
+          (curve-bent start (appliedOf p1) (appliedOf p2)) (leb-false (caps .quads) (w .state .quads) g)
           (fit true (sum false) h refl) refl refl
 
-  legs-pushed : (p0 p1 p2 : WeightedPoint) (a b : Angle) → Pushed caps w false (applyOf (planLegsOf setting caps (w .state) (lastOf w) p0 p1 p2 a b) (w .quads) (w .splines))
+  legs-pushed : (p0 p1 p2 : WeightedPoint) (a b : Angle)
+      → Pushed caps w false (applyOf (planLegsOf setting caps (w .state) (lastOf w) p0 p1 p2 a b) (w .quads) (w .splines))
   unfolding planLegsOf applyOf refusedOf
   legs-pushed p0 p1 p2 Missing Missing = kept (w .state .answer)
   legs-pushed p0 p1 p2 Missing (Known b) = line-pushed (appliedOf p0) (appliedOf p2)

@@ -71,6 +71,10 @@ row-room i n h = omega arith
 pub within : (q : QuadTable) (i : ℕ) → i < quadCapacityOf q → 15 * i + 15 ≤ length (q .rows)
 within q i h = row-room i (length (q .rows)) (fits q i h)
 
+-- the table with row i put
+abbrev stored : QuadTable → ℕ → QuadRow → QuadTable
+stored q i row = quadTable (sets (q .rows) (15 * i) (numbersOf row)) (set (q .partial-splines) i (row .spline))
+
 below : (j i k : ℕ) → j < i → k < 15 → 15 * j + k < 15 * i
 below j i k h m = omega arith
 
@@ -83,7 +87,7 @@ above j i k h n = go (eq-or-lt-of-le h)
 
 module _ (q : QuadTable) (i : ℕ) (row : QuadRow) where
   -- ---- the two cases of a put
-  pub put-is : i < quadCapacityOf q → putQuad q i row ≡ quadTable (sets (q .rows) (15 * i) (numbersOf row)) (set (q .partial-splines) i (row .spline))
+  pub put-is : i < quadCapacityOf q → putQuad q i row ≡ stored q i row
   unfolding putQuad
   put-is h = rw (lt-ltb i (quadCapacityOf q) h)
 
@@ -96,7 +100,7 @@ module _ (q : QuadTable) (i : ℕ) (row : QuadRow) where
   unfolding putQuad
   rows-length = go (ltb i (quadCapacityOf q))
     where
-      go : (b : Bool) → length (cond b (quadTable (sets (q .rows) (15 * i) (numbersOf row)) (set (q .partial-splines) i (row .spline))) q .rows) ≡ length (q .rows)
+      go : (b : Bool) → length (cond b (stored q i row) q .rows) ≡ length (q .rows)
       go true = length-sets (q .rows) (15 * i) (numbersOf row)
       go false = refl
 
@@ -104,7 +108,7 @@ module _ (q : QuadTable) (i : ℕ) (row : QuadRow) where
   unfolding putQuad
   owners-length = go (ltb i (quadCapacityOf q))
     where
-      go : (b : Bool) → length (cond b (quadTable (sets (q .rows) (15 * i) (numbersOf row)) (set (q .partial-splines) i (row .spline))) q .partial-splines) ≡ length (q .partial-splines)
+      go : (b : Bool) → length (cond b (stored q i row) q .partial-splines) ≡ length (q .partial-splines)
       go true = length-set (q .partial-splines) i (row .spline)
       go false = refl
 
@@ -135,9 +139,10 @@ module _ (q : QuadTable) (i : ℕ) (row : QuadRow) where
       apart false e = inr (above j i k (ltb-false j i e) n)
 
       go : (b : Bool)
-          → cond (ltb j (length (q .rows) / 15)) (getD (cond b (quadTable (sets (q .rows) (15 * i) (numbersOf row)) (set (q .partial-splines) i (row .spline))) q .rows) (15 * j + k) nan) nan
+          → cond (ltb j (length (q .rows) / 15)) (getD (cond b (stored q i row) q .rows) (15 * j + k) nan) nan
           ≡ cond (ltb j (length (q .rows) / 15)) (getD (q .rows) (15 * j + k) nan) nan
-      go true = ap (λ (v : Float). cond (ltb j (length (q .rows) / 15)) v nan) (sets-other (numbersOf row) (q .rows) (15 * i) (15 * j + k) nan (apart (ltb j i) refl))
+      go true = ap (λ (v : Float). cond (ltb j (length (q .rows) / 15)) v nan)
+          (sets-other (numbersOf row) (q .rows) (15 * i) (15 * j + k) nan (apart (ltb j i) refl))
       go false = refl
 
   -- ---- whole rows
@@ -170,7 +175,7 @@ module _ (q : QuadTable) (i : ℕ) (row : QuadRow) where
   unfolding putQuad
   stay-owner j n = go (ltb i (quadCapacityOf q))
     where
-      go : (b : Bool) → getD (cond b (quadTable (sets (q .rows) (15 * i) (numbersOf row)) (set (q .partial-splines) i (row .spline))) q .partial-splines) j 0 ≡ getD (q .partial-splines) j 0
+      go : (b : Bool) → getD (cond b (stored q i row) q .partial-splines) j 0 ≡ getD (q .partial-splines) j 0
       go true = getD-set-other (q .partial-splines) i j (row .spline) 0 n
       go false = refl
 
@@ -210,7 +215,11 @@ put-past n row q₀ q P =
     record {
       rows = record { as-long = rows-length q n row ∙ P .rows .as-long; entries = λ j d h. other j d h ∙ P .rows .entries j d (more j h) };
       partial-splines =
-          record { as-long = owners-length q n row ∙ P .partial-splines .as-long; entries = λ j d h. owner j d h ∙ P .partial-splines .entries j d (le-trans (le-add-right n 1) h) };
+          record {
+            as-long = owners-length q n row ∙ P .partial-splines .as-long;
+            entries = λ j d h. owner j d h
+                ∙ P .partial-splines .entries j d (le-trans (le-add-right n 1) h);
+          };
     }
   where
     more : (j : ℕ) → 15 * (n + 1) ≤ j → 15 * n ≤ j
@@ -219,7 +228,7 @@ put-past n row q₀ q P =
     other : (j : ℕ) (d : Float) → 15 * (n + 1) ≤ j → getD (putQuad q n row .rows) j d ≡ getD (q .rows) j d
     other j d h = go (ltb n (quadCapacityOf q))
       where
-        go : (b : Bool) → getD (cond b (quadTable (sets (q .rows) (15 * n) (numbersOf row)) (set (q .partial-splines) n (row .spline))) q .rows) j d ≡ getD (q .rows) j d
+        go : (b : Bool) → getD (cond b (stored q n row) q .rows) j d ≡ getD (q .rows) j d
         go true = sets-other (numbersOf row) (q .rows) (15 * n) j d (inr (omega arith))
         go false = refl
 
@@ -229,6 +238,6 @@ put-past n row q₀ q P =
         apart : (j : ℕ) → n + 1 ≤ j → j ≢ n
         apart j h e = omega arith
 
-        go : (b : Bool) → getD (cond b (quadTable (sets (q .rows) (15 * n) (numbersOf row)) (set (q .partial-splines) n (row .spline))) q .partial-splines) j d ≡ getD (q .partial-splines) j d
+        go : (b : Bool) → getD (cond b (stored q n row) q .partial-splines) j d ≡ getD (q .partial-splines) j d
         go true = getD-set-other (q .partial-splines) n j (row .spline) d (apart j h)
         go false = refl

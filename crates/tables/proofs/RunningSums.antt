@@ -96,7 +96,8 @@ add-is (fin false m e) (fin false n d) h k = refl
 exact-reach : (p s t c d : ℕ) → p * t ≤ s → d ≤ c → suc p * (t * d) ≤ (s * d + c * t) * 1
 exact-reach p s t c d h k =
     le-trans (le-of-eq (suc-mul p (t * d)))
-    (join (p * (t * d)) (t * d) (s * d) (c * t) ((s * d + c * t) * 1) (le-trans (le-of-eq (sym (mul-assoc p t d))) (mul-le-mul-right d h)) (le-trans (le-of-eq (mul-comm t d)) (mul-le-mul-right t k)) (mul-one (s * d + c * t)))
+    (join (p * (t * d)) (t * d) (s * d) (c * t) ((s * d + c * t) * 1) (le-trans (le-of-eq (sym (mul-assoc p t d))) (mul-le-mul-right d h))
+    (le-trans (le-of-eq (mul-comm t d)) (mul-le-mul-right t k)) (mul-one (s * d + c * t)))
   where
     join : (a b x y z : ℕ) → a ≤ x → b ≤ y → z ≡ x + y → a + b ≤ z
     join a b x y z h k e = omega arith
@@ -111,7 +112,8 @@ module _ (s c : Float) (S : T (natural s)) (most : num s ≤ 65536 * den s) (B :
 
   -- so the sum is not NaN
   pub sum-number : s ⊕ c ≡ nan → ⊥
-  sum-number e = subst (λ (z : Float). T (above z)) e (above-of-le (whole32 1) (s ⊕ c) (whole-positive 1 (lit≤ tt) (zero-lt-suc 0)) (above-whole 0 zero-le (le-trans (le-of-eq (zero-mul (den s))) zero-le)))
+  sum-number e = subst (λ (z : Float). T (above z)) e
+      (above-of-le (whole32 1) (s ⊕ c) (whole-positive 1 (lit≤ tt) (zero-lt-suc 0)) (above-whole 0 zero-le (le-trans (le-of-eq (zero-mul (den s))) zero-le)))
 
   few : (p : ℕ) → p * den s ≤ num s → p ≤ 65536
   few p h = le-of-mul-le-mul-right (le-trans h most) (den-pos s)
@@ -125,7 +127,9 @@ module _ (s c : Float) (S : T (natural s)) (most : num s ≤ 65536 * den s) (B :
     pub sum-reaches : Reaches s (s ⊕ c)
     sum-reaches p h =
         let P = few p h in
-        le-trans (values-of-le (whole32 (suc p)) (s ⊕ c) (suc p) 1 (num (s ⊕ c)) (den (s ⊕ c)) (whole-positive (suc p) (one-more p P) (zero-lt-suc p)) sum-real (whole-value (suc p) (one-more p P)) (own-value (s ⊕ c) sum-real) (above-whole p P h))
+        le-trans (values-of-le (whole32 (suc p)) (s ⊕ c) (suc p) 1 (num (s ⊕ c)) (den (s ⊕ c))
+        (whole-positive (suc p) (one-more p P) (zero-lt-suc p)) sum-real (whole-value (suc p) (one-more p P)) (own-value (s ⊕ c) sum-real)
+        (above-whole p P h))
         (le-of-eq (mul-one (num (s ⊕ c))))
       where
         one-more : (p : ℕ) → p ≤ 65536 → suc p ≤ 65537
@@ -161,8 +165,12 @@ fits-shape m e h =
     let b = ltb (suc m) (2 ^ 24) in
     let c = leb (down e) (2 ^ 149) in
     let d = ltb (suc m * up e) (2 ^ 128 * down e) in
-    let abc = and-l (a && b && c) d h in
-    (ltb→lt (suc m) (2 ^ 24) (and-r a b (and-l (a && b) c abc)), leb→le (down e) (2 ^ 149) (and-r (a && b) c abc), ltb→lt (suc m * up e) (2 ^ 128 * down e) (and-r (a && b && c) d h))
+    let abc = and-l (a && b && c) d h in (
+      ltb→lt (suc m) (2 ^ 24) (and-r a b (and-l (a && b) c abc)),
+      leb→le (down e) (2 ^ 149) (and-r (a && b) c abc),
+      ltb→lt (suc m * up e) (2 ^ 128 * down e)
+          (and-r (a && b && c) d h),
+    )
 
 exponent : (k : ℕ) → 2 ^ suc k ≤ 2 ^ 149 → suc k ≤ 149
 exponent k h = le-of-not (lt-of-not-le (λ (g : 150 ≤ suc k). lt-irrefl (2 ^ 149) (lt-of-lt-of-le (pow-lt g) h)))
@@ -186,7 +194,8 @@ held-exact (fin false (suc m) (negsuc k)) f h =
     let l = exponent k (z .1) in
     let j = 149 - suc k in
     let e : suc m * 1 * 2 ^ 149 ≡ suc m * 2 ^ j * 2 ^ suc k =
-    ap (λ (x : ℕ). x * 2 ^ 149) (mul-one (suc m)) ∙ ap (λ (x : ℕ). suc m * x) (ap (λ (x : ℕ). 2 ^ x) (sym (back k l)) ∙ pow-add 2 j (suc k)) ∙ sym (mul-assoc (suc m) (2 ^ j) (2 ^ suc k)) in
+    ap (λ (x : ℕ). x * 2 ^ 149) (mul-one (suc m)) ∙ ap (λ (x : ℕ). suc m * x) (ap (λ (x : ℕ). 2 ^ x) (sym (back k l)) ∙ pow-add 2 j (suc k))
+    ∙ sym (mul-assoc (suc m) (2 ^ j) (2 ^ suc k)) in
     round-exact binary32 false (suc m * 1) (2 ^ suc k) (suc m) j (pow-pos (suc k)) (z .0)
     (lt-of-lt-of-le (shl-lt 24 j (z .0)) (pow-mono (small k))) e
   where
@@ -207,10 +216,13 @@ pub sum-first : (c : Float) → Bent c → T (le (zero32 ⊕ c) limit32) → Sum
 sum-first c B fit =
     let m : num zero32 ≤ 65536 * den zero32 = le-trans (le-of-eq zero-num) zero-le in
     let r = zero32 ⊕ c in
-    let v : HasValue r false (num c) (den c) = subst (λ (z : Float). HasValue z false (num c) (den c)) (sym (from-zero c B)) (held-exact c (B .held) (B .real)) in
+    let v : HasValue r false (num c) (den c) = subst (λ (z : Float). HasValue z false (num c) (den c)) (sym (from-zero c B))
+    (held-exact c (B .held) (B .real)) in
     record {
       real = sum-real zero32 c zero-natural m B fit;
-      over = lt-of-mul-lt-mul-right (den c) (lt-of-lt-of-le (lt-of-le-of-lt (le-of-eq (mul-comm (den r) (den c))) (mul-lt-mul-of-pos-right (B .over) (den-pos r))) (le-of-eq (sym (value→cross r (num c) (den c) v))));
+      over = lt-of-mul-lt-mul-right (den c)
+          (lt-of-lt-of-le (lt-of-le-of-lt (le-of-eq (mul-comm (den r) (den c))) (mul-lt-mul-of-pos-right (B .over) (den-pos r)))
+          (le-of-eq (sym (value→cross r (num c) (den c) v))));
       most = sum-most zero32 c zero-natural m B fit;
     }
 
@@ -247,8 +259,10 @@ zero-value = (refl, refl)
 pub up-is : (x : Float) → Sum x → wholeUpOf x ≡ (num x + den x - 1) / den x
 unfolding wholeUpOf
 up-is x S =
-    let lo : T (le zero32 x) = le-of-values zero32 x 0 1 (num x) (den x) (zero-lt-suc 0) (den-pos x) zero-value (own-value x (S .real)) (le-trans (le-of-eq (zero-mul (den x))) zero-le) in
-    let hi : T (le x limit32) = le-of-values x limit32 (num x) (den x) 65536 1 (den-pos x) (zero-lt-suc 0) (own-value x (S .real)) limit-value (le-trans (le-of-eq (mul-one (num x))) (S .most)) in
+    let lo : T (le zero32 x) = le-of-values zero32 x 0 1 (num x) (den x) (zero-lt-suc 0) (den-pos x) zero-value (own-value x (S .real))
+    (le-trans (le-of-eq (zero-mul (den x))) zero-le) in
+    let hi : T (le x limit32) = le-of-values x limit32 (num x) (den x) 65536 1 (den-pos x) (zero-lt-suc 0) (own-value x (S .real)) limit-value
+    (le-trans (le-of-eq (mul-one (num x))) (S .most)) in
     ap (λ (b : Bool). cond b ((num x + den x - 1) / den x) 65537) (is-true (le zero32 x && le x limit32) (and-i (le zero32 x) (le x limit32) lo hi))
 
 -- m is the least whole number not below x
@@ -261,7 +275,10 @@ up-bounds x S =
     let n = num x + den x - 1 in
     let m = n / den x in
     let z = last (num x) (den x) (m * den x) (n % den x) (den-pos x) (div-add-mod' n (den x)) (mod-lt n (den-pos x)) in
-    record { not-below = subst (λ (k : ℕ). num x ≤ k * den x) (sym (up-is x S)) (z .0); least = subst (λ (k : ℕ). k * den x < num x + den x) (sym (up-is x S)) (z .1) }
+    record {
+      not-below = subst (λ (k : ℕ). num x ≤ k * den x) (sym (up-is x S)) (z .0);
+      least = subst (λ (k : ℕ). k * den x < num x + den x) (sym (up-is x S)) (z .1);
+    }
   where
     last : (n d a r : ℕ) → 0 < d → a + r ≡ n + d - 1 → r < d → (n ≤ a) × (a < n + d)
     last n d a r D e l = omega arith
@@ -280,7 +297,8 @@ pub up-two : (x : Float) (m : ℕ) → Sum x → Up x m → 2 ≤ m
 up-two x m S U = below-up x m 1 U (lt-of-le-of-lt (le-of-eq (one-mul (den x))) (S .over))
 
 pub up-limit : (x : Float) (m : ℕ) → Sum x → Up x m → m ≤ 65536
-up-limit x m S U = cut m (lt-of-mul-lt-mul-right (den x) (lt-of-lt-of-le (U .least) (join (num x) (den x) (65536 * den x) (65537 * den x) (S .most) (suc-mul 65536 (den x)))))
+up-limit x m S U = cut m
+    (lt-of-mul-lt-mul-right (den x) (lt-of-lt-of-le (U .least) (join (num x) (den x) (65536 * den x) (65537 * den x) (S .most) (suc-mul 65536 (den x)))))
   where
     cut : (m : ℕ) → m < 65537 → m ≤ 65536
     cut m h = omega arith
@@ -308,7 +326,8 @@ size-is x m S M h =
     let p = whole-positive m h M in
     let e : num y ≡ m * den y = sym (mul-one (num y)) ∙ value→cross y m 1 (whole-value m h) in
     div-is x y (S .real) p
-    ∙ round-same binary32 false (num x * den y) (num y * den x) (num x) (m * den x) (subst (λ (z : ℕ). 0 < z * den x) (sym e) (mul-pos (mul-pos M (den-pos y)) (den-pos x))) (mul-pos M (den-pos x))
+    ∙ round-same binary32 false (num x * den y) (num y * den x) (num x) (m * den x)
+    (subst (λ (z : ℕ). 0 < z * den x) (sym e) (mul-pos (mul-pos M (den-pos y)) (den-pos x))) (mul-pos M (den-pos x))
     (swap (num x) (den y) m (den x) ∙ ap (λ (z : ℕ). num x * (z * den x)) (sym e))
   where
     swap : (a b c d : ℕ) → a * b * (c * d) ≡ a * (c * b * d)
@@ -337,7 +356,8 @@ size-high x m S U =
     let M : 0 < m = le-trans (lit≤ tt) (up-two x m S U) in
     subst (λ (z : Float). T (le (x ⊘ whole32 m) z)) (sym one-is)
     (subst (λ (z : Float). T (le z (round binary32 false 1 1))) (sym (size-is x m S M (le-trans (up-limit x m S U) (lit≤ tt))))
-    (round-mono binary32 (num x) (m * den x) 1 1 (mul-pos M (den-pos x)) (zero-lt-suc 0) (le-trans (le-of-eq (mul-one (num x))) (le-trans (U .not-below) (le-of-eq (sym (one-mul (m * den x))))))))
+    (round-mono binary32 (num x) (m * den x) 1 1 (mul-pos M (den-pos x)) (zero-lt-suc 0)
+    (le-trans (le-of-eq (mul-one (num x))) (le-trans (U .not-below) (le-of-eq (sym (one-mul (m * den x))))))))
 
 half-positive : T (positive half32)
 unfolding ofBits

@@ -1,5 +1,5 @@
--- What holds of the tables at every moment of a run, in both settings, whatever the tables held before: the quads up to the count belong to the splines up to the count,
--- spline by spline and in order, each spline as `Span` says.
+-- What holds of the tables at every moment of a run, in both settings, whatever the tables held before: the quads up to the count belong to the splines up to
+-- the count, spline by spline and in order, each spline as `Span` says.
 -- The plan: `cut j` is the number of quads before spline j. A push keeps every spline but the last one, which is opened or joined; `put` says so once, for a
 -- spline t that is either the next one, just opened, or the last. `sound-push` is that for each form of a push, and `sound-run` goes through a list. Assumes
 -- nothing.
@@ -36,8 +36,8 @@ use Rattle.primitives.specs.declared.SplineEdit.{SplineEdit}
 use Rattle.primitives.specs.declared.QuadRow.{QuadRow}
 use Rattle.primitives.specs.Splines.{sumBefore, splineEditOf}
 use Rattle.primitives.specs.Plan.{refusedOf, markedOf}
-use Rattle.tables.specs.Tables.{QuadTable, SplineTable, quadCapacityOf, splineCapacityOf, capacitiesOf, putQuad, quadRowAt, clearFlag, putSpline, splineAt}
-use Rattle.tables.specs.Tables.{noSpline, lastSplineOf}
+use Rattle.tables.specs.Tables.{QuadTable, SplineTable, quadCapacityOf, splineCapacityOf, capacitiesOf, putQuad, quadRowAt, clearFlag, putSpline}
+use Rattle.tables.specs.Tables.{splineAt, noSpline, lastSplineOf}
 use Rattle.tables.specs.Run.{World, world, applyOf, pushOf, runOf, startState}
 use Rattle.tables.proofs.RunningSums.{Bent, Sum, natural, zero-natural, zero-num, positive-natural}
 use Rattle.tables.proofs.Pushes.{lastOf, isMark, Allowed, splineEdit, Pushed, kept, marked, lined, bent, pushed}
@@ -143,12 +143,16 @@ module _ (caps : Capacities) (w : World) (S : Sound caps w) where
         all = ap (topped (S .cut) t k') next ∙ topped-high (S .cut) t k' (suc t) (le-refl (suc t)) ∙ sym quads;
         span = λ j h. elim (eq-or-lt-of-le (le-of-suc-le-suc (lt-of-lt-of-le h (le-of-eq next)))) [
           | inl e ↦
-              subst (λ (x : ℕ). Span (quadRowAt q') (splineAt (putSpline s edit) x .curvature) (topped (S .cut) t k' x) (topped (S .cut) t k' (suc x)) x) (sym e)
-              (subst₂ (λ (x y : ℕ). Span (quadRowAt q') (splineAt (putSpline s edit) t .curvature) x y t) (sym (topped-low (S .cut) t k' t (le-refl t))) (sym (topped-high (S .cut) t k' (suc t) (le-refl (suc t))))
+              subst (λ (x : ℕ). Span (quadRowAt q') (splineAt (putSpline s edit) x .curvature) (topped (S .cut) t k' x) (topped (S .cut) t k' (suc x)) x)
+              (sym e)
+              (subst₂ (λ (x y : ℕ). Span (quadRowAt q') (splineAt (putSpline s edit) t .curvature) x y t) (sym (topped-low (S .cut) t k' t (le-refl t)))
+              (sym (topped-high (S .cut) t k' (suc t) (le-refl (suc t))))
               (subst (λ (x : Float). Span (quadRowAt q') x (S .cut t) k' t) (sym (new-total at row)) R))
           | inr l ↦
-              subst₂ (λ (x y : ℕ). Span (quadRowAt q') (splineAt (putSpline s edit) j .curvature) x y j) (sym (topped-low (S .cut) t k' j (le-of-lt l))) (sym (topped-low (S .cut) t k' (suc j) l))
-              (span-agree (quadRowAt (w .quads)) (quadRowAt q') (splineAt s j .curvature) (splineAt (putSpline s edit) j .curvature) (S .cut j) (S .cut (suc j)) j
+              subst₂ (λ (x y : ℕ). Span (quadRowAt q') (splineAt (putSpline s edit) j .curvature) x y j) (sym (topped-low (S .cut) t k' j (le-of-lt l)))
+              (sym (topped-low (S .cut) t k' (suc j) l))
+              (span-agree (quadRowAt (w .quads)) (quadRowAt q') (splineAt s j .curvature) (splineAt (putSpline s edit) j .curvature) (S .cut j)
+              (S .cut (suc j)) j
               (below (S .cut (suc j)) (cut-le caps w S (suc j) (le-trans l T≤)))
               (total-other s edit j (λ e. ne-of-lt l (e ∙ at)))
               (S .span j (lt-of-lt-of-le l T≤)))
@@ -177,17 +181,21 @@ module _ (caps : Capacities) (w : World) (S : Sound caps w) where
 
   -- ---- the spline that is opened or joined, as it was
   before-open : Span (quadRowAt (w .quads)) zero32 (S .cut (w .state .splines)) (w .state .quads) (w .state .splines)
-  before-open = subst (λ (x : ℕ). Span (quadRowAt (w .quads)) zero32 (S .cut (w .state .splines)) x (w .state .splines)) (S .all) (span-none (quadRowAt (w .quads)) (S .cut (w .state .splines)) (w .state .splines))
+  before-open = subst (λ (x : ℕ). Span (quadRowAt (w .quads)) zero32 (S .cut (w .state .splines)) x (w .state .splines)) (S .all)
+      (span-none (quadRowAt (w .quads)) (S .cut (w .state .splines)) (w .state .splines))
 
-  before-join : 0 < w .state .splines → Span (quadRowAt (w .quads)) (lastOf w .curvature) (S .cut (w .state .splines - 1)) (w .state .quads) (w .state .splines - 1)
+  before-join : 0 < w .state .splines
+      → Span (quadRowAt (w .quads)) (lastOf w .curvature) (S .cut (w .state .splines - 1)) (w .state .quads) (w .state .splines - 1)
   before-join h =
       let n = w .state .splines in
       let p = pred-suc n h in
-      subst₂ (λ (x : Float) (y : ℕ). Span (quadRowAt (w .quads)) x (S .cut (n - 1)) y (n - 1)) (sym (ap (λ (r : SplineRow). r .curvature) (last-is w h))) (ap (S .cut) p ∙ S .all)
+      subst₂ (λ (x : Float) (y : ℕ). Span (quadRowAt (w .quads)) x (S .cut (n - 1)) y (n - 1)) (sym (ap (λ (r : SplineRow). r .curvature) (last-is w h)))
+      (ap (S .cut) p ∙ S .all)
       (S .span (n - 1) (le-of-eq p))
 
   -- the sum that a spline has before one more quad: zero, or a running sum
-  pub sum-before : (opens : Bool) → (opens ≡ false → w .state .mark ≡ false) → T (natural (sumBefore opens (lastOf w))) × (num (sumBefore opens (lastOf w)) ≤ 65536 * den (sumBefore opens (lastOf w)))
+  pub sum-before : (opens : Bool) → (opens ≡ false → w .state .mark ≡ false)
+      → T (natural (sumBefore opens (lastOf w))) × (num (sumBefore opens (lastOf w)) ≤ 65536 * den (sumBefore opens (lastOf w)))
   unfolding sumBefore
   sum-before true h = (zero-natural, le-trans (le-of-eq zero-num) zero-le)
   sum-before false h = elim (span-total (quadRowAt (w .quads)) (lastOf w .curvature) _ _ _ (before-join (S .waits (h refl)))) [
@@ -200,38 +208,47 @@ module _ (caps : Capacities) (w : World) (S : Sound caps w) where
   unfolding applyOf splineEditOf sumBefore
   sound-lined true start end angle A =
       let n = w .state .splines in
-      put (splineEdit w true start end zero32 (w .state .quads) angle) (w .quads) n (w .state .quads) zero32 (le-refl n) (A .room refl) (S .room .quads) refl refl (add-one n) refl
+      put (splineEdit w true start end zero32 (w .state .quads) angle) (w .quads) n (w .state .quads) zero32 (le-refl n) (A .room refl)
+      (S .room .quads) refl refl (add-one n) refl
       (agree-self (quadRowAt (w .quads)) (w .state .quads)) refl before-open
   sound-lined false start end angle A =
       let n = w .state .splines in
       let N = S .waits (A .joins refl) in
-      put (splineEdit w false start end (lastOf w .curvature) (w .state .quads) angle) (w .quads) (n - 1) (w .state .quads) (lastOf w .curvature) (sub-le n 1) (lt-of-lt-of-le (pred-lt n N) (S .room .splines)) (S .room .quads) refl refl (sym (pred-suc n N)) refl
+      put (splineEdit w false start end (lastOf w .curvature) (w .state .quads) angle) (w .quads) (n - 1) (w .state .quads) (lastOf w .curvature) (sub-le n 1)
+      (lt-of-lt-of-le (pred-lt n N) (S .room .splines)) (S .room .quads) refl refl (sym (pred-suc n N)) refl
       (agree-self (quadRowAt (w .quads)) (w .state .quads)) refl (before-join N)
 
-  sound-bent : (opens : Bool) (start end : Point) (angle : Angle) (c : Float) (row : QuadRow) → Allowed caps w opens → Bent c → w .state .quads < caps .quads → T (le (sumBefore opens (lastOf w) ⊕ c) limit32)
+  sound-bent : (opens : Bool) (start end : Point) (angle : Angle) (c : Float) (row : QuadRow) → Allowed caps w opens → Bent c → w .state .quads < caps .quads
+      → T (le (sumBefore opens (lastOf w) ⊕ c) limit32)
       → row .«partial_curvature» ≡ sumBefore opens (lastOf w) ⊕ c
       → row .spline ≡ splineEdit w opens start end (sumBefore opens (lastOf w) ⊕ c) (w .state .quads + 1) angle .at
-      → Sound caps (applyOf (Bend (splineEdit w opens start end (sumBefore opens (lastOf w) ⊕ c) (w .state .quads + 1) angle) (w .state .quads) row) (w .quads) (w .splines))
+      → Sound caps (applyOf (Bend (splineEdit w opens start end (sumBefore opens (lastOf w) ⊕ c) (w .state .quads + 1) angle) (w .state .quads) row)
+      (w .quads) (w .splines))
   unfolding applyOf splineEditOf sumBefore
   sound-bent true start end angle c row A B K fit e o =
       let n = w .state .splines in
       let k = w .state .quads in
       let q = w .quads in
       let stored = row-put q k row (lt-of-lt-of-le K (S .room .rows)) in
-      put (splineEdit w true start end (zero32 ⊕ c) (k + 1) angle) (putQuad q k row) n (suc k) (zero32 ⊕ c) (le-refl n) (A .room refl) K refl refl (add-one n) (add-one k)
+      put (splineEdit w true start end (zero32 ⊕ c) (k + 1) angle) (putQuad q k row) n (suc k) (zero32 ⊕ c) (le-refl n) (A .room refl) K refl refl (add-one n)
+      (add-one k)
       (agree-put q k row) (capacity-stays q k row)
-      (span-more (quadRowAt q) (quadRowAt (putQuad q k row)) zero32 c (S .cut n) k n before-open (agree-put q k row) B fit (same-sum stored ∙ e) (same-owner stored ∙ o))
+      (span-more (quadRowAt q) (quadRowAt (putQuad q k row)) zero32 c (S .cut n) k n before-open (agree-put q k row) B fit (same-sum stored ∙ e)
+      (same-owner stored ∙ o))
   sound-bent false start end angle c row A B K fit e o =
       let n = w .state .splines in
       let k = w .state .quads in
       let q = w .quads in
       let N = S .waits (A .joins refl) in
       let stored = row-put q k row (lt-of-lt-of-le K (S .room .rows)) in
-      put (splineEdit w false start end (lastOf w .curvature ⊕ c) (k + 1) angle) (putQuad q k row) (n - 1) (suc k) (lastOf w .curvature ⊕ c) (sub-le n 1) (lt-of-lt-of-le (pred-lt n N) (S .room .splines)) K refl refl (sym (pred-suc n N)) (add-one k)
+      put (splineEdit w false start end (lastOf w .curvature ⊕ c) (k + 1) angle) (putQuad q k row) (n - 1) (suc k) (lastOf w .curvature ⊕ c) (sub-le n 1)
+      (lt-of-lt-of-le (pred-lt n N) (S .room .splines)) K refl refl (sym (pred-suc n N)) (add-one k)
       (agree-put q k row) (capacity-stays q k row)
-      (span-more (quadRowAt q) (quadRowAt (putQuad q k row)) (lastOf w .curvature) c (S .cut (n - 1)) k (n - 1) (before-join N) (agree-put q k row) B fit (same-sum stored ∙ e) (same-owner stored ∙ o))
+      (span-more (quadRowAt q) (quadRowAt (putQuad q k row)) (lastOf w .curvature) c (S .cut (n - 1)) k (n - 1) (before-join N) (agree-put q k row) B fit
+      (same-sum stored ∙ e) (same-owner stored ∙ o))
 
-  same-tables : (st : State) → st .splines ≡ w .state .splines → st .quads ≡ w .state .quads → (st .mark ≡ false → w .state .mark ≡ false) → Sound caps (world st (w .quads) (w .splines))
+  same-tables : (st : State) → st .splines ≡ w .state .splines → st .quads ≡ w .state .quads → (st .mark ≡ false → w .state .mark ≡ false)
+      → Sound caps (world st (w .quads) (w .splines))
   same-tables st e f m =
       record {
         cut = S .cut;
@@ -294,5 +311,6 @@ module _ (q : QuadTable) (s : SplineTable) where
         waits = λ h. absurd (true≢false h);
       }
 
-pub sound : (setting : Setting) (ps : List Primitive) (q : QuadTable) (s : SplineTable) → Sound (capacitiesOf q s) (runOf setting (capacitiesOf q s) ps (world startState q s))
+pub sound : (setting : Setting) (ps : List Primitive) (q : QuadTable) (s : SplineTable)
+    → Sound (capacitiesOf q s) (runOf setting (capacitiesOf q s) ps (world startState q s))
 sound setting ps q s = sound-run setting (capacitiesOf q s) ps (world startState q s) (sound-start q s)

@@ -88,7 +88,8 @@ pub span-total : (rows : ℕ → QuadRow) (total : Float) (lo hi j : ℕ) → Sp
 span-total rows total lo hi j S = elim (eq-or-lt-of-le (S .ordered)) [ inl e ↦ inl (e, S .none e) | inr h ↦ inr (span-last rows total lo hi j S h) ]
 
 -- ---- one more quad, at k
-module _ (rows rows' : ℕ → QuadRow) (total c : Float) (lo k j : ℕ) (S : Span rows total lo k j) (A : Agree rows rows' k) (B : Bent c) (fit : T (le (total ⊕ c) limit32)) (e : sumAt rows' k ≡ total ⊕ c) (o : ownerAt rows' k ≡ j) where
+module _ (rows rows' : ℕ → QuadRow) (total c : Float) (lo k j : ℕ) (S : Span rows total lo k j) (A : Agree rows rows' k) (B : Bent c)
+    (fit : T (le (total ⊕ c) limit32)) (e : sumAt rows' k ≡ total ⊕ c) (o : ownerAt rows' k ≡ j) where
   new-sum : Sum (total ⊕ c) × Reaches total (total ⊕ c)
   new-sum = elim (span-total rows total lo k j S) [
     | inl z ↦

@@ -190,7 +190,8 @@ module _
         go false e = sym (g .same ∙ run-stop setting caps (primitivesFrom c (drop i (take n (c .commands))) j) w (sym (g .done) ∙ e))
         go true e =
             let h = ltb-false i n (and-going (ltb i n) (rw e at f)) in
-            sym (g .same ∙ ap (λ (l : List ℕ). runOf setting caps (primitivesFrom c l j) w) (drop-of-length-le (take n (c .commands)) {i = i} (rw (length-take-le n (c .commands) fit) h)))
+            sym (g .same ∙ ap (λ (l : List ℕ). runOf setting caps (primitivesFrom c l j) w)
+            (drop-of-length-le (take n (c .commands)) {i = i} (rw (length-take-le n (c .commands) fit) h)))
 
 -- ---- the whole drawing
 take-least : (m : ℕ) (l : List ℕ) → take (min m (length l)) l ≡ take m l
@@ -215,5 +216,6 @@ pub filled :
     → w ≡ tablesOf setting store c q s
 unfolding tablesOf primitivesOf capacitiesOf
 filled setting store c q s a b n w i j going g f ea eb en =
-    let end = take-end setting (record { quads = a; splines = b }) c n (world startState q s) w i j going g (least-fits (store .commands) n (length (c .commands)) en) f in
+    let end = take-end setting (record { quads = a; splines = b }) c n (world startState q s) w i j going g
+    (least-fits (store .commands) n (length (c .commands)) en) f in
     rw (← ea, ← eb, ← take-least (store .commands) (c .commands), ← en) end

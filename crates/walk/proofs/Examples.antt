@@ -1,7 +1,6 @@
 -- The walk over tables written out, by computation: where no Start is written, where the cursor goes, and that every contour has its steps. Assumes nothing.
 use Prim.Native.Nat.{ℕ}
 use mathlib.Core.Path.{_≡_, refl}
-use mathlib.Core.Bool.{true, false}
 use mathlib.Core.List.{List, [], _∷_, map}
 use lib.Count.{trailingZeros}
 use lib.Ieee.{Float, nan, size, span, climb, odd, units, round, neg, sum, add, sub, mul, div, lt, eq, le, ofInt, isNan, ofFields, ofBits, toBits}
@@ -18,7 +17,8 @@ use Rattle.columns.specs.Flags.{isFlagOf}
 use Rattle.primitives.specs.declared.Three.{Three}
 use Rattle.primitives.specs.declared.QuadRow.{QuadRow}
 use Rattle.tables.specs.Tables.{SplineTable, splineTable, splineAt}
-use Rattle.walk.specs.Walk.{Item, subdivisionsOf, stepSizeOf, startsOf, cursorAt, stepsFrom, cursorFrom, cursorAfter, splineItemsOf, walkFrom, walkOf, wordOf, wordsOf}
+use Rattle.walk.specs.Walk.{Item, subdivisionsOf, stepSizeOf, startsOf, cursorAt, stepsFrom, cursorFrom, cursorAfter}
+use Rattle.walk.specs.Walk.{splineItemsOf, walkFrom, walkOf, wordOf, wordsOf}
 
 -- quads of these sums; the walk reads nothing else of them
 unfoldable pub summed : List Float → ℕ → QuadRow
@@ -48,19 +48,31 @@ still sums flags = let none = replicate 4 zero32 in splineTable sums none none n
 
 -- at a distance of exactly 0.0625 no Start is written, at the next f32 up one is
 pub no-start-at-the-limit : wordsOf (walkOf Screen (summed []) (apart (f32 0x3d80_0000)) 2) ≡ 0x7f80_0000 ∷ 0xff80_0000 ∷ 0xffc0_0001 ∷ []
-unfolding summed apart rootIn root rooted bitsOf sqrtOf wholeUpOf minusOf lenOf packOf isFlagOf splineAt subdivisionsOf stepSizeOf startsOf cursorAt stepsFrom cursorFrom cursorAfter splineItemsOf walkFrom walkOf wordOf wordsOf trailingZeros size span climb odd units round neg sum add sub mul div lt eq le ofInt isNan ofFields ofBits toBits
+unfolding summed apart rootIn root rooted bitsOf sqrtOf wholeUpOf minusOf lenOf packOf isFlagOf splineAt subdivisionsOf stepSizeOf startsOf cursorAt
+    stepsFrom cursorFrom cursorAfter splineItemsOf walkFrom walkOf wordOf wordsOf trailingZeros size span climb odd units round neg sum add sub mul
+    div lt eq le ofInt isNan ofFields ofBits toBits
 no-start-at-the-limit = refl
 
 pub a-start-past-the-limit : wordsOf (walkOf Screen (summed []) (apart (f32 0x3d80_0001)) 2) ≡ 0x7f80_0000 ∷ 0xff80_0000 ∷ 0x7f80_0001 ∷ 0xffc0_0001 ∷ []
-unfolding summed apart rootIn root rooted bitsOf sqrtOf wholeUpOf minusOf lenOf packOf isFlagOf splineAt subdivisionsOf stepSizeOf startsOf cursorAt stepsFrom cursorFrom cursorAfter splineItemsOf walkFrom walkOf wordOf wordsOf trailingZeros size span climb odd units round neg sum add sub mul div lt eq le ofInt isNan ofFields ofBits toBits
+unfolding summed apart rootIn root rooted bitsOf sqrtOf wholeUpOf minusOf lenOf packOf isFlagOf splineAt subdivisionsOf stepSizeOf startsOf cursorAt
+    stepsFrom cursorFrom cursorAfter splineItemsOf walkFrom walkOf wordOf wordsOf trailingZeros size span climb odd units round neg sum add sub mul
+    div lt eq le ofInt isNan ofFields ofBits toBits
 a-start-past-the-limit = refl
 
 -- the sums 0.25, 0.5 and 3 in one spline: step 1 exceeds the first two and yet uses quad 1, step 2 quad 2
-pub cursor-goes-on-once : map (λ (i : Item). i .quad) (walkOf Screen (summed (f32 0x3e80_0000 ∷ f32 0x3f00_0000 ∷ whole32 3 ∷ [])) (still (whole32 3 ∷ []) (1 ∷ [])) 1) ≡ 0 ∷ 1 ∷ 2 ∷ 0 ∷ []
-unfolding summed still rootIn root rooted bitsOf sqrtOf wholeUpOf minusOf lenOf packOf isFlagOf splineAt subdivisionsOf stepSizeOf startsOf cursorAt stepsFrom cursorFrom cursorAfter splineItemsOf walkFrom walkOf wordOf wordsOf trailingZeros size span climb odd units round neg sum add sub mul div lt eq le ofInt isNan ofFields ofBits toBits
+pub cursor-goes-on-once :
+    map (λ (i : Item). i .quad) (walkOf Screen (summed (f32 0x3e80_0000 ∷ f32 0x3f00_0000 ∷ whole32 3 ∷ [])) (still (whole32 3 ∷ []) (1 ∷ [])) 1)
+    ≡ 0 ∷ 1 ∷ 2 ∷ 0 ∷ []
+unfolding summed still rootIn root rooted bitsOf sqrtOf wholeUpOf minusOf lenOf packOf isFlagOf splineAt subdivisionsOf stepSizeOf startsOf cursorAt
+    stepsFrom cursorFrom cursorAfter splineItemsOf walkFrom walkOf wordOf wordsOf trailingZeros size span climb odd units round neg sum add sub mul
+    div lt eq le ofInt isNan ofFields ofBits toBits
 cursor-goes-on-once = refl
 
 -- two contours of sum 2: each has its Start, its step of size 1 and its flagged End
-pub every-contour-has-steps : wordsOf (walkOf Screen (summed (whole32 2 ∷ whole32 2 ∷ [])) (still (whole32 2 ∷ whole32 2 ∷ []) (1 ∷ 1 ∷ [])) 2) ≡ 0x7f80_0000 ∷ 0x3f80_0000 ∷ 0xffc0_0000 ∷ 0x7f80_0001 ∷ 0x3f80_0000 ∷ 0xffc0_0001 ∷ []
-unfolding summed still rootIn root rooted bitsOf sqrtOf wholeUpOf minusOf lenOf packOf isFlagOf splineAt subdivisionsOf stepSizeOf startsOf cursorAt stepsFrom cursorFrom cursorAfter splineItemsOf walkFrom walkOf wordOf wordsOf trailingZeros size span climb odd units round neg sum add sub mul div lt eq le ofInt isNan ofFields ofBits toBits
+pub every-contour-has-steps :
+    wordsOf (walkOf Screen (summed (whole32 2 ∷ whole32 2 ∷ [])) (still (whole32 2 ∷ whole32 2 ∷ []) (1 ∷ 1 ∷ [])) 2)
+    ≡ 0x7f80_0000 ∷ 0x3f80_0000 ∷ 0xffc0_0000 ∷ 0x7f80_0001 ∷ 0x3f80_0000 ∷ 0xffc0_0001 ∷ []
+unfolding summed still rootIn root rooted bitsOf sqrtOf wholeUpOf minusOf lenOf packOf isFlagOf splineAt subdivisionsOf stepSizeOf startsOf cursorAt
+    stepsFrom cursorFrom cursorAfter splineItemsOf walkFrom walkOf wordOf wordsOf trailingZeros size span climb odd units round neg sum add sub mul
+    div lt eq le ofInt isNan ofFields ofBits toBits
 every-contour-has-steps = refl

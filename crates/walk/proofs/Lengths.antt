@@ -91,7 +91,8 @@ pub counted-start : (s : SplineTable) (n : ℕ) (last : SplineRow) → last ≡ 
 unfolding walkLengthOf
 counted-start s n last e = record { within = omega arith; small = omega arith; before = e; same = omega arith }
 
-length-more : (s : SplineTable) (left k : ℕ) → 0 < left → lengthFrom s left k ≡ splineLengthOf k (splineAt s (k - 1)) (splineAt s k) + lengthFrom s (left - 1) (k + 1)
+length-more : (s : SplineTable) (left k : ℕ) → 0 < left
+    → lengthFrom s left k ≡ splineLengthOf k (splineAt s (k - 1)) (splineAt s k) + lengthFrom s (left - 1) (k + 1)
 unfolding lengthFrom
 length-more s zero k h = absurd (let z : _≡_ {A = ℕ} 0 1 = omega arith in omega arith)
 length-more s (suc n) k h = let e : suc n - 1 ≡ n = omega arith in rw e
@@ -101,7 +102,8 @@ unfolding lengthFrom
 length-none s left k h = let e : left ≡ 0 = omega arith in rw e
 
 module _ (s : SplineTable) (n total : ℕ) (last : SplineRow) (k left : ℕ) (g : Counted s n total last k left) where
-  pub counted-more : (row : SplineRow) (len : ℕ) → 0 < left → row ≡ splineAt s k → len ≡ splineLengthOf k last row → Counted s n (total + len) row (k + 1) (left - 1)
+  pub counted-more : (row : SplineRow) (len : ℕ) → 0 < left → row ≡ splineAt s k → len ≡ splineLengthOf k last row
+      → Counted s n (total + len) row (k + 1) (left - 1)
   counted-more row len h r l =
       let e : k + 1 - 1 ≡ k = omega arith in
       let b : len ≤ 65538 = subst (λ (x : ℕ). x ≤ 65538) (sym l) (spline-length-bound k last row) in

@@ -20,8 +20,8 @@ Inv-loop curvature p0x p0y p2x p2y contour n total₀ last₀ k₀ left₀ total
 abbrev μ-loop : tie.MeasureT-loop
 μ-loop curvature p0x p0y p2x p2y contour n total₀ last₀ k₀ left₀ total last k left = left
 
-abbrev start : tie.At-loop Inv-loop μ-loop → tie.Start Inv-loop μ-loop
-start c = c .before .before .before .before .before .before .before .before
+unfoldable start : tie.At-loop Inv-loop μ-loop → tie.Start Inv-loop μ-loop
+start c = search
 
 spline-at-requires : tie.Need-spline-at-requires Inv-loop μ-loop
 spline-at-requires c κs = search needs
@@ -39,9 +39,11 @@ spline-length-requires : tie.Need-spline-length-requires Inv-loop μ-loop
 spline-length-requires c κs = search needs
 
 add-total : tie.Need-add-total Inv-loop μ-loop
+unfolding start
 add-total c = omega (arith, start (c .before .before .before) .fits .n, total-fits _ _ _ _ (c .spline-length .ensures))
 
 add-k : tie.Need-add-k Inv-loop μ-loop
+unfolding start
 add-k c = omega (arith, start (c .before .before .before) .fits .n)
 
 sub-left : tie.Need-sub-left Inv-loop μ-loop

@@ -22,7 +22,11 @@ clamp-requires c κs = search needs
 
 returns : tie.Need-returns
 unfolding parameterOf
-returns c = rw (← c .before .before .before .before .before .before .fma .ensures, ← c .before .before .before .before .fma2 .ensures, ← c .before .before .before .inv-curvature .ensures, ← c .clamp .ensures)
+returns c =
+    let a : tie.After-fma = search in
+    let b : tie.After-fma2 = search in
+    let x : tie.After-inv-curvature = search in
+    rw (← a .fma .ensures, ← b .fma2 .ensures, ← x .inv-curvature .ensures, ← c .clamp .ensures)
 
 pub parameter-spec : {M : Type 1} → statement M
 parameter-spec =

@@ -12,7 +12,7 @@ eval-quad-requires c κs = search needs
 
 returns : tie.Need-returns
 unfolding stepPointOf
-returns c = rw (← c .before .before .before .before .parameter .ensures, ← c .eval-quad .ensures)
+returns c = let t : tie.After-parameter = search in rw (← t .parameter .ensures, ← c .eval-quad .ensures)
 
 pub step-point-spec : {M : Type 1} → statement M
 step-point-spec = tie.close (tie.spec parameter-requires eval-quad-requires returns)

@@ -33,7 +33,12 @@ same-length-4 c = search needs
 
 returns : tie.Need-returns
 unfolding writeEntryOf
-returns c = rw (c .before .before .before .before .before .before .before .before .before .before .before .before .before .before .before .put-u32 .ensures, c .before .before .before .before .before .before .before .before .before .before .before .put-f32 .ensures, c .before .before .before .before .before .before .before .put-f322 .ensures, c .before .before .put-u8 .ensures, c .before .before .before .flag-byte .ensures)
+returns c =
+    let u : tie.After-put-u8 = search in
+    let y : tie.After-put-f322 = search in
+    let x : tie.After-put-f32 = search in
+    let w : tie.After-put-u32 = search in
+    rw (w .put-u32 .ensures, x .put-f32 .ensures, y .put-f322 .ensures, u .put-u8 .ensures, u .before .flag-byte .ensures)
 
 pub write-entry-spec : {M : Type 1} → statement M
 write-entry-spec =

@@ -1,7 +1,7 @@
 -- `evaluate::writing::write_spline` meets its contract: the Start, the steps and the End, one after the other. Assumes nothing.
-use native.Mathlib.Nat.{le-trans}
+use Prim.Native.Nat.{_+_, _≤_}
 use native.Mathlib.Omega.{arith}
-use mathlib.Core.Path.{_∙_}
+use mathlib.Core.Path.{_≡_, _∙_}
 use Rattle.evaluate.proofs.Passes.{few, start-place, end-place, spline-passes}
 use borrow.Author.Needs.{needs}
 use Rattle.evaluate.proofs.writing.write_spline.Statement.{statement}
@@ -16,9 +16,46 @@ size-requires c κs = search needs
 steps-requires : tie.Need-steps-requires
 steps-requires c κs = search needs
 
+-- ---- the places after each part, from the next
+unfoldable begin : tie.After-write-start → tie.Start
+begin c = search
+
+unfoldable started : tie.After-steps → tie.After-write-start
+started c = search
+
+unfoldable counted : tie.After-write-steps → tie.After-steps
+counted c = search
+
+unfoldable stepped : tie.After-write-entry → tie.After-write-steps
+stepped c = search
+
+unfoldable worded : tie.After-write-entry → tie.After-pack
+worded c = search
+
+unfoldable ended : tie.After-end-place → tie.After-write-entry
+ended c = search
+
+-- ---- how far the place has come
+placed : (c : tie.After-write-start)
+    → (c .write-start .result .at ≤ begin c .args .from .at + 1) × (c .write-start .result .cursor ≡ begin c .args .from .cursor)
+unfolding begin
+placed c = start-place _ _ _ _ _ _ _ (c .write-start .ensures)
+
+few-steps : (c : tie.After-steps) → c .steps .result ≤ 65536
+few-steps c = few _ _ (c .steps .ensures)
+
+stepped-place : (c : tie.After-write-steps)
+    → (c .write-steps .result .at ≤ 0x4000_0000_0002_0000) × (c .write-steps .result .cursor ≤ 0x4000_0000_0002_0000)
+unfolding begin started counted
+stepped-place c =
+    end-place _ _ _ (begin (started (counted c)) .args .from) (started (counted c) .write-start .result) _ _ _
+    (few-steps (counted c)) (begin (started (counted c)) .pre) (placed (started (counted c))) (c .write-steps .ensures)
+
 write-steps-requires : tie.Need-write-steps-requires
+unfolding begin started
 write-steps-requires c κs =
-    (few _ (c .before .before .before .before .before .before .before .before .before .before .before .before .before .before .before .before .before .before .before .before .before .before .before .before .before .before .before .before .before .before .before .before .before .args .row .curvature) (c .before .before .before .before .steps .ensures), le-trans (start-place (c .before .before .before .before .before .before .before .before .before .before .before .before .before .before .before .before .before .before .before .before .before .before .before .before .before .before .before .before .before .before .before .before .before .args .k) (c .before .before .before .before .before .before .before .before .before .before .before .before .before .before .before .before .before .before .before .before .before .before .before .before .before .before .before .before .before .before .before .before .before .args .last) (c .before .before .before .before .before .before .before .before .before .before .before .before .before .before .before .before .before .before .before .before .before .before .before .before .before .before .before .before .before .before .before .before .before .args .row) (c .before .before .before .before .before .before .before .before .before .before .before .before .before .before .before .before .before .before .before .before .before .before .before .before .before .before .before .before .before .before .before .before .before .args .from) (c .before .before .before .before .before .before .before .before .before .before .before .before .before .before .write-start .result) _ _ (c .before .before .before .before .before .before .before .before .before .before .before .before .before .before .write-start .ensures) .0) (omega (arith, c .before .before .before .before .before .before .before .before .before .before .before .before .before .before .before .before .before .before .before .before .before .before .before .before .before .before .before .before .before .before .before .before .before .pre .0)))
+    let n : tie.After-steps = search in
+    (few-steps n, omega (arith, placed (started n) .0, begin (started n) .pre .0))
 
 pack-requires : tie.Need-pack-requires
 pack-requires c κs = search needs
@@ -27,25 +64,48 @@ write-entry-requires : tie.Need-write-entry-requires
 write-entry-requires c κs = search needs
 
 end-place-requires : tie.Need-end-place-requires
-end-place-requires c κs =
-    end-place _ (c .before .before .before .before .before .before .before .before .before .before .before .before .before .before .before .before .before .before .before .before .before .before .before .before .before .before .before .before .before .size .result) (c .before .before .before .before .before .before .before .before .before .before .before .before .before .before .before .before .before .before .before .before .before .before .before .before .before .before .before .before .steps .result) (c .before .before .before .before .before .before .before .before .before .before .before .before .before .before .before .before .before .before .before .before .before .before .before .before .before .before .before .before .before .before .before .before .before .before .before .before .before .before .before .before .before .before .before .before .before .before .before .before .before .before .before .before .before .before .before .before .before .args .from) (c .before .before .before .before .before .before .before .before .before .before .before .before .before .before .before .before .before .before .before .before .before .before .before .before .before .before .before .before .before .before .before .before .before .before .before .before .before .before .write-start .result) (c .before .before .before .before .before .before .before .before .before .before .before .before .before .before .before .before .before .before .before .before .before .before .before .write-steps .result) _ _ (few _ (c .before .before .before .before .before .before .before .before .before .before .before .before .before .before .before .before .before .before .before .before .before .before .before .before .before .before .before .before .before .before .before .before .before .before .before .before .before .before .before .before .before .before .before .before .before .before .before .before .before .before .before .before .before .before .before .before .before .args .row .curvature) (c .before .before .before .before .before .before .before .before .before .before .before .before .before .before .before .before .before .before .before .before .before .before .before .before .before .before .before .before .steps .ensures)) (c .before .before .before .before .before .before .before .before .before .before .before .before .before .before .before .before .before .before .before .before .before .before .before .before .before .before .before .before .before .before .before .before .before .before .before .before .before .before .before .before .before .before .before .before .before .before .before .before .before .before .before .before .before .before .before .before .before .pre)
-    (start-place (c .before .before .before .before .before .before .before .before .before .before .before .before .before .before .before .before .before .before .before .before .before .before .before .before .before .before .before .before .before .before .before .before .before .before .before .before .before .before .before .before .before .before .before .before .before .before .before .before .before .before .before .before .before .before .before .before .before .args .k) (c .before .before .before .before .before .before .before .before .before .before .before .before .before .before .before .before .before .before .before .before .before .before .before .before .before .before .before .before .before .before .before .before .before .before .before .before .before .before .before .before .before .before .before .before .before .before .before .before .before .before .before .before .before .before .before .before .before .args .last) (c .before .before .before .before .before .before .before .before .before .before .before .before .before .before .before .before .before .before .before .before .before .before .before .before .before .before .before .before .before .before .before .before .before .before .before .before .before .before .before .before .before .before .before .before .before .before .before .before .before .before .before .before .before .before .before .before .before .args .row) (c .before .before .before .before .before .before .before .before .before .before .before .before .before .before .before .before .before .before .before .before .before .before .before .before .before .before .before .before .before .before .before .before .before .before .before .before .before .before .before .before .before .before .before .before .before .before .before .before .before .before .before .before .before .before .before .before .before .args .from) (c .before .before .before .before .before .before .before .before .before .before .before .before .before .before .before .before .before .before .before .before .before .before .before .before .before .before .before .before .before .before .before .before .before .before .before .before .before .before .write-start .result) _ _ (c .before .before .before .before .before .before .before .before .before .before .before .before .before .before .before .before .before .before .before .before .before .before .before .before .before .before .before .before .before .before .before .before .before .before .before .before .before .before .write-start .ensures)) (c .before .before .before .before .before .before .before .before .before .before .before .before .before .before .before .before .before .before .before .before .before .before .before .write-steps .ensures)
+end-place-requires c κs = let t : tie.After-write-steps = search in stepped-place t
 
+-- ---- each output is as long as it was, and is what the parts make of it
 same-length : tie.Need-same-length
-same-length c = c .before .before .before .before .before .before .before .before .before .write-entry .kept .0 ∙ c .before .before .before .before .before .before .before .before .before .before .before .before .before .before .before .before .before .before .before .before .before .before .before .before .write-steps .kept .1 .1 .1 .1 .1 .1 .1 .1 .1 .1 .0 ∙ c .before .before .before .before .before .before .before .before .before .before .before .before .before .before .before .before .before .before .before .before .before .before .before .before .before .before .before .before .before .before .before .before .before .before .before .before .before .before .before .write-start .kept .0
+unfolding ended stepped counted started
+same-length c =
+    ended c .write-entry .kept .0
+    ∙ stepped (ended c) .write-steps .kept .1 .1 .0
+    ∙ started (counted (stepped (ended c))) .write-start .kept .0
 
 same-length-2 : tie.Need-same-length-2
-same-length-2 c = c .before .before .before .before .before .before .before .before .before .write-entry .kept .1 .0 ∙ c .before .before .before .before .before .before .before .before .before .before .before .before .before .before .before .before .before .before .before .before .before .before .before .before .write-steps .kept .1 .1 .1 .1 .1 .1 .1 .1 .1 .1 .1 .0 ∙ c .before .before .before .before .before .before .before .before .before .before .before .before .before .before .before .before .before .before .before .before .before .before .before .before .before .before .before .before .before .before .before .before .before .before .before .before .before .before .before .write-start .kept .1 .0
+unfolding ended stepped counted started
+same-length-2 c =
+    ended c .write-entry .kept .1 .0
+    ∙ stepped (ended c) .write-steps .kept .1 .1 .1 .0
+    ∙ started (counted (stepped (ended c))) .write-start .kept .1 .0
 
 same-length-3 : tie.Need-same-length-3
-same-length-3 c = c .before .before .before .before .before .before .before .before .before .write-entry .kept .1 .1 .0 ∙ c .before .before .before .before .before .before .before .before .before .before .before .before .before .before .before .before .before .before .before .before .before .before .before .before .write-steps .kept .1 .1 .1 .1 .1 .1 .1 .1 .1 .1 .1 .1 .0 ∙ c .before .before .before .before .before .before .before .before .before .before .before .before .before .before .before .before .before .before .before .before .before .before .before .before .before .before .before .before .before .before .before .before .before .before .before .before .before .before .before .write-start .kept .1 .1 .0
+unfolding ended stepped counted started
+same-length-3 c =
+    ended c .write-entry .kept .1 .1 .0
+    ∙ stepped (ended c) .write-steps .kept .1 .1 .1 .1 .0
+    ∙ started (counted (stepped (ended c))) .write-start .kept .1 .1 .0
 
 same-length-4 : tie.Need-same-length-4
-same-length-4 c = c .before .before .before .before .before .before .before .before .before .write-entry .kept .1 .1 .1 .0 ∙ c .before .before .before .before .before .before .before .before .before .before .before .before .before .before .before .before .before .before .before .before .before .before .before .before .write-steps .kept .1 .1 .1 .1 .1 .1 .1 .1 .1 .1 .1 .1 .1 .0 ∙ c .before .before .before .before .before .before .before .before .before .before .before .before .before .before .before .before .before .before .before .before .before .before .before .before .before .before .before .before .before .before .before .before .before .before .before .before .before .before .before .write-start .kept .1 .1 .1 .0
+unfolding ended stepped counted started
+same-length-4 c =
+    ended c .write-entry .kept .1 .1 .1 .0
+    ∙ stepped (ended c) .write-steps .kept .1 .1 .1 .1 .1 .0
+    ∙ started (counted (stepped (ended c))) .write-start .kept .1 .1 .1 .0
 
 returns : tie.Need-returns
+unfolding ended worded stepped counted started
 returns c =
-    spline-passes _ _ _ _ _ _ _ _ _ _ _ _ _ _ _ (c .before .before .before .before .before .before .before .before .before .before .before .before .before .before .before .before .before .before .before .before .before .before .before .before .before .before .before .before .before .before .before .before .before .before .before .before .before .before .before .write-start .ensures) (c .before .before .before .before .before .before .before .before .before .before .before .before .before .before .before .before .before .before .before .before .before .before .before .before .before .before .before .before .before .before .size .ensures) (c .before .before .before .before .before .before .before .before .before .before .before .before .before .before .before .before .before .before .before .before .before .before .before .before .before .before .before .before .before .steps .ensures) (c .before .before .before .before .before .before .before .before .before .before .before .before .before .before .before .before .before .before .before .before .before .before .before .before .write-steps .ensures) (c .before .before .before .before .before .before .before .before .before .before .before .before .before .before .before .pack .ensures) (c .before .before .before .before .before .before .before .before .before .write-entry .ensures) (c .end-place .ensures)
+    spline-passes _ _ _ _ _ _ _ _ _ _ _ _ _ _ _
+    (started (counted (stepped (ended c))) .write-start .ensures)
+    (counted (stepped (ended c)) .before .size .ensures)
+    (counted (stepped (ended c)) .steps .ensures)
+    (stepped (ended c) .write-steps .ensures)
+    (worded (ended c) .pack .ensures)
+    (ended c .write-entry .ensures)
+    (c .end-place .ensures)
 
 pub write-spline-spec : {M : Type 1} → statement M
 write-spline-spec =

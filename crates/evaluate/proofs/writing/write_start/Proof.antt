@@ -35,7 +35,12 @@ same-length-4 c = search needs
 
 returns-2 : tie.Need-returns-2
 unfolding writeStartOf
-returns-2 c = rw (← c .before .before .before .before .before .before .before .before .before .before .before .before .before .before .before .before .starts-after .ensures, not-false (c .before .before .before .before .before .before .before .before .before .before .before .before .before .before .before .before .starts-after .result) (c .before .before .before .before .before .before .before .before .before .before .before .before .before .before .before .if1 .left), ← c .before .before .before .before .before .before .before .before .before .before .before .before .before .before .pack .ensures, c .before .before .before .before .before .before .before .before .write-entry .ensures)
+returns-2 c =
+    let e : tie.After-write-entry = search in
+    let w : tie.After-pack = search in
+    let t : tie.Else1 = search in
+    let s = t .before .starts-after in
+    rw (← s .ensures, not-false (s .result) (t .if1 .left), ← w .pack .ensures, e .write-entry .ensures)
 
 pub write-start-spec : {M : Type 1} → statement M
 write-start-spec =

@@ -1,55 +1,82 @@
 -- `evaluate::writing::write_steps` meets its contract: the loop counts down the steps that are left. Assumes nothing.
 use native.Mathlib.Omega.{arith}
 use borrow.Author.Needs.{needs}
-use Rattle.tables.specs.Tables.{quadTable}
+use Rattle.tables.specs.Tables.{quadTable, quadRowAt}
 use Rattle.evaluate.specs.Output.{output}
-use Rattle.evaluate.proofs.Passes.{Stepping, stepping-start, stepping-more, stepping-end}
+use Rattle.evaluate.proofs.Passes.{Stepping, stepping-start, stepping-more, stepping-end, same-kept}
 use Rattle.evaluate.proofs.writing.write_steps.Statement.{statement}
 use Rattle.evaluate.proofs.writing.write_steps.Tie as tie
 
 abbrev Inv-loop : tie.InvT-loop
-Inv-loop x y weight x0 dx-recip k0 dk curvatures-recip partial-curvatures partial-splines words₀ out-x₀ out-y₀ out-end₀ size n word at₀ cursor₀ p₀ left₀ words out-x out-y out-end at cursor p left =
-    Stepping (quadTable x y weight x0 dx-recip k0 dk curvatures-recip partial-curvatures partial-splines) size n at₀ cursor₀
-    (output words₀ out-x₀ out-y₀ out-end₀) (output words out-x out-y out-end) at cursor p left
+Inv-loop quad-rows partial-splines words₀ x₀ y₀ end₀ size n word at₀ cursor₀ p₀ left₀ words x y end at cursor p left =
+    Stepping (quadRowAt (quadTable quad-rows partial-splines)) size n at₀ cursor₀
+    (output words₀ x₀ y₀ end₀) (output words x y end) at cursor p left
 
 abbrev μ-loop : tie.MeasureT-loop
-μ-loop x y weight x0 dx-recip k0 dk curvatures-recip partial-curvatures partial-splines words₀ out-x₀ out-y₀ out-end₀ size n word at₀ cursor₀ p₀ left₀ words out-x out-y out-end at cursor p left =
-    left
+μ-loop quad-rows partial-splines words₀ x₀ y₀ end₀ size n word at₀ cursor₀ p₀ left₀ words x y end at cursor p left = left
 
 pack-requires : tie.Need-pack-requires Inv-loop μ-loop
 pack-requires c κs = search needs
 
 loop-holds : tie.Need-loop-holds Inv-loop μ-loop
-loop-holds c = stepping-start _ _ _ _ _ _
+loop-holds c = stepping-start
+
+-- ---- the places of a turn: where it begins, and, from its end, after its point and after its entry; and the function's start
+abbrev Turn : Type 0
+Turn = tie.In-loop Inv-loop μ-loop
+
+abbrev Done : Type 0
+Done = tie.After-slice-known8 Inv-loop μ-loop
+
+unfoldable start : Turn → tie.Start Inv-loop μ-loop
+start t = search
+
+unfoldable turn : Done → Turn
+turn c = search
+
+unfoldable pointed : Done → tie.After-step-point Inv-loop μ-loop
+pointed c = search
+
+unfoldable entered : Done → tie.After-write-entry Inv-loop μ-loop
+entered c = search
 
 step-cursor-requires : tie.Need-step-cursor-requires Inv-loop μ-loop
-step-cursor-requires c κs = omega (arith, c .before .loop .inv .count, c .loop-test .taken, c .before .before .before .before .before .before .before .before .before .before .before .before .before .before .before .before .before .pre .0)
+unfolding start
+step-cursor-requires c κs = omega (arith, c .before .loop .inv .count, c .loop-test .taken, start c .pre)
 
 step-quad-requires : tie.Need-step-quad-requires Inv-loop μ-loop
 step-quad-requires c κs = search needs
 
 step-point-requires : tie.Need-step-point-requires Inv-loop μ-loop
-step-point-requires c κs = omega (arith, c .before .before .before .loop .inv .count, c .before .before .loop-test .taken, c .before .before .before .before .before .before .before .before .before .before .before .before .before .before .before .before .before .before .before .pre .0)
+unfolding start
+step-point-requires c κs = let t : Turn = search in omega (arith, t .before .loop .inv .count, t .loop-test .taken, start t .pre)
 
 write-entry-requires : tie.Need-write-entry-requires Inv-loop μ-loop
 write-entry-requires c κs = search needs
 
 add-at : tie.Need-add-at Inv-loop μ-loop
-add-at c = omega (arith, c .before .before .before .before .before .before .before .before .before .before .before .before .before .before .before .before .before .loop .inv .room, c .before .before .before .before .before .before .before .before .before .before .before .before .before .before .before .before .loop-test .taken, c .before .before .before .before .before .before .before .before .before .before .before .before .before .before .before .before .before .before .before .before .before .before .before .before .before .before .before .before .before .before .before .before .before .pre .0, c .before .before .before .before .before .before .before .before .before .before .before .before .before .before .before .before .before .before .before .before .before .before .before .before .before .before .before .before .before .before .before .before .before .pre .1)
+unfolding start turn
+add-at c = omega (arith, turn c .before .loop .inv .room, turn c .loop-test .taken, start (turn c) .pre)
 
 add-p : tie.Need-add-p Inv-loop μ-loop
-add-p c = omega (arith, c .before .before .before .before .before .before .before .before .before .before .before .before .before .before .before .before .before .loop .inv .count, c .before .before .before .before .before .before .before .before .before .before .before .before .before .before .before .before .loop-test .taken, c .before .before .before .before .before .before .before .before .before .before .before .before .before .before .before .before .before .before .before .before .before .before .before .before .before .before .before .before .before .before .before .before .before .pre .0)
+unfolding start turn
+add-p c = omega (arith, turn c .before .loop .inv .count, turn c .loop-test .taken, start (turn c) .pre)
 
 sub-left : tie.Need-sub-left Inv-loop μ-loop
-sub-left c = omega (arith, c .before .before .before .before .before .before .before .before .before .before .before .before .before .before .before .before .loop-test .taken)
+unfolding turn
+sub-left c = omega (arith, turn c .loop-test .taken)
 
 loop-less : tie.Need-loop-less Inv-loop μ-loop
-loop-less c = omega (arith, c .before .before .before .before .before .before .before .before .before .before .before .before .before .before .before .before .loop-test .taken)
+unfolding turn
+loop-less c = omega (arith, turn c .loop-test .taken)
 
 loop-again : tie.Need-loop-again Inv-loop μ-loop
+unfolding quadRowAt turn pointed entered
 loop-again c =
-    stepping-more _ _ _ _ _ _ _ _ _ _ _ (c .before .before .before .before .before .before .before .before .before .before .before .before .before .before .before .before .before .loop .inv) _ _ _ _ _ (c .before .before .before .before .before .before .before .before .before .before .before .before .before .before .before .before .loop-test .taken) (c .before .before .before .before .before .before .before .before .before .before .before .before .before .before .before .step-cursor .ensures) (c .before .before .before .before .before .before .before .before .before .before .before .before .before .before .step-quad .ensures) (c .before .before .before .before .before .before .before .before .before .before .before .before .before .step-point .ensures) (c .before .before .before .before .before .before .before .before .before .before .before .before .before .before .before .before .before .before .pack .ensures) (c .before .before .before .before .before .before .before .before .write-entry .ensures)
-    (record { words = c .before .before .before .before .before .before .before .before .write-entry .kept .0; x = c .before .before .before .before .before .before .before .before .write-entry .kept .1 .0; y = c .before .before .before .before .before .before .before .before .write-entry .kept .1 .1 .0; end = c .before .before .before .before .before .before .before .before .write-entry .kept .1 .1 .1 .0 })
+    stepping-more (turn c .before .loop .inv) (turn c .loop-test .taken)
+    (pointed c .before .before .step-cursor .ensures) (pointed c .before .step-quad .ensures) (pointed c .step-point .ensures)
+    (turn c .before .before .pack .ensures) (entered c .write-entry .ensures)
+    (same-kept _ _ (entered c .write-entry .kept))
 
 same-length : tie.Need-same-length Inv-loop μ-loop
 same-length c = c .before .loop .inv .long .words
@@ -64,7 +91,7 @@ same-length-4 : tie.Need-same-length-4 Inv-loop μ-loop
 same-length-4 c = c .before .loop .inv .long .end
 
 returns : tie.Need-returns Inv-loop μ-loop
-returns c = stepping-end _ _ _ _ _ _ _ _ _ _ _ (c .before .loop .inv) (c .loop-test .left)
+returns c = stepping-end (c .before .loop .inv) (c .loop-test .left)
 
 pub write-steps-spec : {M : Type 1} → statement M
 write-steps-spec =

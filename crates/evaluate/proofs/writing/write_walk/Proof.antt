@@ -1,49 +1,76 @@
 -- `evaluate::writing::write_walk` meets its contract: the loop counts down the splines that are left. Assumes nothing.
 use native.Mathlib.Omega.{arith}
 use borrow.Author.Needs.{needs}
-use Rattle.tables.specs.Tables.{quadTable, splineTable}
+use Rattle.tables.specs.Tables.{quadTable, splineTable, quadRowAt}
 use Rattle.evaluate.specs.Output.{output}
-use Rattle.evaluate.proofs.Passes.{Walking, walking-start, walking-more, walking-end}
+use Rattle.evaluate.proofs.Passes.{Walking, walking-start, walking-more, walking-end, same-kept}
 use Rattle.evaluate.proofs.writing.write_walk.Statement.{statement}
 use Rattle.evaluate.proofs.writing.write_walk.Tie as tie
 
 abbrev Inv-loop : tie.InvT-loop
-Inv-loop x y weight x0 dx-recip k0 dk curvatures-recip partial-curvatures partial-splines curvature p0x p0y p2x p2y contour words₀ out-x₀ out-y₀ out-end₀ n last₀ place₀ k₀ left₀ words out-x out-y out-end last place k left =
-    Walking (quadTable x y weight x0 dx-recip k0 dk curvatures-recip partial-curvatures partial-splines) (splineTable curvature p0x p0y p2x p2y contour) n
-    (output words₀ out-x₀ out-y₀ out-end₀) (output words out-x out-y out-end) last place k left
+Inv-loop quad-rows partial-splines curvature p0x p0y p2x p2y contour words₀ x₀ y₀ end₀ n last₀ place₀ k₀ left₀ words x y end last place k left =
+    Walking (quadRowAt (quadTable quad-rows partial-splines)) (splineTable curvature p0x p0y p2x p2y contour) n
+    (output words₀ x₀ y₀ end₀) (output words x y end) last place k left
 
 abbrev μ-loop : tie.MeasureT-loop
-μ-loop x y weight x0 dx-recip k0 dk curvatures-recip partial-curvatures partial-splines curvature p0x p0y p2x p2y contour words₀ out-x₀ out-y₀ out-end₀ n last₀ place₀ k₀ left₀ words out-x out-y out-end last place k left =
-    left
+μ-loop quad-rows partial-splines curvature p0x p0y p2x p2y contour words₀ x₀ y₀ end₀ n last₀ place₀ k₀ left₀ words x y end last place k left = left
 
 spline-at-requires : tie.Need-spline-at-requires Inv-loop μ-loop
 spline-at-requires c κs = search needs
 
 loop-holds : tie.Need-loop-holds Inv-loop μ-loop
-loop-holds c = walking-start _ _ _ _ _ (c .spline-at .ensures)
+loop-holds c = walking-start (c .spline-at .ensures)
+
+-- ---- the places of a turn: where it begins, and, from its end, after the row and after the spline; and the function's start
+abbrev Turn : Type 0
+Turn = tie.In-loop Inv-loop μ-loop
+
+abbrev Done : Type 0
+Done = tie.After-slice-known8 Inv-loop μ-loop
+
+unfoldable start : Turn → tie.Start Inv-loop μ-loop
+start t = search
+
+unfoldable turn : Done → Turn
+turn c = search
+
+unfoldable read : Done → tie.After-spline-at2 Inv-loop μ-loop
+read c = search
+
+unfoldable written : Done → tie.After-write-spline Inv-loop μ-loop
+written c = search
 
 cast-spline-at : tie.Need-cast-spline-at Inv-loop μ-loop
-cast-spline-at c = omega (arith, c .before .loop .inv .within, c .before .before .before .before .before .before .before .before .before .before .before .before .before .before .before .before .before .before .before .before .before .before .before .fits .n)
+unfolding start
+cast-spline-at c = omega (arith, c .before .loop .inv .within, start c .fits .n)
 
 spline-at-requires-2 : tie.Need-spline-at-requires-2 Inv-loop μ-loop
 spline-at-requires-2 c κs = search needs
 
 write-spline-requires : tie.Need-write-spline-requires Inv-loop μ-loop
-write-spline-requires c κs = omega (arith, c .before .before .before .before .before .before .loop .inv .within, c .before .before .before .before .before .before .loop .inv .entry, c .before .before .before .before .before .before .loop .inv .cursor, c .before .before .before .before .before .before .before .before .before .before .before .before .before .before .before .before .before .before .before .before .before .before .before .before .before .before .before .before .fits .n)
+unfolding start
+write-spline-requires c κs =
+    let t : Turn = search in
+    let inv = t .before .loop .inv in
+    omega (arith, inv .within, inv .entry, inv .cursor, start t .fits .n)
 
 add-k : tie.Need-add-k Inv-loop μ-loop
-add-k c = omega (arith, c .before .before .before .before .before .before .before .before .before .before .before .before .before .before .before .loop .inv .within, c .before .before .before .before .before .before .before .before .before .before .before .before .before .before .before .before .before .before .before .before .before .before .before .before .before .before .before .before .before .before .before .before .before .before .before .before .before .fits .n, c .before .before .before .before .before .before .before .before .before .before .before .before .before .before .loop-test .taken)
+unfolding start turn
+add-k c = omega (arith, turn c .before .loop .inv .within, turn c .loop-test .taken, start (turn c) .fits .n)
 
 sub-left : tie.Need-sub-left Inv-loop μ-loop
-sub-left c = omega (arith, c .before .before .before .before .before .before .before .before .before .before .before .before .before .before .loop-test .taken)
+unfolding turn
+sub-left c = omega (arith, turn c .loop-test .taken)
 
 loop-less : tie.Need-loop-less Inv-loop μ-loop
-loop-less c = omega (arith, c .before .before .before .before .before .before .before .before .before .before .before .before .before .before .loop-test .taken)
+unfolding turn
+loop-less c = omega (arith, turn c .loop-test .taken)
 
 loop-again : tie.Need-loop-again Inv-loop μ-loop
+unfolding turn read written
 loop-again c =
-    walking-more _ _ _ _ _ _ _ _ _ (c .before .before .before .before .before .before .before .before .before .before .before .before .before .before .before .loop .inv) _ _ _ (c .before .before .before .before .before .before .before .before .before .before .before .before .before .before .loop-test .taken) (c .before .before .before .before .before .before .before .before .before .before .before .before .before .spline-at2 .ensures) (c .before .before .before .before .before .before .before .before .write-spline .ensures)
-    (record { words = c .before .before .before .before .before .before .before .before .write-spline .kept .1 .1 .1 .1 .1 .1 .1 .1 .1 .1 .0; x = c .before .before .before .before .before .before .before .before .write-spline .kept .1 .1 .1 .1 .1 .1 .1 .1 .1 .1 .1 .0; y = c .before .before .before .before .before .before .before .before .write-spline .kept .1 .1 .1 .1 .1 .1 .1 .1 .1 .1 .1 .1 .0; end = c .before .before .before .before .before .before .before .before .write-spline .kept .1 .1 .1 .1 .1 .1 .1 .1 .1 .1 .1 .1 .1 .0 })
+    walking-more (turn c .before .loop .inv) (turn c .loop-test .taken) (read c .spline-at2 .ensures) (written c .write-spline .ensures)
+    (same-kept _ _ (written c .write-spline .kept .1 .1))
 
 same-length : tie.Need-same-length Inv-loop μ-loop
 same-length c = c .before .loop .inv .long .words
@@ -58,7 +85,7 @@ same-length-4 : tie.Need-same-length-4 Inv-loop μ-loop
 same-length-4 c = c .before .loop .inv .long .end
 
 returns : tie.Need-returns Inv-loop μ-loop
-returns c = walking-end _ _ _ _ _ _ _ _ _ (c .before .loop .inv) (c .loop-test .left)
+returns c = walking-end (c .before .loop .inv) (c .loop-test .left)
 
 pub write-walk-spec : {M : Type 1} → statement M
 write-walk-spec =

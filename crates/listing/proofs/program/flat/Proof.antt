@@ -8,6 +8,19 @@ use borrow.Author.Needs.{needs}
 use Rattle.listing.proofs.program.flat.Statement.{statement}
 use Rattle.listing.proofs.program.flat.Tie as tie
 
+-- ---- the places
+
+abbrev at-flatten : tie.After-is-done → tie.After-flatten
+at-flatten c = c .before .before .before .before .before .before .before .before .before .before .before .before .before
+
+abbrev at-refused : tie.After-refuse → tie.Then1
+at-refused c = c .before .before
+
+abbrev at-reported : tie.After-report → tie.Else1
+at-reported c = c .before .before .before .before .before
+
+-- ---- the needs
+
 slice-aggregate-flatten : tie.Need-slice-aggregate-flatten
 slice-aggregate-flatten c = search needs
 
@@ -44,30 +57,6 @@ slice-aggregate-flatten-11 c = search needs
 slice-aggregate-flatten-12 : tie.Need-slice-aggregate-flatten-12
 slice-aggregate-flatten-12 c = search needs
 
-slice-aggregate-flatten-13 : tie.Need-slice-aggregate-flatten-13
-slice-aggregate-flatten-13 c = search needs
-
-slice-aggregate-flatten-14 : tie.Need-slice-aggregate-flatten-14
-slice-aggregate-flatten-14 c = search needs
-
-slice-aggregate-flatten-15 : tie.Need-slice-aggregate-flatten-15
-slice-aggregate-flatten-15 c = search needs
-
-slice-aggregate-flatten-16 : tie.Need-slice-aggregate-flatten-16
-slice-aggregate-flatten-16 c = search needs
-
-slice-aggregate-flatten-17 : tie.Need-slice-aggregate-flatten-17
-slice-aggregate-flatten-17 c = search needs
-
-slice-aggregate-flatten-18 : tie.Need-slice-aggregate-flatten-18
-slice-aggregate-flatten-18 c = search needs
-
-slice-aggregate-flatten-19 : tie.Need-slice-aggregate-flatten-19
-slice-aggregate-flatten-19 c = search needs
-
-slice-aggregate-flatten-20 : tie.Need-slice-aggregate-flatten-20
-slice-aggregate-flatten-20 c = search needs
-
 flatten-requires : tie.Need-flatten-requires
 flatten-requires c κs = search needs
 
@@ -82,27 +71,39 @@ same-length c = search needs
 
 returns : tie.Need-returns
 unfolding zeros programQuads programSplines programOutput
-returns c = listed-seen _ _ _ _ (c .before .before .refuse .ensures) (ap inBytes (flat-refused _ _ _ (c .before .before .before .before .before .before .before .before .before .before .before .before .before .before .before .before .before .before .before .before .before .before .before .before .before .before .flatten .ensures) (sym (c .before .before .before .before .before .is-done .ensures) ∙ not-true _ (c .before .before .before .before .if1 .taken))))
+returns c =
+    let r = c .before .before in
+    let t = at-refused r in
+    let i = t .before in
+    listed-seen _ _ _ _ (r .refuse .ensures)
+    (ap inBytes (flat-refused _ _ _ (at-flatten i .flatten .ensures) (sym (i .is-done .ensures) ∙ not-true _ (t .if1 .taken))))
 
 slice-aggregate-report : tie.Need-slice-aggregate-report
-slice-aggregate-report c = sym (c .before .before .before .before .before .before .before .before .before .before .before .before .before .before .before .before .before .before .before .before .before .before .before .before .flatten .kept .1 .1 .1 .1 .1 .1 .1 .1 .1 .1 .1 .1 .1 .1 .1 .1 .1 .1 .1 .1 .1 .1 .1 .0)
+slice-aggregate-report c = sym (at-flatten (c .before .before .before) .flatten .kept .1 .1 .1 .1 .1 .1 .1 .1 .1 .1 .1 .1 .1 .1 .1 .0)
 
 slice-aggregate-report-2 : tie.Need-slice-aggregate-report-2
-slice-aggregate-report-2 c = sym (c .before .before .before .before .before .before .before .before .before .before .before .before .before .before .before .before .before .before .before .before .before .before .before .before .before .flatten .kept .1 .1 .1 .1 .1 .1 .1 .1 .1 .1 .1 .1 .1 .1 .1 .1 .1 .1 .1 .1 .1 .1 .1 .1 .0)
+slice-aggregate-report-2 c = sym (at-flatten (c .before .before .before .before) .flatten .kept .1 .1 .1 .1 .1 .1 .1 .1 .1 .1 .1 .1 .1 .1 .1 .1 .0)
 
 slice-aggregate-report-3 : tie.Need-slice-aggregate-report-3
-slice-aggregate-report-3 c = sym (c .before .before .before .before .before .before .before .before .before .before .before .before .before .before .before .before .before .before .before .before .before .before .before .before .before .before .flatten .kept .1 .1 .1 .1 .1 .1 .1 .1 .1 .1 .1 .1 .1 .1 .1 .1 .1 .1 .1 .1 .1 .1 .1 .1 .1 .0)
+slice-aggregate-report-3 c = sym (at-flatten (c .before .before .before .before .before) .flatten .kept .1 .1 .1 .1 .1 .1 .1 .1 .1 .1 .1 .1 .1 .1 .1 .1 .1 .0)
 
 report-requires : tie.Need-report-requires
 unfolding zeros programQuads programSplines programOutput
-report-requires c κs = flat-few _ _ _ (c .before .before .before .before .before .before .before .before .before .before .before .before .before .before .before .before .before .before .before .before .before .before .before .before .before .before .flatten .ensures) (sym (c .before .before .before .before .before .is-done .ensures) ∙ not-false _ (c .before .before .before .before .if1 .left))
+report-requires c κs =
+    let e = c .before .before .before .before in
+    flat-few _ _ _ (at-flatten (e .before) .flatten .ensures) (sym (e .before .is-done .ensures) ∙ not-false _ (e .if1 .left))
 
 same-length-2 : tie.Need-same-length-2
 same-length-2 c = search needs
 
 returns-2 : tie.Need-returns-2
 unfolding zeros programQuads programSplines programOutput
-returns-2 c = listed-seen _ _ _ _ (c .before .before .report .ensures) (ap inBytes (flat-reported _ _ _ (c .before .before .before .before .before .before .before .before .before .before .before .before .before .before .before .before .before .before .before .before .before .before .before .before .before .before .before .before .before .flatten .ensures) (sym (c .before .before .before .before .before .before .before .before .is-done .ensures) ∙ not-false _ (c .before .before .before .before .before .before .before .if1 .left))))
+returns-2 c =
+    let r = c .before .before in
+    let e = at-reported r in
+    let i = e .before in
+    listed-seen _ _ _ _ (r .report .ensures)
+    (ap inBytes (flat-reported _ _ _ (at-flatten i .flatten .ensures) (sym (i .is-done .ensures) ∙ not-false _ (e .if1 .left))))
 
 pub flat-spec : {M : Type 1} → statement M
 flat-spec =
@@ -120,14 +121,6 @@ flat-spec =
     slice-aggregate-flatten-10
     slice-aggregate-flatten-11
     slice-aggregate-flatten-12
-    slice-aggregate-flatten-13
-    slice-aggregate-flatten-14
-    slice-aggregate-flatten-15
-    slice-aggregate-flatten-16
-    slice-aggregate-flatten-17
-    slice-aggregate-flatten-18
-    slice-aggregate-flatten-19
-    slice-aggregate-flatten-20
     flatten-requires
     is-done-requires
     refuse-requires

@@ -27,7 +27,15 @@ cast-result c = search needs
 
 returns : tie.Need-returns
 unfolding splineCapacityOf
-returns c = rw (← c .before .before .before .before .before .least .ensures, ← c .before .before .before .before .least2 .ensures, ← c .before .before .before .least3 .ensures, ← c .before .before .least4 .ensures, ← c .before .least5 .ensures, ← c .least6 .ensures)
+returns c = rw (
+  ← c .before .before .before .before .before .least .ensures,
+  ← c .before .before .before .before .least2 .ensures,
+  ←
+      c .before .before .before .least3 .ensures,
+  ← c .before .before .least4 .ensures,
+  ← c .before .least5 .ensures,
+  ← c .least6 .ensures,
+)
 
 pub spline-capacity-spec : {M : Type 1} → statement M
 spline-capacity-spec =

@@ -35,7 +35,16 @@ stored-point-requires-3 c κs = search needs
 
 returns-3 : tie.Need-returns-3
 unfolding commandPrimitivesOf
-returns-3 c = rw (two _ (c .before .before .before .before .before .before .before .before .before .pre .0) (c .before .before .before .before .before .if1 .left) (c .before .if2 .left), ← c .before .before .before .before .below .ensures, ← c .before .before .before .stored-point .ensures, ← c .before .before .stored-point2 .ensures, ← c .stored-point3 .ensures)
+returns-3 c = rw (
+  two _ (c .before .before .before .before .before .before .before .before .before .pre .0)
+      (c .before .before .before .before .before .if1 .left)
+      (c .before .if2 .left),
+  ← c .before .before .before .before .below .ensures,
+  ← c .before .before .before .stored-point .ensures,
+  ←
+      c .before .before .stored-point2 .ensures,
+  ← c .stored-point3 .ensures,
+)
 
 pub command-primitive-spec : {M : Type 1} → statement M
 command-primitive-spec =

@@ -27,7 +27,13 @@ stored-point-requires-4 c κs = search needs
 
 returns : tie.Need-returns
 unfolding cubicFrom
-returns c = rw (← c .before .before .before .stored-point .ensures, ← c .before .before .stored-point2 .ensures, ← c .before .stored-point3 .ensures, ← c .stored-point4 .ensures)
+returns c = rw (
+  ← c .before .before .before .stored-point .ensures,
+  ← c .before .before .stored-point2 .ensures,
+  ← c .before .stored-point3 .ensures,
+  ←
+      c .stored-point4 .ensures,
+)
 
 pub cubic-from-spec : {M : Type 1} → statement M
 cubic-from-spec =

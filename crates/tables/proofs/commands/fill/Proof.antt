@@ -87,7 +87,14 @@ loop-again c =
     take-on _ _ _ _ _ _ _ _ _ (t .before .loop .inv) (record { x = g .0 .1; y = g .1 .0 .1; weight = g .1 .1 .0 .1 })
     (least-fits _ _ _ (l .least .ensures)) (t .loop-test .taken) (r .read-u8 .ensures) (r .read-u8 .ok) (p .push-command .ensures)
     (c .before .is-done .ensures) (c .advance .ensures) (record { rows = k .0; partial-splines = k .1 .0 })
-    (record { curvature = k .1 .1 .0; p0x = k .1 .1 .1 .0; p0y = k .1 .1 .1 .1 .0; p2x = k .1 .1 .1 .1 .1 .0; p2y = k .1 .1 .1 .1 .1 .1 .0; contour = k .1 .1 .1 .1 .1 .1 .1 .0 })
+    (record {
+      curvature = k .1 .1 .0;
+      p0x = k .1 .1 .1 .0;
+      p0y = k .1 .1 .1 .1 .0;
+      p2x = k .1 .1 .1 .1 .1 .0;
+      p2y = k .1 .1 .1 .1 .1 .1 .0;
+      contour = k .1 .1 .1 .1 .1 .1 .1 .0;
+    })
 
 same-length : tie.Need-same-length Inv-loop μ-loop
 same-length c = c .before .loop .inv .quads .rows

@@ -18,7 +18,12 @@ same-length c = search needs
 
 returns : tie.Need-returns
 unfolding clearFlag
-returns c = rw (c .before .before .before .before .before .before .if1 .taken, ← c .before .before .before .before .below .ensures, ← c .before .before .before .flag-byte .ensures) (c .before .before .put-u8 .ensures)
+returns c = rw (
+  c .before .before .before .before .before .before .if1 .taken,
+  ← c .before .before .before .before .below .ensures,
+  ←
+      c .before .before .before .flag-byte .ensures,
+) (c .before .before .put-u8 .ensures)
 
 returns-2 : tie.Need-returns-2
 unfolding clearFlag

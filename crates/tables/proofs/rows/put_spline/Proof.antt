@@ -50,7 +50,17 @@ same-length-6 : tie.Need-same-length-6
 same-length-6 c = search needs
 
 returns : tie.Need-returns
-returns c = spline-put _ _ (c .before .before .before .before .before .before .before .before .before .before .before .before .before .before .before .before .before .before .before .before .before .before .before .before .before .before .before .put-f32 .ensures) (c .before .before .before .before .before .before .before .before .before .before .before .before .before .before .before .before .before .before .before .before .before .before .before .put-f322 .ensures) (c .before .before .before .before .before .before .before .before .before .before .before .before .before .before .before .before .before .before .before .put-f323 .ensures) (c .before .before .before .before .before .before .before .before .before .before .before .before .before .before .before .put-f324 .ensures) (c .before .before .before .before .before .before .before .before .before .before .before .put-f325 .ensures) (c .before .before .before .before .before .before .before .clear-flag .ensures) (c .before .before .before .flag-byte .ensures) (c .before .before .put-u8 .ensures)
+returns c =
+    let byte-put = c .before .before in
+    let byte-made = byte-put .before in
+    let cleared = byte-made .before .before .before .before in
+    let p2y-put = cleared .before .before .before .before in
+    let p2x-put = p2y-put .before .before .before .before in
+    let p0y-put = p2x-put .before .before .before .before in
+    let p0x-put = p0y-put .before .before .before .before in
+    let curvature-put = p0x-put .before .before .before .before in
+    spline-put _ _ (curvature-put .put-f32 .ensures) (p0x-put .put-f322 .ensures) (p0y-put .put-f323 .ensures) (p2x-put .put-f324 .ensures)
+    (p2y-put .put-f325 .ensures) (cleared .clear-flag .ensures) (byte-made .flag-byte .ensures) (byte-put .put-u8 .ensures)
 
 pub put-spline-spec : {M : Type 1} → statement M
 put-spline-spec =

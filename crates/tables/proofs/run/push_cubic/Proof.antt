@@ -119,7 +119,14 @@ loop-again c =
     let k = p .push2 .kept in
     cut-on _ _ _ _ _ _ _ _ _ _ _ (t .before .loop .inv) (t .loop-test .taken) (e .before .cubic-point .ensures) (e .piece .ensures) (p .push2 .ensures)
     (c .is-done2 .ensures) (record { rows = k .0; partial-splines = k .1 .0 })
-    (record { curvature = k .1 .1 .0; p0x = k .1 .1 .1 .0; p0y = k .1 .1 .1 .1 .0; p2x = k .1 .1 .1 .1 .1 .0; p2y = k .1 .1 .1 .1 .1 .1 .0; contour = k .1 .1 .1 .1 .1 .1 .1 .0 })
+    (record {
+      curvature = k .1 .1 .0;
+      p0x = k .1 .1 .1 .0;
+      p0y = k .1 .1 .1 .1 .0;
+      p2x = k .1 .1 .1 .1 .1 .0;
+      p2y = k .1 .1 .1 .1 .1 .1 .0;
+      contour = k .1 .1 .1 .1 .1 .1 .1 .0;
+    })
 
 same-length-9 : tie.Need-same-length-9 Inv-loop μ-loop
 same-length-9 c = c .before .loop .inv .quads .rows
