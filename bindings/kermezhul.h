@@ -43,20 +43,29 @@ uint32_t kermezhul_rat_cubic_to(KERMEZHUL_DRAWING, float x1, float y1, float x2,
 /* Closes the contour with a line if it is open. */
 uint32_t kermezhul_build(KERMEZHUL_DRAWING);
 
+/* The quad table has a row of 15 numbers for each quad: quad i is quad_rows[15 i] to quad_rows[15 i + 14], and partial_splines[i] is the number of its spline.
+ * A row is, in order,
+ *
+ *   0, 1, 2   x of its three points         9   x0          12   dk
+ *   3, 4, 5   y of its three points        10   dx_recip    13   the reciprocal, 1 over the quad's own curvature
+ *   6, 7, 8   their weights                11   k0          14   the sum of its spline's curvatures up to this quad
+ *
+ * where points are as stored, x and y multiplied by the weight. The table's capacity is the whole rows that fit, quad_rows_len / 15 rounded down, or
+ * partial_splines_len, the smaller of the two. An incomplete row at the end is never written. */
+#define KERMEZHUL_QUAD_ROW 15
+
 /* Flattens the drawing as it is, closed or not. setting: 0 for the screen, any other number for the knife. Nothing of the drawing is changed.
  *
- * The work tables: quad_x, quad_y and quad_weight take three numbers for each quad, the other columns of the quad table one; the spline table has six
- * columns. A table's capacity is its shortest column. words, out_x, out_y and out_end take one entry for each point; out_end is 1 at a contour's last point.
+ * The work tables: the quad table, as above, and the spline table of six columns, whose capacity is its shortest column. words, out_x, out_y and out_end take
+ * one entry for each point; out_end is 1 at a contour's last point.
  *
  * On 0 `splines` and `quads` say how much the tables hold, and the first `length` words and outputs are written. On 3 nothing is written and all three are
- * 0. On 5 to 9 no word and no output is written, `length` is 0, and the tables hold what `splines` and `quads` say. Entries past the counts never change. */
+ * 0. On 5 to 9 no word and no output is written, `length` is 0, and the tables hold what `splines` and `quads` say; 6 means that `quads` is the quad table's
+ * capacity. Rows and entries past the counts never change. */
 uint32_t kermezhul_flatten(
     uint32_t setting, size_t points, size_t used, size_t opening,
     const float *x, size_t x_len, const float *y, size_t y_len, const float *weight, size_t weight_len, const uint8_t *commands, size_t commands_len,
-    float *quad_x, size_t quad_x_len, float *quad_y, size_t quad_y_len, float *quad_weight, size_t quad_weight_len,
-    float *x0, size_t x0_len, float *dx_recip, size_t dx_recip_len, float *k0, size_t k0_len, float *dk, size_t dk_len,
-    float *curvatures_recip, size_t curvatures_recip_len, float *partial_curvatures, size_t partial_curvatures_len,
-    uint32_t *partial_splines, size_t partial_splines_len,
+    float *quad_rows, size_t quad_rows_len, uint32_t *partial_splines, size_t partial_splines_len,
     float *curvature, size_t curvature_len, float *p0x, size_t p0x_len, float *p0y, size_t p0y_len, float *p2x, size_t p2x_len, float *p2y, size_t p2y_len,
     uint8_t *contour, size_t contour_len,
     uint32_t *words, size_t words_len, float *out_x, size_t out_x_len, float *out_y, size_t out_y_len, uint8_t *out_end, size_t out_end_len,

@@ -23,17 +23,17 @@ int main(void) {
         return 1;
     }
 
-    static float qx[3 * QUADS], qy[3 * QUADS], qw[3 * QUADS], x0[QUADS], dx_recip[QUADS], k0[QUADS], dk[QUADS], recip[QUADS], sums[QUADS];
-    static uint32_t owner[QUADS];
+    static float quad_rows[KERMEZHUL_QUAD_ROW * QUADS];
+    static uint32_t partial_splines[QUADS];
     static float curvature[SPLINES], p0x[SPLINES], p0y[SPLINES], p2x[SPLINES], p2y[SPLINES];
     static uint8_t contour[SPLINES];
     static uint32_t words[LENGTH];
     static float out_x[LENGTH], out_y[LENGTH];
     static uint8_t end[LENGTH];
     size_t splines, quads, length;
-    answer = kermezhul_flatten(1, points, used, opening, x, POINTS, y, POINTS, weight, POINTS, commands, POINTS, qx, 3 * QUADS, qy, 3 * QUADS, qw, 3 * QUADS, x0,
-        QUADS, dx_recip, QUADS, k0, QUADS, dk, QUADS, recip, QUADS, sums, QUADS, owner, QUADS, curvature, SPLINES, p0x, SPLINES, p0y, SPLINES, p2x, SPLINES,
-        p2y, SPLINES, contour, SPLINES, words, LENGTH, out_x, LENGTH, out_y, LENGTH, end, LENGTH, &splines, &quads, &length);
+    answer = kermezhul_flatten(1, points, used, opening, x, POINTS, y, POINTS, weight, POINTS, commands, POINTS, quad_rows, KERMEZHUL_QUAD_ROW * QUADS,
+        partial_splines, QUADS, curvature, SPLINES, p0x, SPLINES, p0y, SPLINES, p2x, SPLINES, p2y, SPLINES, contour, SPLINES, words, LENGTH, out_x, LENGTH,
+        out_y, LENGTH, end, LENGTH, &splines, &quads, &length);
     printf("answer %u: %zu splines, %zu quads, %zu points\n", answer, splines, quads, length);
     for (size_t i = 0; i < length; i++) printf("%9.4f %9.4f%s\n", out_x[i], out_y[i], end[i] == 1 ? "  end" : "");
     return 0;

@@ -2,7 +2,7 @@
 //!
 //! `examples/run` builds and runs it.
 
-use kermezhul::{flatten, Call, Columns, Drawn, Output, Quads, Setting, Splines};
+use kermezhul::{flatten, Call, Columns, Drawn, Output, Quads, Setting, Splines, QUAD_ROW};
 
 fn main() {
     let (mut x, mut y, mut weight, mut commands) = ([0.0; 64], [0.0; 64], [0.0; 64], [0; 64]);
@@ -28,15 +28,12 @@ fn main() {
     const QUADS: usize = 64;
     const SPLINES: usize = 16;
     const POINTS: usize = 256;
-    let mut three = [[0.0; 3 * QUADS]; 3];
-    let mut one = [[0.0; QUADS]; 6];
+    let mut rows = [0.0; QUAD_ROW * QUADS];
     let mut partial_splines = [0; QUADS];
     let mut spline = [[0.0; SPLINES]; 5];
     let mut contour = [0; SPLINES];
     let (mut words, mut out, mut end) = ([0; POINTS], [[0.0; POINTS]; 2], [0; POINTS]);
-    let [qx, qy, qw] = &mut three;
-    let [x0, dx_recip, k0, dk, curvatures_recip, partial_curvatures] = &mut one;
-    let mut quads = Quads { x: qx, y: qy, weight: qw, x0, dx_recip, k0, dk, curvatures_recip, partial_curvatures, partial_splines: &mut partial_splines };
+    let mut quads = Quads { rows: &mut rows, partial_splines: &mut partial_splines };
     let [curvature, p0x, p0y, p2x, p2y] = &mut spline;
     let mut splines = Splines { curvature, p0x, p0y, p2x, p2y, contour: &mut contour };
     let [out_x, out_y] = &mut out;

@@ -82,24 +82,8 @@ mod raw {
             weight_len: usize,
             commands: *const u8,
             commands_len: usize,
-            quad_x: *mut f32,
-            quad_x_len: usize,
-            quad_y: *mut f32,
-            quad_y_len: usize,
-            quad_weight: *mut f32,
-            quad_weight_len: usize,
-            x0: *mut f32,
-            x0_len: usize,
-            dx_recip: *mut f32,
-            dx_recip_len: usize,
-            k0: *mut f32,
-            k0_len: usize,
-            dk: *mut f32,
-            dk_len: usize,
-            curvatures_recip: *mut f32,
-            curvatures_recip_len: usize,
-            partial_curvatures: *mut f32,
-            partial_curvatures_len: usize,
+            quad_rows: *mut f32,
+            quad_rows_len: usize,
             partial_splines: *mut u32,
             partial_splines_len: usize,
             curvature: *mut f32,
@@ -197,17 +181,18 @@ pub enum Setting {
     Knife,
 }
 
-/// The quad table: x, y and weight take three numbers for each quad, the others one. Its capacity is its shortest column.
+/// How many numbers a quad has in [`Quads::rows`].
+pub const QUAD_ROW: usize = 15;
+
+/// The quad table: quad i is `rows[15 * i]` to `rows[15 * i + 14]`, and `partial_splines[i]` is the number of its spline.
+///
+/// A row is, in order: x of its three points, y of the three, their weights, x0, dx_recip, k0, dk, the reciprocal (1 over the quad's own curvature) and the
+/// sum of its spline's curvatures up to this quad. Points are as stored, x and y multiplied by the weight.
+///
+/// Its capacity is the whole rows that fit, `rows.len() / QUAD_ROW`, or `partial_splines.len()`, the smaller of the two. An incomplete row at the end is
+/// never written.
 pub struct Quads<'a> {
-    pub x: &'a mut [f32],
-    pub y: &'a mut [f32],
-    pub weight: &'a mut [f32],
-    pub x0: &'a mut [f32],
-    pub dx_recip: &'a mut [f32],
-    pub k0: &'a mut [f32],
-    pub dk: &'a mut [f32],
-    pub curvatures_recip: &'a mut [f32],
-    pub partial_curvatures: &'a mut [f32],
+    pub rows: &'a mut [f32],
     pub partial_splines: &'a mut [u32],
 }
 
@@ -248,7 +233,7 @@ pub struct Drawn<'a> {
 }
 
 /// Flattens the drawing as it is, closed or not. Answers 0, 3 (unusable), 5 (too many pieces), 6 or 7 (a table is full), 8 (a sum is too large) or 9 (the
-/// words or outputs are too short); entries past the counts never change.
+/// words or outputs are too short); rows and entries past the counts never change. On 6 the number of quads is the quad table's capacity.
 pub fn flatten(setting: Setting, st: State, drawn: Drawn, q: &mut Quads, s: &mut Splines, o: &mut Output) -> Flattened {
     let mut f = Flattened::default();
     // SAFETY: the pointers and lengths are those of slices; the mutable ones overlap nothing, since each is borrowed mutably
@@ -269,24 +254,8 @@ pub fn flatten(setting: Setting, st: State, drawn: Drawn, q: &mut Quads, s: &mut
             drawn.weight.len(),
             drawn.commands.as_ptr(),
             drawn.commands.len(),
-            q.x.as_mut_ptr(),
-            q.x.len(),
-            q.y.as_mut_ptr(),
-            q.y.len(),
-            q.weight.as_mut_ptr(),
-            q.weight.len(),
-            q.x0.as_mut_ptr(),
-            q.x0.len(),
-            q.dx_recip.as_mut_ptr(),
-            q.dx_recip.len(),
-            q.k0.as_mut_ptr(),
-            q.k0.len(),
-            q.dk.as_mut_ptr(),
-            q.dk.len(),
-            q.curvatures_recip.as_mut_ptr(),
-            q.curvatures_recip.len(),
-            q.partial_curvatures.as_mut_ptr(),
-            q.partial_curvatures.len(),
+            q.rows.as_mut_ptr(),
+            q.rows.len(),
             q.partial_splines.as_mut_ptr(),
             q.partial_splines.len(),
             s.curvature.as_mut_ptr(),

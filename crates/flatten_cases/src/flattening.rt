@@ -1,5 +1,7 @@
-// A flattening into columns of this program's own, and what it leaves in them, as numbers. Room for 128 quads, 128 splines and 1,024 words.
+// A flattening into columns of this program's own, and what it leaves in them, as numbers. Room for 128 quads and an incomplete row, 128 splines and 1,024
+// words.
 use crate::layout::ALL;
+use crate::layout::QUADS;
 use crate::layout::first;
 use crate::layout::room;
 use flatten::Flattened;
@@ -13,8 +15,10 @@ ghost use Prim.Native.Nat.{_≤_};
 // Every number of a column that nothing was written to: no table holds it.
 pub const UNTOUCHED: u32 = 167;
 
-// No column is short.
-pub const NONE: u32 = 24;
+// Which column is short: one of a table, by its number, or quad_rows once more. By its number that is lent with an incomplete row, as WHOLE_ROWS without.
+pub const WHOLE_ROWS: u32 = 12;
+
+pub const NONE: u32 = 13;
 
 // The length of a column with a number for each row: full before row `place` if it is the short one, otherwise all its room.
 fn length(short: u32, column: u32, place: usize) -> usize
@@ -28,16 +32,19 @@ fn length(short: u32, column: u32, place: usize) -> usize
     128
 }
 
-// The same with three numbers for each row. The short one lacks the last of the three.
-fn length_of_threes(short: u32, column: u32, place: usize) -> usize
-    ensures { λ r. ⌜ r ≤ 384 ⌝ }
+// The same of quad_rows, where a row has 15 numbers.
+fn length_of_rows(short: u32, place: usize) -> usize
+    ensures { λ r. ⌜ r ≤ 1934 ⌝ }
 {
-    if short == column {
-        if place < 128 {
-            return 3 * place + 2;
+    if place < 128 {
+        if short == QUADS {
+            return 15 * place + 14;
+        }
+        if short == WHOLE_ROWS {
+            return 15 * place;
         }
     }
-    384
+    1934
 }
 
 pub fn put_store(
@@ -53,29 +60,9 @@ pub fn put_store(
     put_bytes(seen, first(3), commands, room(3));
 }
 
-fn put_quads(
-    seen: &mut [u32; ALL],
-    quad_x: &[f32; 384],
-    quad_y: &[f32; 384],
-    quad_weight: &[f32; 384],
-    x0: &[f32; 128],
-    dx_recip: &[f32; 128],
-    k0: &[f32; 128],
-    dk: &[f32; 128],
-    curvatures_recip: &[f32; 128],
-    partial_curvatures: &[f32; 128],
-    partial_splines: &[u32; 128],
-) {
-    put_floats(seen, first(4), quad_x, room(4));
-    put_floats(seen, first(5), quad_y, room(5));
-    put_floats(seen, first(6), quad_weight, room(6));
-    put_floats(seen, first(7), x0, room(7));
-    put_floats(seen, first(8), dx_recip, room(8));
-    put_floats(seen, first(9), k0, room(9));
-    put_floats(seen, first(10), dk, room(10));
-    put_floats(seen, first(11), curvatures_recip, room(11));
-    put_floats(seen, first(12), partial_curvatures, room(12));
-    put_words(seen, first(13), partial_splines, room(13));
+fn put_quads(seen: &mut [u32; ALL], quad_rows: &[f32; 1934], partial_splines: &[u32; 128]) {
+    put_floats(seen, first(4), quad_rows, room(4));
+    put_words(seen, first(5), partial_splines, room(5));
 }
 
 fn put_splines(
@@ -87,12 +74,12 @@ fn put_splines(
     p2y: &[f32; 128],
     contour: &[u8; 128],
 ) {
-    put_floats(seen, first(14), curvature, room(14));
-    put_floats(seen, first(15), p0x, room(15));
-    put_floats(seen, first(16), p0y, room(16));
-    put_floats(seen, first(17), p2x, room(17));
-    put_floats(seen, first(18), p2y, room(18));
-    put_bytes(seen, first(19), contour, room(19));
+    put_floats(seen, first(6), curvature, room(6));
+    put_floats(seen, first(7), p0x, room(7));
+    put_floats(seen, first(8), p0y, room(8));
+    put_floats(seen, first(9), p2x, room(9));
+    put_floats(seen, first(10), p2y, room(10));
+    put_bytes(seen, first(11), contour, room(11));
 }
 
 fn put_outputs(
@@ -102,13 +89,13 @@ fn put_outputs(
     out_y: &[f32; 1024],
     out_end: &[u8; 1024],
 ) {
-    put_words(seen, first(20), words, room(20));
-    put_floats(seen, first(21), out_x, room(21));
-    put_floats(seen, first(22), out_y, room(22));
-    put_bytes(seen, first(23), out_end, room(23));
+    put_words(seen, first(12), words, room(12));
+    put_floats(seen, first(13), out_x, room(13));
+    put_floats(seen, first(14), out_y, room(14));
+    put_bytes(seen, first(15), out_end, room(15));
 }
 
-// The flattening with the column of number `short` full before entry `place`; at NONE no column is short.
+// The flattening with the column `short` full before row `place`; at NONE no column is short.
 pub fn flattened(
     x: &[f32; 256],
     y: &[f32; 256],
@@ -122,15 +109,7 @@ pub fn flattened(
 ) -> Flattened {
     let float = leaves::from_bits(UNTOUCHED);
     let byte = UNTOUCHED as u8;
-    let mut quad_x = [float; 384];
-    let mut quad_y = [float; 384];
-    let mut quad_weight = [float; 384];
-    let mut x0 = [float; 128];
-    let mut dx_recip = [float; 128];
-    let mut k0 = [float; 128];
-    let mut dk = [float; 128];
-    let mut curvatures_recip = [float; 128];
-    let mut partial_curvatures = [float; 128];
+    let mut quad_rows = [float; 1934];
     let mut partial_splines = [UNTOUCHED; 128];
     let mut curvature = [float; 128];
     let mut p0x = [float; 128];
@@ -149,22 +128,14 @@ pub fn flattened(
         y,
         weight,
         commands,
-        &mut quad_x[..length_of_threes(short, 4, place)],
-        &mut quad_y[..length_of_threes(short, 5, place)],
-        &mut quad_weight[..length_of_threes(short, 6, place)],
-        &mut x0[..length(short, 7, place)],
-        &mut dx_recip[..length(short, 8, place)],
-        &mut k0[..length(short, 9, place)],
-        &mut dk[..length(short, 10, place)],
-        &mut curvatures_recip[..length(short, 11, place)],
-        &mut partial_curvatures[..length(short, 12, place)],
-        &mut partial_splines[..length(short, 13, place)],
-        &mut curvature[..length(short, 14, place)],
-        &mut p0x[..length(short, 15, place)],
-        &mut p0y[..length(short, 16, place)],
-        &mut p2x[..length(short, 17, place)],
-        &mut p2y[..length(short, 18, place)],
-        &mut contour[..length(short, 19, place)],
+        &mut quad_rows[..length_of_rows(short, place)],
+        &mut partial_splines[..length(short, 5, place)],
+        &mut curvature[..length(short, 6, place)],
+        &mut p0x[..length(short, 7, place)],
+        &mut p0y[..length(short, 8, place)],
+        &mut p2x[..length(short, 9, place)],
+        &mut p2y[..length(short, 10, place)],
+        &mut contour[..length(short, 11, place)],
         &mut words,
         &mut out_x,
         &mut out_y,

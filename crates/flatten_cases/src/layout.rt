@@ -1,50 +1,51 @@
-// What is seen of a drawing and its flattening, as numbers: the first entries of each of the 24 columns that `flatten::flatten` takes, in its order, from 0 on.
+// What is seen of a drawing and its flattening, as numbers: the first entries of each of the 16 columns that `flatten::flatten` takes, in its order, from 0 on.
 //
-//   0..2 x, y, weight   3 commands   4..6 quad_x, quad_y, quad_weight   7 x0   8 dx_recip   9 k0   10 dk   11 curvatures_recip   12 partial_curvatures
-//   13 partial_splines   14 curvature   15, 16 p0x, p0y   17, 18 p2x, p2y   19 contour   20 words   21, 22 out_x, out_y   23 out_end
+//   0..2 x, y, weight   3 commands   4 quad_rows   5 partial_splines   6 curvature   7, 8 p0x, p0y   9, 10 p2x, p2y   11 contour
+//   12 words   13, 14 out_x, out_y   15 out_end
 ghost use Prim.Native.Nat.{_≤_};
 
-// 4 columns of 256 numbers, 3 of 384, 13 of 128 and 4 of 1,024.
-pub const ALL: usize = 7936;
+// 4 columns of 256 numbers, one of 1,934, 7 of 128 and 4 of 1,024.
+pub const ALL: usize = 7950;
 
 // Those of both tables.
-pub const TABLES: usize = 2816;
+pub const TABLES: usize = 2830;
+
+// Those of both tables and of the outputs.
+pub const RESULTS: usize = 6926;
 
 pub const QUADS: u32 = 4;
 
-pub const SPLINES: u32 = 14;
+pub const PARTIAL_SPLINES: u32 = 5;
 
-pub const OUTPUTS: u32 = 20;
+pub const SPLINES: u32 = 6;
 
-pub const END: u32 = 24;
+pub const OUTPUTS: u32 = 12;
 
-pub const PARTIAL_CURVATURES: u32 = 12;
-
-pub const PARTIAL_SPLINES: u32 = 13;
+pub const END: u32 = 16;
 
 // Where a column's numbers begin.
 pub fn first(column: u32) -> usize
-    ensures { λ r. ⌜ r ≤ 7936 ⌝ }
+    ensures { λ r. ⌜ r ≤ 7950 ⌝ }
 {
     let c = column as usize;
     match column {
         0..=3 => 256 * c,
-        4..=6 => 1024 + 384 * (c - 4),
-        7..=19 => 2176 + 128 * (c - 7),
-        20..=23 => 3840 + 1024 * (c - 20),
+        4 => 1024,
+        5..=11 => 2958 + 128 * (c - 5),
+        12..=15 => 3854 + 1024 * (c - 12),
         _ => ALL,
     }
 }
 
-// How many numbers of a column are seen.
+// How many numbers of a column are seen. Those of quad_rows are 128 rows, and 14 of an incomplete one.
 pub fn room(column: u32) -> usize
-    ensures { λ r. ⌜ r ≤ 1024 ⌝ }
+    ensures { λ r. ⌜ r ≤ 1934 ⌝ }
 {
     match column {
         0..=3 => 256,
-        4..=6 => 384,
-        7..=19 => 128,
-        20..=23 => 1024,
+        4 => 1934,
+        5..=11 => 128,
+        12..=15 => 1024,
         _ => 0,
     }
 }
@@ -59,13 +60,13 @@ fn rows(n: usize) -> usize
     1024
 }
 
-// How many numbers a column has for n rows: a quad has three points.
+// How many numbers a column has for n rows: a quad has 15 in quad_rows.
 pub fn extent(column: u32, n: usize) -> usize
-    ensures { λ r. ⌜ r ≤ 3072 ⌝ }
+    ensures { λ r. ⌜ r ≤ 15360 ⌝ }
 {
     let rows = rows(n);
     match column {
-        4..=6 => 3 * rows,
+        QUADS => 15 * rows,
         _ => rows,
     }
 }

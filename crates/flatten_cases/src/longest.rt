@@ -13,7 +13,8 @@ const COMMANDS: usize = 32_800;
 
 const QUADS: usize = 32_800;
 
-const THREES: usize = 98_400;
+// Their rows.
+const NUMBERS: usize = 492_000;
 
 const SPLINES: usize = 16;
 
@@ -62,15 +63,7 @@ fn gives(
     number: u32,
     points: usize,
 ) -> bool {
-    let mut quad_x = [0.0f32; THREES];
-    let mut quad_y = [0.0f32; THREES];
-    let mut quad_weight = [0.0f32; THREES];
-    let mut x0 = [0.0f32; QUADS];
-    let mut dx_recip = [0.0f32; QUADS];
-    let mut k0 = [0.0f32; QUADS];
-    let mut dk = [0.0f32; QUADS];
-    let mut curvatures_recip = [0.0f32; QUADS];
-    let mut partial_curvatures = [0.0f32; QUADS];
+    let mut quad_rows = [0.0f32; NUMBERS];
     let mut partial_splines = [0u32; QUADS];
     let mut curvature = [0.0f32; SPLINES];
     let mut p0x = [0.0f32; SPLINES];

@@ -1,6 +1,7 @@
 // Replays the original Rust's answers, from standard input: draws each listed drawing, flattens it and compares the store, both tables, words and points,
-// number by number. Then it flattens the first ones, in both settings, with each column of the tables full before each entry in turn. Last come drawings past
-// a limit. It writes the number of each drawing that differs, and how many hold. tests/rust/answers/README.md says how the list is laid out and made.
+// number by number. Then it flattens the first ones, in both settings, with each column of the tables full before each row in turn, and just long enough. Last
+// come drawings past a limit. It writes the number of each drawing that differs, and how many hold. tests/rust/answers/README.md says how the list is laid out
+// and made.
 mod calls;
 mod flattening;
 mod layout;
@@ -14,6 +15,7 @@ use layout::rows_follow;
 use libc::STDOUT_FILENO;
 use point::Setting;
 use refusing::each_column;
+use refusing::each_enough;
 use replay::Tally;
 use store::StoreState;
 
@@ -32,15 +34,17 @@ struct Expected {
     words: u32,
 }
 
-// Whether a drawing is as listed, and its runs with a full column; then the same of all drawings.
+// Whether a drawing is as listed, its runs with a full column and those with just enough room; then the same of all drawings.
 struct Replayed {
     same: bool,
     full: Tally,
+    enough: Tally,
 }
 
 struct Total {
     same: Tally,
     full: Tally,
+    enough: Tally,
 }
 
 fn counts() -> Expected {
@@ -131,6 +135,23 @@ fn full(
     replay::both(screen, knife)
 }
 
+// The same with just enough room.
+fn enough(
+    x: &[f32; 256],
+    y: &[f32; 256],
+    weight: &[f32; 256],
+    commands: &[u8; 256],
+    st: StoreState,
+    due: Expected,
+) -> Tally {
+    if due.setting > 0 {
+        return replay::none();
+    }
+    let screen = each_enough(x, y, weight, commands, st, Setting::Screen);
+    let knife = each_enough(x, y, weight, commands, st, Setting::Knife);
+    replay::both(screen, knife)
+}
+
 // One drawing of the list.
 fn case(k: u32) -> Replayed {
     let due = counts();
@@ -143,20 +164,22 @@ fn case(k: u32) -> Replayed {
     let answer = drawn.answer;
     let done = answer::is_done(answer);
     let held = holds(&x, &y, &weight, &commands, st, due);
-    let runs = if k < FULL {
-        full(&x, &y, &weight, &commands, st, due)
-    } else {
-        replay::none()
-    };
+    let mut runs = replay::none();
+    let mut others = replay::none();
+    if k < FULL {
+        runs = full(&x, &y, &weight, &commands, st, due);
+        others = enough(&x, &y, &weight, &commands, st, due);
+    }
     Replayed {
         same: done & held,
         full: runs,
+        enough: others,
     }
 }
 
 // Names a drawing that differs.
 fn name_if_other(k: u32, c: Replayed) {
-    if c.same & (c.full.right == c.full.all) {
+    if c.same & (c.full.right == c.full.all) & (c.enough.right == c.enough.all) {
         return;
     }
     io::write_all(STDOUT_FILENO, b"drawing ");
@@ -167,16 +190,19 @@ fn name_if_other(k: u32, c: Replayed) {
 fn cases(n: u32) -> Total {
     let mut same = replay::none();
     let mut full = replay::none();
+    let mut enough = replay::none();
     let mut k = 0u32;
     while k < n {
         let c = case(k);
         let runs = c.full;
+        let others = c.enough;
         same = replay::counted(same, c.same);
         full = replay::both(full, runs);
+        enough = replay::both(enough, others);
         name_if_other(k, c);
         k += 1;
     }
-    Total { same, full }
+    Total { same, full, enough }
 }
 
 fn main() {
@@ -192,6 +218,12 @@ fn main() {
     io::write_all(
         STDOUT_FILENO,
         b" runs with a full column are refused and keep what was pushed\n",
+    );
+    let enough = r.enough;
+    replay::print_of(enough);
+    io::write_all(
+        STDOUT_FILENO,
+        b" runs with a column just long enough are as with more room\n",
     );
     replay::print_of(limits::each_setting());
     io::write_all(

@@ -1,13 +1,15 @@
-// A drawing with a column full at each place in turn: 6 or 7, all that was pushed before stays, and no word and no point is written.
+// A drawing with a column full at each place in turn: 6 or 7, all that was pushed before stays, and no word and no point is written. With just enough room
+// all is as with more.
 use crate::flattening::NONE;
 use crate::flattening::UNTOUCHED;
+use crate::flattening::WHOLE_ROWS;
 use crate::flattening::flattened;
 use crate::layout::ALL;
 use crate::layout::END;
 use crate::layout::OUTPUTS;
-use crate::layout::PARTIAL_CURVATURES;
 use crate::layout::PARTIAL_SPLINES;
 use crate::layout::QUADS;
+use crate::layout::RESULTS;
 use crate::layout::SPLINES;
 use crate::layout::entry;
 use crate::layout::extent;
@@ -51,18 +53,18 @@ fn splines_kept(
     ended: usize,
     flagged: usize,
 ) -> bool {
-    let sum = kept(got, whole, 14, ended, n);
-    let start_x = kept(got, whole, 15, n, n);
-    let start_y = kept(got, whole, 16, n, n);
-    let end_x = kept(got, whole, 17, ended, n);
-    let end_y = kept(got, whole, 18, ended, n);
-    let flag = kept(got, whole, 19, flagged, n);
+    let sum = kept(got, whole, 6, ended, n);
+    let start_x = kept(got, whole, 7, n, n);
+    let start_y = kept(got, whole, 8, n, n);
+    let end_x = kept(got, whole, 9, ended, n);
+    let end_y = kept(got, whole, 10, ended, n);
+    let flag = kept(got, whole, 11, flagged, n);
     sum & start_x & start_y & end_x & end_y & flag
 }
 
 // The last spline carries the flag until the next one opens.
 fn last_flagged(got: &[u32; ALL], n: usize) -> bool {
-    (n == 0) | (entry(got, 19, below(n)) == 1)
+    (n == 0) | (entry(got, 11, below(n)) == 1)
 }
 
 // The sum of spline `last` up to the quad before `place`.
@@ -71,24 +73,25 @@ fn sum_so_far(whole: &[u32; ALL], place: usize, last: usize) -> u32 {
     if (place == 0) | (entry(whole, PARTIAL_SPLINES, before) as usize != last) {
         return 0;
     }
-    entry(whole, PARTIAL_CURVATURES, before)
+    entry(whole, QUADS, extent(QUADS, before) + 14)
 }
 
-// Whether spline `last` ends at the point `at` of the quad table.
-fn ends_at(got: &[u32; ALL], whole: &[u32; ALL], last: usize, at: usize) -> bool {
-    let on_x = entry(got, 17, last) == entry(whole, 4, at);
-    let on_y = entry(got, 18, last) == entry(whole, 5, at);
+// Whether spline `last` ends at the point whose x and y are these numbers of quad_rows.
+fn ends_at(got: &[u32; ALL], whole: &[u32; ALL], last: usize, x: usize, y: usize) -> bool {
+    let on_x = entry(got, 9, last) == entry(whole, QUADS, x);
+    let on_y = entry(got, 10, last) == entry(whole, QUADS, y);
     on_x & on_y
 }
 
 // A spline that the refused quad would have gone on with. It ends where that quad starts, or where the quad before it ended: a cubic's last piece may end a
 // rounding beside the next start.
 fn open_kept(got: &[u32; ALL], whole: &[u32; ALL], place: usize, last: usize) -> bool {
-    let summed = entry(got, 14, last) == sum_so_far(whole, place, last);
+    let summed = entry(got, 6, last) == sum_so_far(whole, place, last);
     let start = extent(QUADS, place);
-    let at_start = ends_at(got, whole, last, start);
-    let before = ends_at(got, whole, last, below(start));
-    summed & (at_start | before)
+    let before = extent(QUADS, below(place));
+    let at_start = ends_at(got, whole, last, start, start + 3);
+    let at_end = (place > 0) & ends_at(got, whole, last, before + 2, before + 5);
+    summed & (at_start | at_end)
 }
 
 fn quads_refused(
@@ -127,7 +130,20 @@ fn splines_refused(
     refused & counted & pushed & held & last_flagged(got, n)
 }
 
-// One run with the column of number `short` full before entry `place`.
+// Whether the column that is short is one of the quad table.
+fn of_quads(short: u32) -> bool {
+    (short < SPLINES) | (short == WHOLE_ROWS)
+}
+
+// How many rows the drawing needs of it.
+fn needed(r: Flattened, short: u32) -> usize {
+    if of_quads(short) {
+        return r.quads;
+    }
+    r.splines
+}
+
+// One run with the column `short` full before row `place`.
 fn refuses(
     x: &[f32; 256],
     y: &[f32; 256],
@@ -144,13 +160,13 @@ fn refuses(
     let mut got = [0u32; ALL];
     let r = flattened(x, y, weight, commands, st, setting, short, place, &mut got);
     let silent = all_kept(&got, whole, OUTPUTS, END, 0);
-    if short < SPLINES {
+    if of_quads(short) {
         return silent & quads_refused(&got, whole, r, splines, place);
     }
     silent & splines_refused(&got, whole, r, quads, place)
 }
 
-// One column, full before each entry that the drawing needs.
+// One column, full before each row that the drawing needs.
 fn at_each_place(
     x: &[f32; 256],
     y: &[f32; 256],
@@ -164,7 +180,7 @@ fn at_each_place(
     short: u32,
 ) -> Tally {
     let mut tally = replay::none();
-    let mut place = if short < SPLINES { quads } else { splines };
+    let mut place = if of_quads(short) { quads } else { splines };
     while place > 0 {
         place -= 1;
         let right = refuses(
@@ -200,7 +216,7 @@ pub fn each_column(
     let splines = r.splines;
     let mut tally = replay::none();
     let mut short = QUADS;
-    while short < OUTPUTS {
+    while short < NONE {
         let column = at_each_place(
             x,
             y,
@@ -214,6 +230,37 @@ pub fn each_column(
             short,
         );
         tally = replay::both(tally, column);
+        short += 1;
+    }
+    tally
+}
+
+// Both tables and the outputs are the same to the last entry that is seen.
+fn same_results(got: &[u32; ALL], whole: &[u32; ALL]) -> bool {
+    replay::same(got, whole, first(QUADS), RESULTS)
+}
+
+// Each column of the tables in turn, just as long as the drawing needs.
+pub fn each_enough(
+    x: &[f32; 256],
+    y: &[f32; 256],
+    weight: &[f32; 256],
+    commands: &[u8; 256],
+    st: StoreState,
+    setting: Setting,
+) -> Tally {
+    let mut whole = [0u32; ALL];
+    let mut got = [0u32; ALL];
+    let r = flattened(x, y, weight, commands, st, setting, NONE, 0, &mut whole);
+    let mut tally = replay::none();
+    let mut short = QUADS;
+    while short < NONE {
+        let place = needed(r, short);
+        let e = flattened(x, y, weight, commands, st, setting, short, place, &mut got);
+        let answer = e.answer;
+        let done = answer::is_done(answer);
+        let same = same_results(&got, &whole);
+        tally = replay::counted(tally, done & same);
         short += 1;
     }
     tally

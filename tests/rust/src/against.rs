@@ -5,7 +5,7 @@ use crate::{
     model::{
         self,
         flatten::{errors_of, exact_pieces, flatten_with, powf_pieces},
-        Columns, Flattened, Output, QuadTable, Setting, SplineTable, State,
+        Columns, Flattened, Output, QuadTable, Setting, SplineTable, State, QUAD_ROW,
     },
     original::{knife, screen},
     seen::{Seen, Store},
@@ -92,19 +92,11 @@ pub fn same_flattening(f: Flattened, room: &Room, seen: &Seen) -> Result<(), Str
 
 pub fn same_columns(f: Flattened, q: &QuadTable, s: &SplineTable, o: &Output, seen: &Seen) -> Result<(), String> {
     let t = &seen.tables;
-    if (f.splines, f.quads, f.points) != (t.curvature.len(), t.x0.len(), seen.words.len()) {
-        return Err(format!("{f:?}, the original has {} splines, {} quads, {} points", t.curvature.len(), t.x0.len(), seen.words.len()));
+    if (f.splines, f.quads, f.points) != (t.curvature.len(), t.partial_splines.len(), seen.words.len()) {
+        return Err(format!("{f:?}, the original has {} splines, {} quads, {} points", t.curvature.len(), t.partial_splines.len(), seen.words.len()));
     }
     let (n, k, m) = (f.quads, f.splines, f.points);
-    floats("x", &q.x[..3 * n], &t.x)?;
-    floats("y", &q.y[..3 * n], &t.y)?;
-    floats("weight", &q.weight[..3 * n], &t.weight)?;
-    floats("x0", &q.x0[..n], &t.x0)?;
-    floats("dx_recip", &q.dx_recip[..n], &t.dx_recip)?;
-    floats("k0", &q.k0[..n], &t.k0)?;
-    floats("dk", &q.dk[..n], &t.dk)?;
-    floats("curvatures_recip", &q.curvatures_recip[..n], &t.curvatures_recip)?;
-    floats("partial_curvatures", &q.partial_curvatures[..n], &t.partial_curvatures)?;
+    floats("quad_rows", &q.rows[..QUAD_ROW * n], &t.rows)?;
     whole("partial_splines", &q.partial_splines[..n], &t.partial_splines)?;
     floats("curvature", &s.curvature[..k], &t.curvature)?;
     floats("p0x", &s.p0x[..k], &t.p0x)?;

@@ -2,8 +2,9 @@
 
 use crate::{
     against::drawn,
+    call::{p, Call},
     drawings::{by_hand, kind, random},
-    model::{self, Columns, Flattened, Output, QuadTable, Setting, SplineTable, State},
+    model::{self, Columns, Flattened, Output, QuadTable, Setting, SplineTable, State, QUAD_ROW},
     rng::Rng,
     wild::any_store,
 };
@@ -26,6 +27,37 @@ impl Flat {
     }
 }
 
+/// How the quad tables of some flattenings were lent, and what filled them.
+#[derive(Clone, Debug, Default, PartialEq)]
+pub struct Lent {
+    /// an incomplete row at the end
+    pub incomplete: u64,
+    pub more_rows: u64,
+    pub fewer_rows: u64,
+    /// answer 6 for want of a row, of a row where an incomplete one is left, and of a spline number
+    pub no_row: u64,
+    pub incomplete_row: u64,
+    pub no_spline: u64,
+}
+
+impl Lent {
+    pub fn add(&mut self, q: &QuadTable, answer: u8) {
+        let (rows, splines) = (q.rows.len() / QUAD_ROW, q.partial_splines.len());
+        let incomplete = q.rows.len() % QUAD_ROW > 0;
+        let full = answer == 6;
+        for (count, met) in [
+            (&mut self.incomplete, incomplete),
+            (&mut self.more_rows, rows > splines),
+            (&mut self.fewer_rows, rows < splines),
+            (&mut self.no_row, full && rows < splines && !incomplete),
+            (&mut self.incomplete_row, full && rows < splines && incomplete),
+            (&mut self.no_spline, full && rows > splines),
+        ] {
+            *count += met as u64;
+        }
+    }
+}
+
 /// A length close to what is needed: enough, one too short, or 0.
 fn length(rng: &mut Rng, needed: usize, all: usize) -> usize {
     match rng.below(200) {
@@ -36,8 +68,9 @@ fn length(rng: &mut Rng, needed: usize, all: usize) -> usize {
     }
 }
 
+/// Sums that a walk could take for its own, or any bits.
 fn floats(rng: &mut Rng, len: usize) -> Vec<f32> {
-    (0..len).map(|_| f32::from_bits(0x4000_0000 + rng.below(0x100_0000) as u32)).collect()
+    (0..len).map(|_| f32::from_bits(if rng.one_in(2) { 0x4000_0000 + rng.below(0x100_0000) as u32 } else { rng.next() as u32 })).collect()
 }
 
 /// A drawing whose points and words fit in `most`, or a store of any kind, lent with any lengths.
@@ -87,28 +120,17 @@ pub fn any_flat(rng: &mut Rng, most: usize) -> Flat {
     let more = |rng: &mut Rng, n: usize| n + if rng.one_in(3) { 0 } else { rng.below(4) as usize };
     // mostly enough, sometimes one whole table too short
     let short = |rng: &mut Rng, n: usize| if rng.one_in(8) { rng.below(n as u64 + 1) as usize } else { more(rng, n) };
-    let (nq, ns, nw) = (short(rng, need.quads), short(rng, need.splines), short(rng, words));
-    let three = |rng: &mut Rng| {
-        let all = 3 * nq + rng.below(3) as usize;
-        let len = length(rng, 3 * need.quads, all);
-        floats(rng, len)
-    };
-    let (x, y, weight) = (three(rng), three(rng), three(rng));
+    let (ns, nw) = (short(rng, need.splines), short(rng, words));
     let one = |rng: &mut Rng, needed: usize, all: usize| {
         let len = length(rng, needed, all);
         floats(rng, len)
     };
+    // either column of the quad table may be the shorter one, and the rows mostly end in an incomplete one
+    let numbers = QUAD_ROW * short(rng, need.quads) + rng.below(QUAD_ROW as u64) as usize;
+    let owners = short(rng, need.quads);
     let quads = QuadTable {
-        x,
-        y,
-        weight,
-        x0: one(rng, need.quads, nq),
-        dx_recip: one(rng, need.quads, nq),
-        k0: one(rng, need.quads, nq),
-        dk: one(rng, need.quads, nq),
-        curvatures_recip: one(rng, need.quads, nq),
-        partial_curvatures: one(rng, need.quads, nq),
-        partial_splines: (0..length(rng, need.quads, nq)).map(|_| rng.next() as u32).collect(),
+        rows: one(rng, QUAD_ROW * need.quads, numbers),
+        partial_splines: (0..length(rng, need.quads, owners)).map(|_| rng.next() as u32).collect(),
     };
     let splines = SplineTable {
         curvature: one(rng, need.splines, ns),
@@ -125,4 +147,46 @@ pub fn any_flat(rng: &mut Rng, most: usize) -> Flat {
         end: (0..length(rng, words, nw)).map(|_| rng.next() as u8).collect(),
     };
     Flat { setting, st, columns, quads, splines, output }
+}
+
+/// A drawing of three quads whose table is lent with every length up to a row and a spline number more than it needs.
+pub fn every_length() -> Vec<Flat> {
+    let quads = [[p(5.0, 0.0), p(10.0, 0.0)], [p(20.0, 0.0), p(20.0, 10.0)], [p(20.0, 20.0), p(10.0, 30.0)]];
+    let (st, columns) = drawn(&quads.map(|[a, b]| Call::Quad(a, b))).expect("it is drawn");
+    let mut rng = Rng(11);
+    let mut out = Vec::new();
+    for (setting, owners) in [Setting::Screen, Setting::Knife].into_iter().flat_map(|s| (0..=4).map(move |n| (s, n))) {
+        for numbers in 0..=4 * QUAD_ROW {
+            let quads = QuadTable { rows: floats(&mut rng, numbers), partial_splines: (0..owners).map(|_| rng.next() as u32).collect() };
+            out.push(Flat { setting, st, columns: columns.clone(), quads, splines: SplineTable::with_room(3), output: Output::with_room(64) });
+        }
+    }
+    out
+}
+
+#[cfg(test)]
+mod tests {
+    use super::*;
+
+    #[test]
+    fn all_ways_to_lend_the_quad_table_are_met() {
+        let mut rng = Rng(1);
+        let mut lent = Lent::default();
+        for _ in 0..2000 {
+            let mut flat = any_flat(&mut rng, 100);
+            let answer = flat.by_model().answer;
+            lent.add(&flat.quads, answer);
+        }
+        let Lent { incomplete, more_rows, fewer_rows, no_row, incomplete_row, no_spline } = lent;
+        assert!([incomplete, more_rows, fewer_rows, no_row, incomplete_row, no_spline].iter().all(|n| *n > 0), "{lent:?}");
+    }
+
+    #[test]
+    fn three_quads_need_three_rows_and_three_spline_numbers() {
+        for mut flat in every_length() {
+            let room = flat.quads.capacity();
+            let f = flat.by_model();
+            assert_eq!((f.answer, f.quads), if room < 3 { (6, room) } else { (0, 3) });
+        }
+    }
 }

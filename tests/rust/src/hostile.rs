@@ -3,7 +3,7 @@
 use crate::{
     call::{written, Call},
     flat_case::Flat,
-    model::{self, Columns, Flattened, State},
+    model::{self, Columns, Flattened, State, QUAD_ROW},
 };
 use kermezhul as lib;
 
@@ -118,18 +118,7 @@ pub fn by_library(f: &mut Flat) -> Flattened {
     let st = lib::State { points: f.st.points, commands: f.st.commands, opening: f.st.opening };
     let drawn = lib::Drawn { x: &f.columns.x, y: &f.columns.y, weight: &f.columns.weight, commands: &f.columns.commands };
     let (q, s, o) = (&mut f.quads, &mut f.splines, &mut f.output);
-    let mut quads = lib::Quads {
-        x: &mut q.x,
-        y: &mut q.y,
-        weight: &mut q.weight,
-        x0: &mut q.x0,
-        dx_recip: &mut q.dx_recip,
-        k0: &mut q.k0,
-        dk: &mut q.dk,
-        curvatures_recip: &mut q.curvatures_recip,
-        partial_curvatures: &mut q.partial_curvatures,
-        partial_splines: &mut q.partial_splines,
-    };
+    let mut quads = lib::Quads { rows: &mut q.rows, partial_splines: &mut q.partial_splines };
     let mut splines = lib::Splines {
         curvature: &mut s.curvature,
         p0x: &mut s.p0x,
@@ -147,6 +136,36 @@ pub fn by_library(f: &mut Flat) -> Flattened {
     Flattened { answer: r.answer as u8, splines: r.splines, quads: r.quads, points: r.points }
 }
 
+/// What is past the counts is as it was lent, bit for bit, an incomplete row of quads too.
+fn kept(lent: &Flat, left: &Flat, f: Flattened) -> Result<(), String> {
+    fn past<T: PartialEq>(name: &str, lent: &[T], left: &[T], count: usize) -> Result<(), String> {
+        match (count..lent.len()).find(|i| lent[*i] != left[*i]) {
+            Some(i) => Err(format!("{name}[{i}] is past the count, {count}, and was written")),
+            None => Ok(()),
+        }
+    }
+    let bits = |column: &[f32]| column.iter().map(|v| v.to_bits()).collect::<Vec<u32>>();
+    let (q, r) = (&lent.quads, &left.quads);
+    let (s, t) = (&lent.splines, &left.splines);
+    let (o, p) = (&lent.output, &left.output);
+    for (name, a, b, count) in [
+        ("quad_rows", &q.rows, &r.rows, QUAD_ROW * f.quads),
+        ("curvature", &s.curvature, &t.curvature, f.splines),
+        ("p0x", &s.p0x, &t.p0x, f.splines),
+        ("p0y", &s.p0y, &t.p0y, f.splines),
+        ("p2x", &s.p2x, &t.p2x, f.splines),
+        ("p2y", &s.p2y, &t.p2y, f.splines),
+        ("output x", &o.x, &p.x, f.points),
+        ("output y", &o.y, &p.y, f.points),
+    ] {
+        past(name, &bits(a), &bits(b), count)?;
+    }
+    past("partial_splines", &q.partial_splines, &r.partial_splines, f.quads)?;
+    past("contour", &s.contour, &t.contour, f.splines)?;
+    past("words", &o.words, &p.words, f.points)?;
+    past("end", &o.end, &p.end, f.points)
+}
+
 /// The same flattening by both, on equal buffers. Gives the answer, or what differs.
 pub fn flatten_both(lent: &Flat) -> Result<Flattened, String> {
     let (mut ours, mut theirs) = (lent.clone(), lent.clone());
@@ -159,15 +178,7 @@ pub fn flatten_both(lent: &Flat) -> Result<Flattened, String> {
     let (s, t) = (&ours.splines, &theirs.splines);
     let (o, p) = (&ours.output, &theirs.output);
     for (name, x, y) in [
-        ("x", &q.x, &r.x),
-        ("y", &q.y, &r.y),
-        ("weight", &q.weight, &r.weight),
-        ("x0", &q.x0, &r.x0),
-        ("dx_recip", &q.dx_recip, &r.dx_recip),
-        ("k0", &q.k0, &r.k0),
-        ("dk", &q.dk, &r.dk),
-        ("curvatures_recip", &q.curvatures_recip, &r.curvatures_recip),
-        ("partial_curvatures", &q.partial_curvatures, &r.partial_curvatures),
+        ("quad_rows", &q.rows, &r.rows),
         ("curvature", &s.curvature, &t.curvature),
         ("p0x", &s.p0x, &t.p0x),
         ("p0y", &s.p0y, &t.p0y),
@@ -181,5 +192,6 @@ pub fn flatten_both(lent: &Flat) -> Result<Flattened, String> {
     if q.partial_splines != r.partial_splines || s.contour != t.contour || o.words != p.words || o.end != p.end {
         return Err(told("partial_splines, contour, words or end differ from the model's".to_string()));
     }
+    kept(lent, &ours, a).map_err(told)?;
     Ok(a)
 }

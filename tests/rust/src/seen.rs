@@ -10,18 +10,10 @@ pub struct Store {
     pub opening: usize,
 }
 
-/// The quad table and the spline table.
+/// The quad table, a row of 15 numbers for each quad, and the spline table.
 #[derive(Clone, Debug, Default, PartialEq)]
 pub struct Tables {
-    pub x: Vec<f32>,
-    pub y: Vec<f32>,
-    pub weight: Vec<f32>,
-    pub x0: Vec<f32>,
-    pub dx_recip: Vec<f32>,
-    pub k0: Vec<f32>,
-    pub dk: Vec<f32>,
-    pub curvatures_recip: Vec<f32>,
-    pub partial_curvatures: Vec<f32>,
+    pub rows: Vec<f32>,
     pub partial_splines: Vec<u32>,
     pub curvature: Vec<f32>,
     pub p0x: Vec<f32>,

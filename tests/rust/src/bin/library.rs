@@ -7,7 +7,7 @@ use against_rust::{
     against::{same_columns, same_store},
     call::{written, Call},
     drawings::{directed, kind, random},
-    flat_case::{any_flat, Flat},
+    flat_case::{any_flat, every_length, Flat, Lent},
     hostile::{by_library, call_both, flatten_both, leaves_on, replay_both},
     model::{
         flatten::{exact_pieces, pieces_of},
@@ -125,13 +125,20 @@ fn main() {
     // flattenings with any store and any lent lengths
     let flats = hostile / 20;
     let mut answers = [0u64; 12];
+    let mut lent = Lent::default();
     for _ in 0..flats {
-        let lent = any_flat(&mut rng, 100);
-        if let Some(f) = t.tell(flatten_both(&lent)) {
+        let flat = any_flat(&mut rng, 100);
+        if let Some(f) = t.tell(flatten_both(&flat)) {
             answers[f.answer as usize] += 1;
+            lent.add(&flat.quads, f.answer);
         }
     }
-    println!("{flats} flattenings with any store and lengths, by answer 0 to 9: {:?}", &answers[..10]);
+    println!("{flats} flattenings with any store and lengths, by answer 0 to 9: {:?}; the quad tables: {lent:?}", &answers[..10]);
+    let lengths = every_length();
+    for flat in &lengths {
+        t.tell(flatten_both(flat));
+    }
+    println!("{} flattenings of three quads, with every length of the quad table's columns", lengths.len());
 
     // the library itself against the original: store, tables, words and points, both settings; drawn on and flattened again in between
     let mut compared = Compared::default();

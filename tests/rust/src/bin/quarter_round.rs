@@ -2,6 +2,7 @@
 
 use against_rust::{
     call::{p, Call},
+    model::QUAD_ROW,
     original::screen,
 };
 
@@ -17,7 +18,7 @@ fn main() {
         let store = screen::store(&calls);
         let seen = screen::flatten(&calls);
         println!("## {name}\n");
-        println!("Pieces of the cubic: {:?}. Splines: {}, quads: {}, words: {}.\n", screen::pieces(&calls), seen.tables.curvature.len(), seen.tables.x0.len(), seen.words.len());
+        println!("Pieces of the cubic: {:?}. Splines: {}, quads: {}, words: {}.\n", screen::pieces(&calls), seen.tables.curvature.len(), seen.tables.partial_splines.len(), seen.words.len());
         println!("Store:\n\n```");
         for i in 0..store.x.len() {
             println!("{:08x} {:08x} {:08x}   ({}, {}) {}", store.x[i].to_bits(), store.y[i].to_bits(), store.weight[i].to_bits(), store.x[i], store.y[i], store.weight[i]);
@@ -29,17 +30,11 @@ fn main() {
         }
         println!("```\n");
         let t = &seen.tables;
-        println!("Quads (spline, sum, x0, dx_recip, k0, dk, 1/curvature; then three x, three y):\n\n```");
-        for i in 0..t.x0.len() {
-            let b = |v: f32| format!("{:08x}", v.to_bits());
-            println!(
-                "{} {} {} {} {} {} {}",
-                t.partial_splines[i], b(t.partial_curvatures[i]), b(t.x0[i]), b(t.dx_recip[i]), b(t.k0[i]), b(t.dk[i]), b(t.curvatures_recip[i])
-            );
-            println!(
-                "    {} {} {}  {} {} {}",
-                b(t.x[3 * i]), b(t.x[3 * i + 1]), b(t.x[3 * i + 2]), b(t.y[3 * i]), b(t.y[3 * i + 1]), b(t.y[3 * i + 2])
-            );
+        println!("Quads (three x, three y, three weights; x0, dx_recip, k0, dk, the reciprocal, the sum; the spline):\n\n```");
+        for (row, spline) in t.rows.chunks(QUAD_ROW).zip(&t.partial_splines) {
+            let b = |numbers: &[f32]| numbers.iter().map(|v| format!("{:08x}", v.to_bits())).collect::<Vec<_>>().join(" ");
+            println!("{}  {}  {}", b(&row[..3]), b(&row[3..6]), b(&row[6..9]));
+            println!("    {}  {spline}", b(&row[9..]));
         }
         println!("```\n\nSplines (sum, start, end, flag):\n\n```");
         for i in 0..t.curvature.len() {

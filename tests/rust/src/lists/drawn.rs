@@ -5,7 +5,7 @@ use crate::{
     against::{compare_drawing, drawn, Counts, Room},
     call::{p, Call, P},
     drawings::{directed, kind, random},
-    model::{cover, flatten::{exact_pieces, pieces_of}},
+    model::{cover, flatten::{exact_pieces, pieces_of}, QUAD_ROW},
     original::{knife, screen},
     rng::Rng,
     seen::{Seen, Store},
@@ -36,7 +36,7 @@ fn drawing(text: &mut String, setting: u32, calls: &[Call], store: &Store, seen:
             store.x.len() as u32,
             store.commands.len() as u32,
             store.opening as u32,
-            t.x0.len() as u32,
+            t.partial_splines.len() as u32,
             t.curvature.len() as u32,
             seen.words.len() as u32,
         ],
@@ -50,30 +50,10 @@ fn drawing(text: &mut String, setting: u32, calls: &[Call], store: &Store, seen:
     for c in &store.commands {
         row(text, &[*c as u32]);
     }
-    for i in 0..t.x0.len() {
-        let three = |c: &[f32]| [c[3 * i].to_bits(), c[3 * i + 1].to_bits(), c[3 * i + 2].to_bits()];
-        let [x, y, w] = [three(&t.x), three(&t.y), three(&t.weight)];
-        row(
-            text,
-            &[
-                x[0],
-                x[1],
-                x[2],
-                y[0],
-                y[1],
-                y[2],
-                w[0],
-                w[1],
-                w[2],
-                t.x0[i].to_bits(),
-                t.dx_recip[i].to_bits(),
-                t.k0[i].to_bits(),
-                t.dk[i].to_bits(),
-                t.curvatures_recip[i].to_bits(),
-                t.partial_curvatures[i].to_bits(),
-                t.partial_splines[i],
-            ],
-        );
+    for (quad, spline) in t.rows.chunks(QUAD_ROW).zip(&t.partial_splines) {
+        let mut numbers: Vec<u32> = quad.iter().map(|v| v.to_bits()).collect();
+        numbers.push(*spline);
+        row(text, &numbers);
     }
     for i in 0..t.curvature.len() {
         row(
@@ -107,7 +87,7 @@ fn fits(calls: &[Call], l: &Limits) -> bool {
         return false;
     }
     let [a, b] = [screen::flatten(calls), knife::flatten(calls)];
-    [a, b].iter().all(|s| s.words.len() <= l.words && s.tables.x0.len() <= l.quads && s.tables.curvature.len() <= 60)
+    [a, b].iter().all(|s| s.words.len() <= l.words && s.tables.partial_splines.len() <= l.quads && s.tables.curvature.len() <= 60)
 }
 
 /// Any number of random drawings within the large limits, in both settings alternately.

@@ -14,18 +14,13 @@ pub enum Setting {
     Knife,
 }
 
-/// The lent quad table. x, y and weight have three numbers for each quad.
+/// How many numbers a quad has in the table.
+pub const QUAD_ROW: usize = 15;
+
+/// The lent quad table: a row of 15 numbers for each quad, and the number of its spline.
 #[derive(Clone, Debug, Default)]
 pub struct QuadTable {
-    pub x: Vec<f32>,
-    pub y: Vec<f32>,
-    pub weight: Vec<f32>,
-    pub x0: Vec<f32>,
-    pub dx_recip: Vec<f32>,
-    pub k0: Vec<f32>,
-    pub dk: Vec<f32>,
-    pub curvatures_recip: Vec<f32>,
-    pub partial_curvatures: Vec<f32>,
+    pub rows: Vec<f32>,
     pub partial_splines: Vec<u32>,
 }
 
@@ -59,27 +54,12 @@ pub struct Flattened {
 
 impl QuadTable {
     pub fn with_room(n: usize) -> Self {
-        QuadTable {
-            x: vec![0.0; 3 * n],
-            y: vec![0.0; 3 * n],
-            weight: vec![0.0; 3 * n],
-            x0: vec![0.0; n],
-            dx_recip: vec![0.0; n],
-            k0: vec![0.0; n],
-            dk: vec![0.0; n],
-            curvatures_recip: vec![0.0; n],
-            partial_curvatures: vec![0.0; n],
-            partial_splines: vec![0; n],
-        }
+        QuadTable { rows: vec![0.0; QUAD_ROW * n], partial_splines: vec![0; n] }
     }
 
-    fn capacity(&self) -> usize {
-        [self.x.len() / 3, self.y.len() / 3, self.weight.len() / 3]
-            .into_iter()
-            .chain([&self.x0, &self.dx_recip, &self.k0, &self.dk, &self.curvatures_recip, &self.partial_curvatures].map(|c| c.len()))
-            .chain([self.partial_splines.len()])
-            .min()
-            .unwrap()
+    /// Whole rows only.
+    pub fn capacity(&self) -> usize {
+        (self.rows.len() / QUAD_ROW).min(self.partial_splines.len())
     }
 }
 
@@ -214,6 +194,14 @@ struct Quad {
     own: f32,
     sum: f32,
     spline: usize,
+}
+
+impl Quad {
+    /// Its numbers in the order of the table.
+    fn row(&self) -> [f32; QUAD_ROW] {
+        let [a, b, c] = self.points;
+        [a.x, b.x, c.x, a.y, b.y, c.y, a.w, b.w, c.w, self.x0, self.dx_recip, self.k0, self.dk, 1.0 / self.own, self.sum]
+    }
 }
 
 /// How many pieces a cubic gets, before the test for answer 5: the exact root, or the original's `powf`, to compare the rest where the two differ.
@@ -623,16 +611,7 @@ pub fn flatten_with(pieces: Pieces, setting: Setting, st: State, c: &Columns, q:
     }
     let Run { splines, quads, .. } = run;
 
-    let flat = |f: fn(&W) -> f32| quads.iter().flat_map(move |r| r.points.map(|p| f(&p)));
-    put_floats(&mut q.x, flat(|p| p.x));
-    put_floats(&mut q.y, flat(|p| p.y));
-    put_floats(&mut q.weight, flat(|p| p.w));
-    put_floats(&mut q.x0, quads.iter().map(|r| r.x0));
-    put_floats(&mut q.dx_recip, quads.iter().map(|r| r.dx_recip));
-    put_floats(&mut q.k0, quads.iter().map(|r| r.k0));
-    put_floats(&mut q.dk, quads.iter().map(|r| r.dk));
-    put_floats(&mut q.curvatures_recip, quads.iter().map(|r| 1.0 / r.own));
-    put_floats(&mut q.partial_curvatures, quads.iter().map(|r| r.sum));
+    put_floats(&mut q.rows, quads.iter().flat_map(Quad::row));
     put(&mut q.partial_splines, quads.iter().map(|r| r.spline as u32));
     put_floats(&mut s.curvature, splines.iter().map(|r| r.sum));
     put_floats(&mut s.p0x, splines.iter().map(|r| r.start.x));
@@ -666,4 +645,42 @@ pub fn flatten_with(pieces: Pieces, setting: Setting, st: State, c: &Columns, q:
         o.end[i] = item.flag as u8;
     }
     Flattened { points: items.len(), ..counts }
+}
+
+#[cfg(test)]
+mod tests {
+    use super::*;
+    use crate::{against::drawn, call::p, call::Call};
+
+    /// P6: a quad from the origin over (5,0) to (10,0), built.
+    fn example() -> (State, Columns) {
+        drawn(&[Call::Quad(p(5.0, 0.0), p(10.0, 0.0)), Call::Build]).unwrap()
+    }
+
+    #[test]
+    fn the_row_of_a_straight_quad() {
+        let (st, c) = example();
+        let (mut q, mut s, mut o) = (QuadTable::with_room(1), SplineTable::with_room(1), Output::with_room(3));
+        let f = flatten(Setting::Screen, st, &c, &mut q, &mut s, &mut o);
+        assert_eq!(f, Flattened { answer: 0, splines: 1, quads: 1, points: 3 });
+        let row = [
+            0x0000_0000, 0x40a0_0000, 0x4120_0000, 0, 0, 0, 0x3f80_0000, 0x3f80_0000, 0x3f80_0000, 0x3d16_03c0, 0x3f80_0000, 0, 0x3f80_0000, 0x3f00_0000,
+            0x4000_0000,
+        ];
+        assert_eq!(q.rows.iter().map(|v| v.to_bits()).collect::<Vec<_>>(), row);
+        assert_eq!(q.partial_splines, [0]);
+    }
+
+    #[test]
+    fn an_incomplete_row_is_no_room() {
+        let (st, c) = example();
+        for (numbers, splines, room) in [(14, 9, 0), (15, 0, 0), (15, 1, 1), (29, 2, 1), (29, 1, 1), (0, 1, 0)] {
+            let (mut s, mut o) = (SplineTable::with_room(1), Output::with_room(3));
+            let mut q = QuadTable { rows: vec![7.0; numbers], partial_splines: vec![7; splines] };
+            assert_eq!(q.capacity(), room);
+            let f = flatten(Setting::Screen, st, &c, &mut q, &mut s, &mut o);
+            assert_eq!((f.answer, f.quads), if room == 0 { (6, 0) } else { (0, 1) });
+            assert!(q.rows[QUAD_ROW * room..].iter().all(|v| *v == 7.0) && q.partial_splines[room..].iter().all(|v| *v == 7));
+        }
+    }
 }

@@ -9,5 +9,5 @@ pub mod program;
 pub mod root;
 pub mod store;
 
-pub use flatten::{flatten, Flattened, Output, QuadTable, Setting, SplineTable};
+pub use flatten::{flatten, Flattened, Output, QuadTable, Setting, SplineTable, QUAD_ROW};
 pub use store::{draw, fresh, Columns, State};

@@ -13,6 +13,9 @@ abbrev μ-loop : tie.MeasureT-loop
 none-requires : tie.Need-none-requires Inv-loop μ-loop
 none-requires c κs = search needs
 
+of-quads-requires : tie.Need-of-quads-requires Inv-loop μ-loop
+of-quads-requires c κs = search needs
+
 loop-holds : tie.Need-loop-holds Inv-loop μ-loop
 loop-holds c = search needs
 
@@ -41,6 +44,7 @@ at-each-place-spec =
     Inv-loop
     μ-loop
     none-requires
+    of-quads-requires
     loop-holds
     sub-place
     refuses-requires

@@ -1,0 +1,188 @@
+/* Prints how many bytes of stack the library's calls touch, a line `BYTES CALL` for each. Its status is 1 if one of them touches LIMIT bytes or more.
+ *
+ *     stack LIMIT
+ *
+ * Each call is made on a stack that was filled with one byte before. What it touches is counted from the stack pointer at the call, the return address
+ * included, down to the lowest byte that has changed. */
+#include "../../bindings/kermezhul.h"
+#include <stdio.h>
+#include <stdlib.h>
+#include <string.h>
+#include <ucontext.h>
+
+#define STACK (1 << 17)
+#define COMMANDS 64
+#define POINTS (3 * COMMANDS)
+#define QUADS (1 << 16)
+#define SPLINES 4096
+#define LENGTH (1 << 18)
+
+static void stop(const char *call, const char *why) {
+    fprintf(stderr, "tests/stack: %s: %s\n", call, why);
+    exit(2);
+}
+
+/* ---- the counting */
+
+static unsigned char stack[STACK] __attribute__((aligned(64)));
+static unsigned char *at_call;
+static ucontext_t here, there;
+
+/* The library's function, or one of those below. */
+static void *callee;
+#define CALL(NAME) ((__typeof__(NAME) *)callee)
+
+/* In place of any function, since the caller takes its arguments off the stack itself: notes the stack pointer at the call. */
+static __attribute__((noinline)) uint32_t noting(void) {
+    at_call = __builtin_dwarf_cfa();
+    return 0;
+}
+
+static unsigned char *lowest_changed(void (*calls)(void), int fill) {
+    memset(stack, fill, STACK);
+    getcontext(&there);
+    there.uc_stack.ss_sp = stack;
+    there.uc_stack.ss_size = STACK;
+    there.uc_link = &here;
+    makecontext(&there, calls, 0);
+    swapcontext(&here, &there);
+    unsigned char *low = stack;
+    while (*low == fill) low++;
+    return low;
+}
+
+/* `calls` makes one call, of `callee`. Two fills, since a byte may be written that is the fill. */
+static size_t touched(void (*calls)(void), void *function) {
+    callee = (void *)noting;
+    lowest_changed(calls, 0xA5);
+    callee = function;
+    unsigned char *a = lowest_changed(calls, 0xA5), *b = lowest_changed(calls, 0x5A);
+    return at_call - (a < b ? a : b);
+}
+
+/* A call that touches `depth` bytes, and a few for itself. */
+static size_t depth;
+static __attribute__((noinline)) uint32_t touching(void) {
+    volatile unsigned char *bytes = __builtin_alloca(depth);
+    for (size_t i = 0; i < depth; i++) bytes[i] = 0;
+    return 0;
+}
+static void call_touching(void) { CALL(touching)(); }
+
+static void try_counting(void) {
+    static const size_t depths[] = {16, 1000, 4096, 65536};
+    for (size_t i = 0; i < sizeof depths / sizeof *depths; i++) {
+        depth = depths[i];
+        size_t bytes = touched(call_touching, (void *)touching);
+        if (bytes < depth || bytes > depth + 128) stop("the counting", "a known number of bytes is counted wrongly");
+    }
+}
+
+/* ---- a drawing */
+
+static float x[POINTS], y[POINTS], weight[POINTS];
+static uint8_t commands[COMMANDS];
+static size_t points, used, opening;
+#define DRAWING x, POINTS, y, POINTS, weight, POINTS, commands, COMMANDS, &points, &used, &opening
+
+static uint32_t answer;
+static float a[8];
+static void call_fresh(void) { answer = CALL(kermezhul_fresh)(DRAWING); }
+static void call_move_to(void) { answer = CALL(kermezhul_move_to)(DRAWING, a[0], a[1]); }
+static void call_line_to(void) { answer = CALL(kermezhul_line_to)(DRAWING, a[0], a[1]); }
+static void call_quad_to(void) { answer = CALL(kermezhul_quad_to)(DRAWING, a[0], a[1], a[2], a[3]); }
+static void call_cubic_to(void) { answer = CALL(kermezhul_cubic_to)(DRAWING, a[0], a[1], a[2], a[3], a[4], a[5]); }
+static void call_rat_quad_to(void) { answer = CALL(kermezhul_rat_quad_to)(DRAWING, a[0], a[1], a[2], a[3], a[6]); }
+static void call_rat_cubic_to(void) { answer = CALL(kermezhul_rat_cubic_to)(DRAWING, a[0], a[1], a[2], a[3], a[4], a[5], a[6], a[7]); }
+static void call_build(void) { answer = CALL(kermezhul_build)(DRAWING); }
+
+/* From -1 to 1, the same numbers in every run. */
+static float number(void) {
+    static uint32_t seed = 1;
+    seed = seed * 1664525u + 1013904223u;
+    return (float)(seed >> 8) / (1 << 23) - 1;
+}
+
+/* Coordinates from far apart to so close that there is no angle, now and then the last point again, and weights from 1/64 to 64. */
+static void choose(int i) {
+    float span = 500;
+    for (int k = 0; k < i % 32; k++) span /= 2;
+    for (int k = 0; k < 6; k++) a[k] = span * number();
+    if (i % 5 == 4) a[0] = x[points - 1], a[1] = y[points - 1];
+    for (int k = 6; k < 8; k++) a[k] = number() < 0 ? 32.5f + 31.5f * number() : 1 / (32.5f + 31.5f * number());
+}
+
+/* The most of a row of calls, which are drawn one after another from a fresh drawing on. */
+static size_t most_of(void (*calls)(void), void *function, int n, const char *name) {
+    size_t most = 0;
+    callee = (void *)kermezhul_fresh;
+    call_fresh();
+    for (int i = 0; i < n; i++) {
+        size_t before[] = {points, used, opening};
+        choose(i);
+        size_t bytes = touched(calls, function);
+        if (bytes > most) most = bytes;
+        /* it was drawn twice */
+        points = before[0], used = before[1], opening = before[2];
+        calls();
+        if (answer != 0) stop(name, "it is refused");
+    }
+    return most;
+}
+
+/* ---- its flattening */
+
+static float quad_rows[KERMEZHUL_QUAD_ROW * QUADS];
+static uint32_t partial_splines[QUADS];
+static float curvature[SPLINES], p0x[SPLINES], p0y[SPLINES], p2x[SPLINES], p2y[SPLINES];
+static uint8_t contour[SPLINES];
+static uint32_t words[LENGTH], setting;
+static float out_x[LENGTH], out_y[LENGTH];
+static uint8_t out_end[LENGTH];
+static size_t splines, quads, length;
+static void call_flatten(void) {
+    answer = CALL(kermezhul_flatten)(setting, points, used, opening, x, POINTS, y, POINTS, weight, POINTS, commands, COMMANDS, quad_rows,
+        KERMEZHUL_QUAD_ROW * QUADS, partial_splines, QUADS, curvature, SPLINES, p0x, SPLINES, p0y, SPLINES, p2x, SPLINES, p2y, SPLINES, contour, SPLINES,
+        words, LENGTH, out_x, LENGTH, out_y, LENGTH, out_end, LENGTH, &splines, &quads, &length);
+}
+
+/* ---- the figures */
+
+static size_t limit, too_much;
+
+static void figure(const char *name, size_t bytes) {
+    printf("%zu %s\n", bytes, name);
+    too_much += bytes >= limit;
+}
+
+static void flattenings(const char *names[2], void (*calls)(void), void *function, size_t at_least) {
+    most_of(calls, function, COMMANDS - 2, names[0]);
+    for (setting = 0; setting < 2; setting++) {
+        size_t bytes = touched(call_flatten, (void *)kermezhul_flatten);
+        if (answer != 0) stop(names[setting], "it is refused");
+        if (length < at_least) stop(names[setting], "it has too few points to count");
+        figure(names[setting], bytes);
+    }
+}
+
+#define DRAWN(NAME, TIMES) figure(#NAME, most_of(call_##NAME, (void *)kermezhul_##NAME, TIMES, #NAME))
+#define FLATTENED(KIND, NAME, AT_LEAST) \
+    flattenings((const char *[]){"flatten, " KIND ", screen", "flatten, " KIND ", knife"}, call_##NAME, (void *)kermezhul_##NAME, AT_LEAST)
+
+int main(int count, char **argument) {
+    limit = count == 2 ? strtoul(argument[1], NULL, 10) : 0;
+    if (limit == 0) stop("usage", "stack LIMIT");
+    try_counting();
+    FLATTENED("lines", line_to, COMMANDS / 2);
+    FLATTENED("quads", quad_to, 4 * COMMANDS);
+    FLATTENED("rational cubics", rat_cubic_to, 64 * COMMANDS);
+    DRAWN(fresh, 1);
+    DRAWN(move_to, COMMANDS - 2);
+    DRAWN(line_to, COMMANDS - 2);
+    DRAWN(quad_to, COMMANDS - 2);
+    DRAWN(cubic_to, COMMANDS - 2);
+    DRAWN(rat_quad_to, COMMANDS - 2);
+    DRAWN(rat_cubic_to, COMMANDS - 2);
+    DRAWN(build, 1);
+    return too_much > 0;
+}
