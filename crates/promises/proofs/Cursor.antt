@@ -12,13 +12,12 @@ use native.Mathlib.Numerals.{add-one}
 use native.Mathlib.Decide.{decLt}
 use native.Mathlib.Omega.{arith}
 use lib.Dec.{T, ltb, ltb→lt, nltb→le, lit≤}
-use lib.Ieee.{Float, nan, lt}
+use lib.Ieee.{Float, lt}
 use lib.Ieee.Positive.{num, den, den-pos}
-use lib.ListN.{getD}
 use Rattle.facts.proofs.Numbers.{shift, shift-one}
 use Rattle.leaves.specs.Single.{whole32}
 use Rattle.command.specs.declared.PointCommand.the-variants.{Incr}
-use Rattle.tables.specs.Tables.{QuadTable}
+use Rattle.primitives.specs.declared.QuadRow.{QuadRow}
 use Rattle.tables.proofs.RunningSums.{Sum, Reaches, Up, lt-whole, below-up, up-below, up-two, up-limit}
 use Rattle.tables.proofs.Spans.{sumAt, ownerAt, Span, LastOf}
 use Rattle.walk.specs.Walk.{Item, item, cursorAt, stepsFrom, cursorFrom}
@@ -33,45 +32,46 @@ abbrev pub Below : Float → ℕ → Type 0
 Below x p = num x < p * den x
 
 -- ---- where the cursor goes at step p
-cursor-goes : (q : QuadTable) (p c : ℕ) → Sum (sumAt q c) → p ≤ 65537 → (Below (sumAt q c) p × (cursorAt q p c ≡ suc c)) ⊎ (AtMost p (sumAt q c) × (cursorAt q p c ≡ c))
+cursor-goes : (rows : ℕ → QuadRow) (p c : ℕ) → Sum (sumAt rows c) → p ≤ 65537 → (Below (sumAt rows c) p × (cursorAt rows p c ≡ suc c)) ⊎ (AtMost p (sumAt rows c) × (cursorAt rows p c ≡ c))
 unfolding cursorAt
-cursor-goes q p c S h = go (ltb (num x) (p * den x)) (lt-whole x p S h) (ltb→lt (num x) (p * den x)) (nltb→le (num x) (p * den x))
+cursor-goes rows p c S h = go (ltb (num x) (p * den x)) (lt-whole x p S h) (ltb→lt (num x) (p * den x)) (nltb→le (num x) (p * den x))
   where
     x : Float
-    x = sumAt q c
+    x = sumAt rows c
 
-    go : (b : Bool) → lt x (whole32 p) ≡ b → (T b → Below x p) → (T (not b) → AtMost p x) → (Below x p × (cond (lt x (whole32 p)) (c + 1) c ≡ suc c)) ⊎ (AtMost p x × (cond (lt x (whole32 p)) (c + 1) c ≡ c))
+    go : (b : Bool) → lt x (whole32 p) ≡ b → (T b → Below x p) → (T (not b) → AtMost p x)
+        → (Below x p × (cond (lt x (whole32 p)) (c + 1) c ≡ suc c)) ⊎ (AtMost p x × (cond (lt x (whole32 p)) (c + 1) c ≡ c))
     go true e f g = inl (f tt, ap (λ (b : Bool). cond b (c + 1) c) e ∙ add-one c)
     go false e f g = inr (g tt, ap (λ (b : Bool). cond b (c + 1) c) e)
 
 -- it goes on by one at most
-cursor-step : (q : QuadTable) (p c : ℕ) → cursorAt q p c ≤ suc c
+cursor-step : (rows : ℕ → QuadRow) (p c : ℕ) → cursorAt rows p c ≤ suc c
 unfolding cursorAt
-cursor-step q p c = go (lt (sumAt q c) (whole32 p))
+cursor-step rows p c = go (lt (sumAt rows c) (whole32 p))
   where
     go : (b : Bool) → cond b (c + 1) c ≤ suc c
     go true = le-of-eq (add-one c)
     go false = le-of-lt (le-refl (suc c))
 
 -- ---- 3e's half: up to the last quad l, whose sum no step of the spline reaches
-module _ (q : QuadTable) (l m : ℕ) (S : Sum (sumAt q l)) (U : Up (sumAt q l) m) where
+module _ (rows : ℕ → QuadRow) (l m : ℕ) (S : Sum (sumAt rows l)) (U : Up (sumAt rows l) m) where
   small : (p : ℕ) → p < m → p ≤ 65537
-  small p h = le-trans (le-of-lt h) (le-trans (up-limit (sumAt q l) m S U) (lit≤ tt))
+  small p h = le-trans (le-of-lt h) (le-trans (up-limit (sumAt rows l) m S U) (lit≤ tt))
 
-  cursor-under : (p c : ℕ) → c ≤ l → p < m → cursorAt q p c ≤ l
+  pub cursor-under : (p c : ℕ) → c ≤ l → p < m → cursorAt rows p c ≤ l
   cursor-under p c h k = elim (eq-or-lt-of-le h) [
-    | inl e ↦ subst (λ (x : ℕ). cursorAt q p x ≤ l) (sym e) (at-last (cursor-goes q p l S (small p k)))
-    | inr g ↦ le-trans (cursor-step q p c) g
+    | inl e ↦ subst (λ (x : ℕ). cursorAt rows p x ≤ l) (sym e) (at-last (cursor-goes rows p l S (small p k)))
+    | inr g ↦ le-trans (cursor-step rows p c) g
   ]
     where
-      at-last : (Below (sumAt q l) p × (cursorAt q p l ≡ suc l)) ⊎ (AtMost p (sumAt q l) × (cursorAt q p l ≡ l)) → cursorAt q p l ≤ l
-      at-last (inl z) = absurd (lt-irrefl (num (sumAt q l)) (lt-of-lt-of-le (z .0) (le-of-lt (up-below (sumAt q l) m p U k))))
+      at-last : (Below (sumAt rows l) p × (cursorAt rows p l ≡ suc l)) ⊎ (AtMost p (sumAt rows l) × (cursorAt rows p l ≡ l)) → cursorAt rows p l ≤ l
+      at-last (inl z) = absurd (lt-irrefl (num (sumAt rows l)) (lt-of-lt-of-le (z .0) (le-of-lt (up-below (sumAt rows l) m p U k))))
       at-last (inr z) = le-of-eq (z .1)
 
-  pub cursor-from-under : (n p c : ℕ) → c ≤ l → p + n ≤ m → cursorFrom q n p c ≤ l
+  pub cursor-from-under : (n p c : ℕ) → c ≤ l → p + n ≤ m → cursorFrom rows n p c ≤ l
   unfolding cursorFrom
   cursor-from-under zero p c h k = h
-  cursor-from-under (suc n) p c h k = cursor-from-under n (p + 1) (cursorAt q p c) (cursor-under p c h (first p n m k)) (rest p n m k)
+  cursor-from-under (suc n) p c h k = cursor-from-under n (p + 1) (cursorAt rows p c) (cursor-under p c h (first p n m k)) (rest p n m k)
     where
       first : (p n m : ℕ) → p + suc n ≤ m → p < m
       first p n m k = omega arith
@@ -79,12 +79,12 @@ module _ (q : QuadTable) (l m : ℕ) (S : Sum (sumAt q l)) (U : Up (sumAt q l) m
       rest : (p n m : ℕ) → p + suc n ≤ m → p + 1 + n ≤ m
       rest p n m k = omega arith
 
-  pub steps-under : (size : Float) (n p c : ℕ) → c ≤ l → p + n ≤ m → All (λ (i : Item). i .quad ≤ l) (stepsFrom q size n p c)
+  pub steps-under : (size : Float) (n p c : ℕ) → c ≤ l → p + n ≤ m → All (λ (i : Item). i .quad ≤ l) (stepsFrom rows size n p c)
   unfolding stepsFrom
   steps-under size zero p c h k = tt
   steps-under size (suc n) p c h k =
       let g = cursor-under p c h (first p n m k) in
-      (g, steps-under size n (p + 1) (cursorAt q p c) g (rest p n m k))
+      (g, steps-under size n (p + 1) (cursorAt rows p c) g (rest p n m k))
     where
       first : (p n m : ℕ) → p + suc n ≤ m → p < m
       first p n m k = omega arith
@@ -93,14 +93,14 @@ module _ (q : QuadTable) (l m : ℕ) (S : Sum (sumAt q l)) (U : Up (sumAt q l) m
       rest p n m k = omega arith
 
 -- ---- 3f's half: the quads from lo to l of one spline
-module _ (q : QuadTable) (total : Float) (lo l j m : ℕ) (R : Span q total lo (suc l) j) (inside : lo ≤ l) (S : Sum (sumAt q l)) (U : Up (sumAt q l) m) where
-  sum-of : (i : ℕ) → lo ≤ i → i ≤ l → Sum (sumAt q i)
+module _ (rows : ℕ → QuadRow) (total : Float) (lo l j m : ℕ) (R : Span rows total lo (suc l) j) (inside : lo ≤ l) (S : Sum (sumAt rows l)) (U : Up (sumAt rows l) m) where
+  sum-of : (i : ℕ) → lo ≤ i → i ≤ l → Sum (sumAt rows i)
   sum-of i h k = R .sums i h (le-suc i l k)
     where
       le-suc : (i l : ℕ) → i ≤ l → i < suc l
       le-suc i l h = omega arith
 
-  reach : (i : ℕ) → lo ≤ i → i < l → Reaches (sumAt q i) (sumAt q (suc i))
+  reach : (i : ℕ) → lo ≤ i → i < l → Reaches (sumAt rows i) (sumAt rows (suc i))
   reach i h k = R .grows i h (le-suc i l k)
     where
       le-suc : (i l : ℕ) → i < l → suc i < suc l
@@ -110,8 +110,8 @@ module _ (q : QuadTable) (total : Float) (lo l j m : ℕ) (R : Span q total lo (
   pub record Falls (p i : ℕ) : Type 0 where
     pub low : lo ≤ i
     pub high : i ≤ l
-    pub upto : AtMost p (sumAt q i)
-    pub above : (b : ℕ) → suc b ≡ i → lo ≤ b → Below (sumAt q b) p
+    pub upto : AtMost p (sumAt rows i)
+    pub above : (b : ℕ) → suc b ≡ i → lo ≤ b → Below (sumAt rows b) p
 
   weaker : (p : ℕ) (x : Float) → AtMost (suc p) x → AtMost p x
   weaker p x h = le-trans (less (p * den x) (den x) (suc p * den x) (suc-mul p (den x))) h
@@ -120,19 +120,20 @@ module _ (q : QuadTable) (total : Float) (lo l j m : ℕ) (R : Span q total lo (
       less a d b e = omega arith
 
   -- a whole number at most a sum is at most the later ones
-  carry : (p i d : ℕ) → lo ≤ i → i + d ≤ l → AtMost p (sumAt q i) → AtMost p (sumAt q (i + d))
-  carry p i zero h k a = subst (λ (x : ℕ). AtMost p (sumAt q x)) (sym (add-zero i)) a
+  carry : (p i d : ℕ) → lo ≤ i → i + d ≤ l → AtMost p (sumAt rows i) → AtMost p (sumAt rows (i + d))
+  carry p i zero h k a = subst (λ (x : ℕ). AtMost p (sumAt rows x)) (sym (add-zero i)) a
   carry p i (suc d) h k a =
-      subst (λ (x : ℕ). AtMost p (sumAt q x)) (shift i d) (carry p (suc i) d (le-trans h (le-suc i)) (le-trans (le-of-eq (shift i d)) k) (weaker p (sumAt q (suc i)) (reach i h (below i d l k) p a)))
+      subst (λ (x : ℕ). AtMost p (sumAt rows x)) (shift i d)
+      (carry p (suc i) d (le-trans h (le-suc i)) (le-trans (le-of-eq (shift i d)) k) (weaker p (sumAt rows (suc i)) (reach i h (below i d l k) p a)))
     where
       below : (i d l : ℕ) → i + suc d ≤ l → i < l
       below i d l k = omega arith
 
   not-less : (p i i' : ℕ) → Falls p i → Falls p i' → i < i' → ⊥
   not-less p i i' F G h =
-      lt-irrefl (num (sumAt q (i' - 1)))
+      lt-irrefl (num (sumAt rows (i' - 1)))
       (lt-of-lt-of-le (G .above (i' - 1) (back i i' h) (le-trans (F .low) (last i i' h)))
-      (subst (λ (x : ℕ). AtMost p (sumAt q x)) (join i i' h) (carry p i (i' - 1 - i) (F .low) (le-trans (le-of-eq (join i i' h)) (le-trans (sub-le i' 1) (G .high))) (F .upto))))
+      (subst (λ (x : ℕ). AtMost p (sumAt rows x)) (join i i' h) (carry p i (i' - 1 - i) (F .low) (le-trans (le-of-eq (join i i' h)) (le-trans (sub-le i' 1) (G .high))) (F .upto))))
     where
       back : (i i' : ℕ) → i < i' → suc (i' - 1) ≡ i'
       back i i' h = omega arith
@@ -152,46 +153,46 @@ module _ (q : QuadTable) (total : Float) (lo l j m : ℕ) (R : Span q total lo (
 
   -- ---- the cursor is where the step falls
   under-limit : (p : ℕ) → p < m → p ≤ 65537
-  under-limit p h = le-trans (le-of-lt h) (le-trans (up-limit (sumAt q l) m S U) (lit≤ tt))
+  under-limit p h = le-trans (le-of-lt h) (le-trans (up-limit (sumAt rows l) m S U) (lit≤ tt))
 
   clash : (x : Float) (p : ℕ) → Below x p → AtMost p x → ⊥
   clash x p h k = lt-irrefl (num x) (lt-of-lt-of-le h k)
 
-  pub first-falls : Falls 1 (cursorAt q 1 lo)
-  first-falls = go (cursor-goes q 1 lo (sum-of lo (le-refl lo) inside) (lit≤ tt))
+  pub first-falls : Falls 1 (cursorAt rows 1 lo)
+  first-falls = go (cursor-goes rows 1 lo (sum-of lo (le-refl lo) inside) (lit≤ tt))
     where
-      over : AtMost 1 (sumAt q lo)
-      over = le-trans (le-of-eq (one-mul (den (sumAt q lo)))) (le-of-lt (sum-of lo (le-refl lo) inside .over))
+      over : AtMost 1 (sumAt rows lo)
+      over = le-trans (le-of-eq (one-mul (den (sumAt rows lo)))) (le-of-lt (sum-of lo (le-refl lo) inside .over))
 
       no : (b lo : ℕ) → suc b ≡ lo → lo ≤ b → ⊥
       no b lo e h = omega arith
 
-      go : (Below (sumAt q lo) 1 × (cursorAt q 1 lo ≡ suc lo)) ⊎ (AtMost 1 (sumAt q lo) × (cursorAt q 1 lo ≡ lo)) → Falls 1 (cursorAt q 1 lo)
-      go (inl z) = absurd (clash (sumAt q lo) 1 (z .0) over)
+      go : (Below (sumAt rows lo) 1 × (cursorAt rows 1 lo ≡ suc lo)) ⊎ (AtMost 1 (sumAt rows lo) × (cursorAt rows 1 lo ≡ lo)) → Falls 1 (cursorAt rows 1 lo)
+      go (inl z) = absurd (clash (sumAt rows lo) 1 (z .0) over)
       go (inr z) = subst (Falls 1) (sym (z .1)) (record { low = le-refl lo; high = inside; upto = over; above = λ b e h. absurd (no b lo e h) })
 
-  next-falls : (p i : ℕ) → Falls p i → suc p < m → Falls (suc p) (cursorAt q (suc p) i)
-  next-falls p i F k = go (cursor-goes q (suc p) i (sum-of i (F .low) (F .high)) (under-limit (suc p) k))
+  next-falls : (p i : ℕ) → Falls p i → suc p < m → Falls (suc p) (cursorAt rows (suc p) i)
+  next-falls p i F k = go (cursor-goes rows (suc p) i (sum-of i (F .low) (F .high)) (under-limit (suc p) k))
     where
-      go : (Below (sumAt q i) (suc p) × (cursorAt q (suc p) i ≡ suc i)) ⊎ (AtMost (suc p) (sumAt q i) × (cursorAt q (suc p) i ≡ i)) → Falls (suc p) (cursorAt q (suc p) i)
+      go : (Below (sumAt rows i) (suc p) × (cursorAt rows (suc p) i ≡ suc i)) ⊎ (AtMost (suc p) (sumAt rows i) × (cursorAt rows (suc p) i ≡ i)) → Falls (suc p) (cursorAt rows (suc p) i)
       go (inr z) =
           subst (Falls (suc p)) (sym (z .1))
-          (record { low = F .low; high = F .high; upto = z .0; above = λ b e h. lt-of-lt-of-le (F .above b e h) (mul-le-mul-right (den (sumAt q b)) (le-suc p)) })
+          (record { low = F .low; high = F .high; upto = z .0; above = λ b e h. lt-of-lt-of-le (F .above b e h) (mul-le-mul-right (den (sumAt rows b)) (le-suc p)) })
       go (inl z) = elim (eq-or-lt-of-le (F .high)) [
-        | inl e ↦ absurd (clash (sumAt q l) (suc p) (subst (λ (x : ℕ). Below (sumAt q x) (suc p)) e (z .0)) (le-of-lt (up-below (sumAt q l) m (suc p) U k)))
+        | inl e ↦ absurd (clash (sumAt rows l) (suc p) (subst (λ (x : ℕ). Below (sumAt rows x) (suc p)) e (z .0)) (le-of-lt (up-below (sumAt rows l) m (suc p) U k)))
         | inr g ↦
             subst (Falls (suc p)) (sym (z .1))
             (record {
               low = le-trans (F .low) (le-of-lt (le-refl (suc i)));
               high = g;
               upto = reach i (F .low) g p (F .upto);
-              above = λ b e h. subst (λ (x : ℕ). Below (sumAt q x) (suc p)) (sym (suc-inj e)) (z .0);
+              above = λ b e h. subst (λ (x : ℕ). Below (sumAt rows x) (suc p)) (sym (suc-inj e)) (z .0);
             })
       ]
 
   -- ---- n steps from step p on, at a cursor from which p falls
-  ready-next : (n p c : ℕ) → (0 < suc n → Falls p (cursorAt q p c)) → p + suc n ≤ m → 0 < n → Falls (p + 1) (cursorAt q (p + 1) (cursorAt q p c))
-  ready-next n p c F k h = subst (λ (x : ℕ). Falls x (cursorAt q x (cursorAt q p c))) (sym (add-one p)) (next-falls p (cursorAt q p c) (F (zero-lt-suc n)) (more p n m k h))
+  ready-next : (n p c : ℕ) → (0 < suc n → Falls p (cursorAt rows p c)) → p + suc n ≤ m → 0 < n → Falls (p + 1) (cursorAt rows (p + 1) (cursorAt rows p c))
+  ready-next n p c F k h = subst (λ (x : ℕ). Falls x (cursorAt rows x (cursorAt rows p c))) (sym (add-one p)) (next-falls p (cursorAt rows p c) (F (zero-lt-suc n)) (more p n m k h))
     where
       more : (p n m : ℕ) → p + suc n ≤ m → 0 < n → suc p < m
       more p n m k h = omega arith
@@ -204,43 +205,44 @@ module _ (q : QuadTable) (total : Float) (lo l j m : ℕ) (R : Span q total lo (
     pub falls : Falls p quad
     pub member : List·Memᴰ (item (Incr size) p quad) steps
 
-  pub step-at : (size : Float) (n p c : ℕ) → (0 < n → Falls p (cursorAt q p c)) → p + n ≤ m → (x : ℕ) → p ≤ x → x < p + n → StepAt size (stepsFrom q size n p c) x
+  pub step-at : (size : Float) (n p c : ℕ) → (0 < n → Falls p (cursorAt rows p c)) → p + n ≤ m → (x : ℕ) → p ≤ x → x < p + n → StepAt size (stepsFrom rows size n p c) x
   unfolding stepsFrom
   step-at size zero p c F k x h g = absurd (no p x h g)
     where
       no : (p x : ℕ) → p ≤ x → x < p + 0 → ⊥
       no p x h g = omega arith
   step-at size (suc n) p c F k x h g = elim (eq-or-lt-of-le h) [
-    | inl e ↦ subst (StepAt size (stepsFrom q size (suc n) p c)) e (record { quad = cursorAt q p c; falls = F (zero-lt-suc n); member = List·Memᴰ·head refl })
+    | inl e ↦ subst (StepAt size (stepsFrom rows size (suc n) p c)) e (record { quad = cursorAt rows p c; falls = F (zero-lt-suc n); member = List·Memᴰ·head refl })
     | inr u ↦
-        let z = step-at size n (p + 1) (cursorAt q p c) (ready-next n p c F k) (shifted p n m k) x (le-trans (le-of-eq (add-one p)) u) (lt-of-lt-of-le g (le-of-eq (sym (shift-one p n)))) in
+        let z = step-at size n (p + 1) (cursorAt rows p c) (ready-next n p c F k) (shifted p n m k) x (le-trans (le-of-eq (add-one p)) u) (lt-of-lt-of-le g (le-of-eq (sym (shift-one p n)))) in
         record { quad = z .quad; falls = z .falls; member = List·Memᴰ·tail (z .member) }
   ]
 
-  pub steps-inside : (size : Float) (n p c : ℕ) → (0 < n → Falls p (cursorAt q p c)) → p + n ≤ m → All (λ (i : Item). (lo ≤ i .quad) × (i .quad ≤ l)) (stepsFrom q size n p c)
+  pub steps-inside : (size : Float) (n p c : ℕ) → (0 < n → Falls p (cursorAt rows p c)) → p + n ≤ m → All (λ (i : Item). (lo ≤ i .quad) × (i .quad ≤ l)) (stepsFrom rows size n p c)
   unfolding stepsFrom
   steps-inside size zero p c F k = tt
   steps-inside size (suc n) p c F k =
       let z = F (zero-lt-suc n) in
-      ((z .low, z .high), steps-inside size n (p + 1) (cursorAt q p c) (ready-next n p c F k) (shifted p n m k))
+      ((z .low, z .high), steps-inside size n (p + 1) (cursorAt rows p c) (ready-next n p c F k) (shifted p n m k))
 
-  cursor-falls : (n p c : ℕ) → (0 < suc n → Falls p (cursorAt q p c)) → p + suc n ≤ m → Falls (p + n) (cursorFrom q (suc n) p c)
+  cursor-falls : (n p c : ℕ) → (0 < suc n → Falls p (cursorAt rows p c)) → p + suc n ≤ m → Falls (p + n) (cursorFrom rows (suc n) p c)
   unfolding cursorFrom
-  cursor-falls zero p c F k = subst (λ (x : ℕ). Falls x (cursorAt q p c)) (sym (add-zero p)) (F (zero-lt-suc 0))
+  cursor-falls zero p c F k = subst (λ (x : ℕ). Falls x (cursorAt rows p c)) (sym (add-zero p)) (F (zero-lt-suc 0))
   cursor-falls (suc n) p c F k =
-      subst (λ (x : ℕ). Falls x (cursorFrom q (suc n) (p + 1) (cursorAt q p c))) (shift-one p n) (cursor-falls n (p + 1) (cursorAt q p c) (λ h. ready-next (suc n) p c F k h) (shifted p (suc n) m k))
+      subst (λ (x : ℕ). Falls x (cursorFrom rows (suc n) (p + 1) (cursorAt rows p c))) (shift-one p n)
+      (cursor-falls n (p + 1) (cursorAt rows p c) (λ h. ready-next (suc n) p c F k h) (shifted p (suc n) m k))
 
   -- ---- where a whole number lies strictly between the last two sums, some step falls on each quad, and the last one on the last
-  module _ (spread : (b : ℕ) → suc b ≡ l → lo ≤ b → (p : ℕ) × Below (sumAt q b) p × (p * den (sumAt q l) < num (sumAt q l))) where
+  module _ (spread : (b : ℕ) → suc b ≡ l → lo ≤ b → (p : ℕ) × Below (sumAt rows b) p × (p * den (sumAt rows l) < num (sumAt rows l))) where
     last-falls : Falls (m - 1) l
     last-falls =
         record {
           low = inside;
           high = le-refl l;
-          upto = le-of-lt (up-below (sumAt q l) m (m - 1) U (pred m (up-two (sumAt q l) m S U)));
+          upto = le-of-lt (up-below (sumAt rows l) m (m - 1) U (pred m (up-two (sumAt rows l) m S U)));
           above = λ b e h.
               let z = spread b e h in
-              lt-of-lt-of-le (z .1) (mul-le-mul-right (den (sumAt q b)) (under (z .0) m (below-up (sumAt q l) m (z .0) U (z .2))));
+              lt-of-lt-of-le (z .1) (mul-le-mul-right (den (sumAt rows b)) (under (z .0) m (below-up (sumAt rows l) m (z .0) U (z .2))));
         }
       where
         pred : (m : ℕ) → 2 ≤ m → m - 1 < m
@@ -249,11 +251,11 @@ module _ (q : QuadTable) (total : Float) (lo l j m : ℕ) (R : Span q total lo (
         under : (p m : ℕ) → p < m → p ≤ m - 1
         under p m h = omega arith
 
-    pub cursor-ends : cursorFrom q (m - 1) 1 lo ≡ l
+    pub cursor-ends : cursorFrom rows (m - 1) 1 lo ≡ l
     cursor-ends =
-        let h = up-two (sumAt q l) m S U in
-        falls-once (m - 1) (cursorFrom q (m - 1) 1 lo) l
-        (subst₂ (λ (x y : ℕ). Falls x (cursorFrom q y 1 lo)) (one m h) (two m h) (cursor-falls (m - 2) 1 lo (λ k. first-falls) (le-of-eq (three m h))))
+        let h = up-two (sumAt rows l) m S U in
+        falls-once (m - 1) (cursorFrom rows (m - 1) 1 lo) l
+        (subst₂ (λ (x y : ℕ). Falls x (cursorFrom rows y 1 lo)) (one m h) (two m h) (cursor-falls (m - 2) 1 lo (λ k. first-falls) (le-of-eq (three m h))))
         last-falls
       where
         one : (m : ℕ) → 2 ≤ m → 1 + (m - 2) ≡ m - 1
@@ -274,20 +276,22 @@ module _ (q : QuadTable) (total : Float) (lo l j m : ℕ) (R : Span q total lo (
     -- before the last quad: the next whole number above the sum before it, which is below the spline's sum
     reached-inner : (b : ℕ) → lo ≤ b → suc b < l → Reached (suc b)
     reached-inner b h k =
-        let x = sumAt q b in
+        let x = sumAt rows b in
         let p = suc (num x / den x) in
-        let u : AtMost p (sumAt q (suc b)) = reach b h (le-of-lt k) (num x / den x) (div-mul-le-self (num x) (den x)) in
-        let t : AtMost (suc p) (sumAt q l) = subst (λ (y : ℕ). AtMost (suc p) (sumAt q y)) (join b l k) (carry (suc p) (suc (suc b)) (l - suc (suc b)) (le-trans h (two b)) (le-of-eq (join b l k)) (reach (suc b) (le-trans h (le-suc b)) k p u)) in
+        let u : AtMost p (sumAt rows (suc b)) = reach b h (le-of-lt k) (num x / den x) (div-mul-le-self (num x) (den x)) in
+        let t : AtMost (suc p) (sumAt rows l) =
+        subst (λ (y : ℕ). AtMost (suc p) (sumAt rows y)) (join b l k)
+        (carry (suc p) (suc (suc b)) (l - suc (suc b)) (le-trans h (two b)) (le-of-eq (join b l k)) (reach (suc b) (le-trans h (le-suc b)) k p u)) in
         record {
           step = p;
           least = zero-lt-suc (num x / den x);
-          most = below-up (sumAt q l) m p U (strict (sumAt q l) p t);
+          most = below-up (sumAt rows l) m p U (strict (sumAt rows l) p t);
           falls =
               record {
                 low = le-trans h (le-suc b);
                 high = le-of-lt k;
                 upto = u;
-                above = λ c e g. subst (λ (y : ℕ). Below (sumAt q y) p) (sym (suc-inj e)) (div-lt-iff-lt-mul (den-pos x) .0 (le-refl p));
+                above = λ c e g. subst (λ (y : ℕ). Below (sumAt rows y) p) (sym (suc-inj e)) (div-lt-iff-lt-mul (den-pos x) .0 (le-refl p));
               };
         }
       where
@@ -308,11 +312,11 @@ module _ (q : QuadTable) (total : Float) (lo l j m : ℕ) (R : Span q total lo (
         let z = spread b e h in
         record {
           step = z .0;
-          least = some (z .0) (den (sumAt q b)) (num (sumAt q b)) (z .1);
-          most = below-up (sumAt q l) m (z .0) U (z .2);
+          least = some (z .0) (den (sumAt rows b)) (num (sumAt rows b)) (z .1);
+          most = below-up (sumAt rows l) m (z .0) U (z .2);
           falls =
               subst (Falls (z .0)) (sym e)
-              (record { low = inside; high = le-refl l; upto = le-of-lt (z .2); above = λ c f g. subst (λ (y : ℕ). Below (sumAt q y) (z .0)) (same b c l e f) (z .1) });
+              (record { low = inside; high = le-refl l; upto = le-of-lt (z .2); above = λ c f g. subst (λ (y : ℕ). Below (sumAt rows y) (z .0)) (same b c l e f) (z .1) });
         }
       where
         same : (b c l : ℕ) → suc b ≡ l → suc c ≡ l → b ≡ c
@@ -342,12 +346,12 @@ module _ (q : QuadTable) (total : Float) (lo l j m : ℕ) (R : Span q total lo (
             record {
               step = 1;
               least = le-refl 1;
-              most = up-two (sumAt q l) m S U;
+              most = up-two (sumAt rows l) m S U;
               falls =
                   record {
                     low = le-refl lo;
                     high = inside;
-                    upto = le-trans (le-of-eq (one-mul (den (sumAt q lo)))) (le-of-lt (sum-of lo (le-refl lo) inside .over));
+                    upto = le-trans (le-of-eq (one-mul (den (sumAt rows lo)))) (le-of-lt (sum-of lo (le-refl lo) inside .over));
                     above = λ b e g. absurd (no b lo e g);
                   };
             }

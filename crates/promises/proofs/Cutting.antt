@@ -18,6 +18,10 @@ module _ {A : Type 0} where
   all-append P [] t h k = k
   all-append P (a ∷ s) t h k = (h .0, all-append P s t (h .1) k)
 
+  pub all-map : (P R : A → Type 0) → ((a : A) → P a → R a) → (s : List A) → All P s → All R s
+  all-map P R f [] h = tt
+  all-map P R f (a ∷ s) h = (f a (h .0), all-map P R f s (h .1))
+
   pub all-member : (P : A → Type 0) (s : List A) (a : A) → All P s → List·Memᴰ a s → P a
   all-member P (b ∷ s) a h m = elim (cases m) [ inl e ↦ subst P (sym e) (h .0) | inr k ↦ all-member P s a (h .1) k ]
     where

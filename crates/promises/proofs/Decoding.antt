@@ -15,7 +15,7 @@ use Rattle.command.specs.declared.PointCommand.the-variants.{Start, Incr, End}
 use Rattle.command.specs.Packing.{indexLimit, packOf, unpackOf}
 use Rattle.command.proofs.Laws.{Packs, Holds, command-back, only-nan}
 use Rattle.primitives.specs.declared.Capacities.{Capacities}
-use Rattle.tables.specs.Tables.{capacitiesOf}
+use Rattle.tables.specs.Tables.{capacitiesOf, quadRowAt}
 use Rattle.tables.specs.Run.{World, world, startState}
 use Rattle.tables.specs.Commands.{primitivesOf, tablesOf}
 use Rattle.tables.proofs.Sound.{Sound, sound, splines-room}
@@ -94,14 +94,18 @@ job-pieces job =
     let f = finishedOf job in
     let e = cut-decoded (wordsIn f) (walkIn (job .setting) f) (job-decoded job) in
     record {
-      as-many = sym (length-map (piecesIn (wordsIn f)) decoded) ∙ ap length e ∙ length-map (cutAfter endsItem (walkIn (job .setting) f)) (map commandOf) ∙ pieces-count (w .quads) (w .splines) (job .setting) (w .state .splines) 0 0;
+      as-many =
+          sym (length-map (piecesIn (wordsIn f)) decoded)
+          ∙ ap length e
+          ∙ length-map (cutAfter endsItem (walkIn (job .setting) f)) (map commandOf)
+          ∙ pieces-count (quadRowAt (w .quads)) (w .splines) (job .setting) (w .state .splines) 0 0;
       each = λ k h.
-          let z = piece-at (w .quads) (w .splines) (job .setting) (λ (j c : ℕ). Unit {0}) (w .state .splines) 0 0 tt (λ j c l u. tt) k h in
+          let z = piece-at (quadRowAt (w .quads)) (w .splines) (job .setting) (λ (j c : ℕ). Unit {0}) (w .state .splines) 0 0 tt (λ j c l u. tt) k h in
           decoded-at (piecesIn (wordsIn f)) k
           ∙ ap (λ (x : List (List PointCommand)). getD x k []) e
           ∙ List·getD-map (map commandOf) (cutAfter endsItem (walkIn (job .setting) f)) k []
           ∙ ap (map commandOf) (z .is)
-          ∙ piece-commands (w .quads) (w .splines) (0 + k) (z .cursor)
+          ∙ piece-commands (quadRowAt (w .quads)) (w .splines) (0 + k) (z .cursor)
           ∙ ap (pieceOf (w .splines)) (zero-add k);
     }
 

@@ -18,7 +18,8 @@ use Rattle.command.specs.Packing.{packOf, unpackOf}
 use Rattle.store.specs.Closing.{unclosedOf}
 use Rattle.store.specs.Columns.{storedPointOf, lastCommandOf, putPoint, putCommand, evenOf, usableOf}
 use Rattle.store.specs.Drawable.{storedOkOf, knownOf, totalUsesOf, drawableOf}
-use Rattle.store.specs.Drawing.{coordinateOkOf, weightOkOf, every, coordinatesOf, weightsOf, appended, closed, moved, writesOf, putPoints, putCommands, written, stateAfter, roomOf, answerOf, drawOf, freshOf}
+use Rattle.store.specs.Drawing.{coordinateOkOf, weightOkOf, every, coordinatesOf, weightsOf, appended, closed, moved, writesOf, putPoints}
+use Rattle.store.specs.Drawing.{putCommands, written, stateAfter, roomOf, answerOf, drawOf, freshOf}
 use Rattle.store.specs.Replay.{replayOf}
 use Rattle.primitives.specs.Cubics.{bendOf, cubicErrorOf, cubicPiecesOf, cubicPointOf, controlOf, quadsFrom, cutOf, cubicQuadsOf}
 use Rattle.primitives.specs.Plan.{refusedOf, markedOf, planLineOf, quadRowOf, planCurveOf, planLegsOf, planQuadOf, planOf}
@@ -27,13 +28,24 @@ use Rattle.primitives.specs.Splines.{farOf, opensOf, lineAngleOf, sumBefore, sp
 use Rattle.tables.specs.Commands.{cubicFrom, commandPrimitivesOf, primitivesFrom, primitivesOf, tablesOf}
 use Rattle.tables.specs.Run.{applyOf, pushOf, runOf}
 use Rattle.columns.specs.Flags.{flagByteOf, isFlagOf}
-use Rattle.tables.specs.Tables.{quadCapacityOf, splineCapacityOf, capacitiesOf, putQuad, clearFlag, putSpline, splineAt, lastSplineOf}
+use Rattle.tables.specs.Tables.{quadCapacityOf, splineCapacityOf, capacitiesOf, numbersOf, putQuad, numberAt, quadRowAt, clearFlag, putSpline, splineAt, lastSplineOf}
 use Rattle.walk.specs.Walk.{subdivisionsOf, stepSizeOf, startsOf, cursorAt, stepsFrom, cursorFrom, cursorAfter, splineItemsOf, walkFrom, walkOf, wordOf, wordsOf}
-use Rattle.evaluate.specs.Evaluate.{controlPointOf, previousSumOf, parameterOf, stepPointOf, commandPointOf, itemPointOf, pointsOf}
+use Rattle.evaluate.specs.Evaluate.{previousSumOf, parameterOf, stepPointOf, commandPointOf, itemPointOf, pointsOf}
 use Rattle.flatten.specs.Flatten.{over, fitsOutput, writeOutput, walked, tabled, flattenDrawable, flattenOf}
-use Rattle.promises.specs.Examples.{Example, promised, drawn, flat, wordsAfter, pointsAfter, storedAfter, joinedQuads, joinedSplines, joinedCursors}
+use Rattle.promises.specs.Examples.{Example, promised, drawn, flat, wordsAfter, pointsAfter, rowAfter, storedAfter, joinedQuads, joinedSplines, joinedCursors}
 use Rattle.promises.specs.Room.{emptyColumns, emptyQuads, emptySplines, emptyOutput}
 
 pub promised-hold : map (λ (e : Example). e .given) promised ≡ map (λ (e : Example). e .claimed) promised
-unfolding rootIn root rooted bitsOf floatOf fmaOf piecesOf cutTo sixthRootOf negativeOf absOf lessOf minOf maxOf clampOf ceilOf sqrtOf wholeUpOf approxAtan2Of angleOf diffOf changedOf lerpOf curvatureOf invCurvatureOf quadAtOf cubicAtOf evalCubicOf evalQuadOf rationalOf appliedOf minusOf sameOf lenOf packOf unpackOf unclosedOf storedPointOf lastCommandOf putPoint putCommand evenOf usableOf storedOkOf knownOf totalUsesOf drawableOf coordinateOkOf weightOkOf every coordinatesOf weightsOf appended closed moved writesOf putPoints putCommands written stateAfter roomOf answerOf drawOf freshOf replayOf bendOf cubicErrorOf cubicPiecesOf cubicPointOf controlOf quadsFrom cutOf cubicQuadsOf refusedOf markedOf planLineOf quadRowOf planCurveOf planLegsOf planQuadOf planOf crossOf legOf ownCurvatureOf straightOf curveOf farOf opensOf lineAngleOf sumBefore splineEditOf cubicFrom commandPrimitivesOf primitivesFrom primitivesOf tablesOf applyOf pushOf runOf flagByteOf isFlagOf quadCapacityOf splineCapacityOf capacitiesOf putQuad clearFlag putSpline splineAt lastSplineOf subdivisionsOf stepSizeOf startsOf cursorAt stepsFrom cursorFrom cursorAfter splineItemsOf walkFrom walkOf wordOf wordsOf controlPointOf previousSumOf parameterOf stepPointOf commandPointOf itemPointOf pointsOf over fitsOutput writeOutput walked tabled flattenDrawable flattenOf drawn flat wordsAfter pointsAfter storedAfter joinedQuads joinedSplines joinedCursors emptyColumns emptyQuads emptySplines emptyOutput trailingZeros size span climb odd units round neg sum add sub mul div lt eq le ofInt isNan ofFields ofBits toBits
+unfolding rootIn root rooted bitsOf floatOf fmaOf piecesOf cutTo sixthRootOf negativeOf absOf lessOf minOf maxOf clampOf ceilOf sqrtOf wholeUpOf
+    approxAtan2Of angleOf diffOf changedOf lerpOf curvatureOf invCurvatureOf quadAtOf cubicAtOf evalCubicOf evalQuadOf rationalOf appliedOf minusOf
+    sameOf lenOf packOf unpackOf unclosedOf storedPointOf lastCommandOf putPoint putCommand evenOf usableOf storedOkOf knownOf totalUsesOf drawableOf
+    coordinateOkOf weightOkOf every coordinatesOf weightsOf appended closed moved writesOf putPoints putCommands written stateAfter roomOf answerOf
+    drawOf freshOf replayOf bendOf cubicErrorOf cubicPiecesOf cubicPointOf controlOf quadsFrom cutOf cubicQuadsOf refusedOf markedOf planLineOf
+    quadRowOf planCurveOf planLegsOf planQuadOf planOf crossOf legOf ownCurvatureOf straightOf curveOf farOf opensOf lineAngleOf sumBefore
+    splineEditOf cubicFrom commandPrimitivesOf primitivesFrom primitivesOf tablesOf applyOf pushOf runOf flagByteOf isFlagOf quadCapacityOf
+    splineCapacityOf capacitiesOf numbersOf putQuad numberAt quadRowAt clearFlag putSpline splineAt lastSplineOf subdivisionsOf stepSizeOf startsOf
+    cursorAt stepsFrom cursorFrom cursorAfter splineItemsOf walkFrom walkOf wordOf wordsOf previousSumOf parameterOf stepPointOf commandPointOf
+    itemPointOf pointsOf over fitsOutput writeOutput walked tabled flattenDrawable flattenOf drawn flat wordsAfter pointsAfter rowAfter storedAfter
+    joinedQuads joinedSplines joinedCursors emptyColumns emptyQuads emptySplines emptyOutput trailingZeros size span climb odd units round neg sum add
+    sub mul div lt eq le ofInt isNan ofFields ofBits toBits
 promised-hold = refl

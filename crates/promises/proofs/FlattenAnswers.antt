@@ -25,9 +25,10 @@ use Rattle.primitives.specs.Cubics.{cubicPiecesOf, quadsFrom, cutOf, cubicQuads
 use Rattle.primitives.specs.Plan.{refusedOf}
 use Rattle.store.specs.Columns.{Columns}
 use Rattle.store.specs.Drawable.{drawableOf}
-use Rattle.tables.specs.Tables.{capacitiesOf}
+use Rattle.tables.specs.Tables.{capacitiesOf, quadRowAt}
 use Rattle.tables.specs.Run.{World, world, startState}
 use Rattle.tables.specs.Commands.{cubicFrom, commandPrimitivesOf, primitivesOf, tablesOf}
+use Rattle.tables.proofs.RowLaws.{quads-self}
 use Rattle.tables.proofs.Sound.{sound-start}
 use Rattle.walk.specs.Walk.{wordOf, wordsOf}
 use Rattle.evaluate.specs.Evaluate.{itemPointOf, pointsOf}
@@ -41,7 +42,7 @@ use Rattle.promises.proofs.Telling.{Tells, tells-as, passes, tells-and,
 use Rattle.promises.proofs.DrawingAnswers.{differ}
 use Rattle.promises.proofs.Refusing.{refuses-not-done}
 use Rattle.promises.proofs.Refusals.{refused-answer, refused-world, run-told, tells-drawable}
-use Rattle.promises.proofs.Past.{past-over, TablesPast, run-past, quads-self, splines-self, output-self}
+use Rattle.promises.proofs.Past.{past-over, TablesPast, run-past, splines-self, output-self}
 
 -- ---- 9
 tells-fits : (n : ℕ) (o : Output) → Tells (fitsOutput n o) (Short n o)
@@ -93,14 +94,18 @@ module _ (job : Job) where
       run true = room (fitsOutput (walkLength job) (job .output))
       run false = refl
 
-      first : (d : Bool) → flattenDrawable d (job .setting) (job .state) (job .columns) (job .quads) (job .splines) (job .output) .result .answer ≡ answerIn d (isDone (worldOf job .state .answer)) (fitsOutput (walkLength job) (job .output))
+      first : (d : Bool)
+          → flattenDrawable d (job .setting) (job .state) (job .columns) (job .quads) (job .splines) (job .output) .result .answer
+          ≡ answerIn d (isDone (worldOf job .state .answer)) (fitsOutput (walkLength job) (job .output))
       first true = run (isDone (worldOf job .state .answer))
       first false = refl
 
   -- ---- the run's answer has a cause, and a cause is the run's answer
   pub run-cause : (worldOf job .state .answer ≡ Done) ⊎ Refused job (worldOf job .state .answer)
   unfolding tablesOf
-  run-cause = run-told (job .setting) (capacitiesOf (job .quads) (job .splines)) (primitivesOf (job .state) (job .columns)) (world startState (job .quads) (job .splines)) (sound-start (job .quads) (job .splines)) refl
+  run-cause =
+      run-told (job .setting) (capacitiesOf (job .quads) (job .splines)) (primitivesOf (job .state) (job .columns))
+      (world startState (job .quads) (job .splines)) (sound-start (job .quads) (job .splines)) refl
 
   cause-run : (a : Answer) → Refused job a → worldOf job .state .answer ≡ a
   unfolding tablesOf
@@ -167,7 +172,8 @@ module _ (job : Job) where
   all-answers : Answers (flatteningOf job .result .answer)
   all-answers =
       subst Answers (sym answer-is)
-      (answers (drawableOf (job .state) (job .columns)) (isDone (worldOf job .state .answer)) (fitsOutput (walkLength job) (job .output)) (tells-drawable (job .state) (job .columns)) refl (tells-fits (walkLength job) (job .output)))
+      (answers (drawableOf (job .state) (job .columns)) (isDone (worldOf job .state .answer)) (fitsOutput (walkLength job) (job .output))
+      (tells-drawable (job .state) (job .columns)) refl (tells-fits (walkLength job) (job .output)))
 
 pub flattening-answers : FlatteningAnswers
 flattening-answers job =
@@ -190,7 +196,8 @@ refused-writes-nothing job h = first (drawableOf (job .state) (job .columns)) h
     Nothing : Flattening → Type 0
     Nothing f = (f .output ≡ job .output) × (f .result .points ≡ 0)
 
-    room : (f : Bool) → walked f (worldOf job) (itemsIn (job .setting) (worldOf job)) (job .output) .result .answer ≢ Done → Nothing (walked f (worldOf job) (itemsIn (job .setting) (worldOf job)) (job .output))
+    room : (f : Bool) → walked f (worldOf job) (itemsIn (job .setting) (worldOf job)) (job .output) .result .answer ≢ Done
+        → Nothing (walked f (worldOf job) (itemsIn (job .setting) (worldOf job)) (job .output))
     room true h = absurd (h refl)
     room false h = (refl, refl)
 
@@ -198,7 +205,8 @@ refused-writes-nothing job h = first (drawableOf (job .state) (job .columns)) h
     run true h = room (fitsOutput (walkLength job) (job .output)) h
     run false h = (refl, refl)
 
-    first : (d : Bool) → flattenDrawable d (job .setting) (job .state) (job .columns) (job .quads) (job .splines) (job .output) .result .answer ≢ Done → Nothing (flattenDrawable d (job .setting) (job .state) (job .columns) (job .quads) (job .splines) (job .output))
+    first : (d : Bool) → flattenDrawable d (job .setting) (job .state) (job .columns) (job .quads) (job .splines) (job .output) .result .answer ≢ Done
+        → Nothing (flattenDrawable d (job .setting) (job .state) (job .columns) (job .quads) (job .splines) (job .output))
     first true h = run (isDone (worldOf job .state .answer)) h
     first false h = (refl, refl)
 
@@ -217,7 +225,9 @@ module _ (job : Job) where
       run : tabled (job .setting) (isDone (worldOf job .state .answer)) (worldOf job) (job .output) ≡ heldBy a (runOver job (r .before)) (job .output)
       run =
           ap (λ (e : Bool). tabled (job .setting) e (worldOf job) (job .output)) (ap isDone (cause-run job a r) ∙ refuses-not-done (r .cause))
-          ∙ ap (λ (w : World). tabled (job .setting) false w (job .output)) (refused-world (job .setting) (capacitiesOf (job .quads) (job .splines)) (primitivesOf (job .state) (job .columns)) (world startState (job .quads) (job .splines)) a r)
+          ∙ ap (λ (w : World). tabled (job .setting) false w (job .output))
+          (refused-world (job .setting) (capacitiesOf (job .quads) (job .splines)) (primitivesOf (job .state) (job .columns))
+          (world startState (job .quads) (job .splines)) a r)
 
       first : (d : Bool) → flattenDrawable d (job .setting) (job .state) (job .columns) (job .quads) (job .splines) (job .output) .result .answer ≡ a
           → flattenDrawable d (job .setting) (job .state) (job .columns) (job .quads) (job .splines) (job .output) ≡ heldBy a (runOver job (r .before)) (job .output)
@@ -228,7 +238,8 @@ module _ (job : Job) where
   unfolding flattenOf flattenDrawable tabled walked tablesOf
   nine-held h =
       let z = all-answers job .nine .0 h in
-      ap (λ (d : Bool). flattenDrawable d (job .setting) (job .state) (job .columns) (job .quads) (job .splines) (job .output)) (passing (drawableOf (job .state) (job .columns)) (λ e. z .0 (tells-drawable (job .state) (job .columns) .0 e)))
+      ap (λ (d : Bool). flattenDrawable d (job .setting) (job .state) (job .columns) (job .quads) (job .splines) (job .output))
+      (passing (drawableOf (job .state) (job .columns)) (λ e. z .0 (tells-drawable (job .state) (job .columns) .0 e)))
       ∙ ap (λ (e : Bool). tabled (job .setting) e (worldOf job) (job .output)) (done (z .1) (run-cause job))
       ∙ ap (λ (f : Bool). walked f (worldOf job) (itemsIn (job .setting) (worldOf job)) (job .output)) (tells-fits (walkLength job) (job .output) .1 (z .2))
     where
@@ -247,19 +258,20 @@ module _ (job : Job) where
       run-past caps (job .quads) (job .splines) (job .setting) (primitivesOf (job .state) (job .columns)) (world startState (job .quads) (job .splines)) (sound-start (job .quads) (job .splines))
       (record { quads = quads-self 0 (job .quads); splines = splines-self 0 (job .splines) })
 
-  written-past : fitsOutput (walkLength job) (job .output) ≡ true → OutputPast (walkLength job) (job .output) (writeOutput (worldOf job .quads) (worldOf job .splines) (itemsIn (job .setting) (worldOf job)) (job .output))
+  written-past : fitsOutput (walkLength job) (job .output) ≡ true
+      → OutputPast (walkLength job) (job .output) (writeOutput (quadRowAt (worldOf job .quads)) (worldOf job .splines) (itemsIn (job .setting) (worldOf job)) (job .output))
   unfolding writeOutput wordsOf pointsOf
   written-past e =
       let items = itemsIn (job .setting) (worldOf job) in
       let n = walkLength job in
-      let q = worldOf job .quads in
+      let rows = quadRowAt (worldOf job .quads) in
       let s = worldOf job .splines in
       let short = passes (fitsOutput n (job .output)) (Short n (job .output)) (tells-fits n (job .output)) e in
       record {
         words = past-over n (job .output .words) _ (length-map items wordOf) (by-contra n (length (job .output .words)) (λ h. short (words h)));
-        x = past-over n (job .output .x) _ (length-map (map (itemPointOf q s) items) _ ∙ length-map items (itemPointOf q s)) (by-contra n (length (job .output .x)) (λ h. short (x h)));
-        y = past-over n (job .output .y) _ (length-map (map (itemPointOf q s) items) _ ∙ length-map items (itemPointOf q s)) (by-contra n (length (job .output .y)) (λ h. short (y h)));
-        end = past-over n (job .output .end) _ (length-map (map (itemPointOf q s) items) _ ∙ length-map items (itemPointOf q s)) (by-contra n (length (job .output .end)) (λ h. short (end h)));
+        x = past-over n (job .output .x) _ (length-map (map (itemPointOf rows s) items) _ ∙ length-map items (itemPointOf rows s)) (by-contra n (length (job .output .x)) (λ h. short (x h)));
+        y = past-over n (job .output .y) _ (length-map (map (itemPointOf rows s) items) _ ∙ length-map items (itemPointOf rows s)) (by-contra n (length (job .output .y)) (λ h. short (y h)));
+        end = past-over n (job .output .end) _ (length-map (map (itemPointOf rows s) items) _ ∙ length-map items (itemPointOf rows s)) (by-contra n (length (job .output .end)) (λ h. short (end h)));
       }
 
   past-held : PastCounts job (flatteningOf job)

@@ -1,24 +1,21 @@
 -- Of an accepted drawing: the test for answer 3 finds no fault, the run ends with Done, and the walk fits; so the words are the walk's, packed. Assumes
 -- nothing.
-use mathlib.Core.Path.{_≡_, refl, sym, ap, ap₂, _∙_, subst}
-use mathlib.Core.Logic.{_⊎_, inl, inr}
+use mathlib.Core.Path.{_≡_, refl, sym, ap, _∙_}
 use mathlib.Core.Bool.{Bool, true, false, true≢false}
-use mathlib.Core.List.{List, _++_, map}
-use Prim.Native.Nat.{ℕ, zero, suc, _+_, _≤_, _<_}
+use mathlib.Core.List.{List}
+use Prim.Native.Nat.{ℕ}
 use native.Mathlib.Omega.{arith}
-use lib.Dec.{T, eqb, eqb→eq}
-use lib.ListN.{length, take, drop, length-map}
+use lib.ListN.{length, length-map}
 use lib.Seq.{take-at}
-use lib.Ieee.Bits.{is-true}
-use Rattle.answer.specs.declared.Answer.{Answer}
-use Rattle.answer.specs.declared.Answer.the-variants.{Done, BadCoordinate, BadWeight, Unusable, StoreFull, TooManyPieces, QuadsFull, SplinesFull, SumTooLarge, OutputShort, BadText, InputTooLong}
+use Rattle.answer.specs.declared.Answer.the-variants.{Done, Unusable, OutputShort}
 use Rattle.answer.specs.Number.{numberOf, isDone}
 use Rattle.point.specs.declared.Setting.{Setting}
 use Rattle.store.specs.Drawable.{drawableOf}
+use Rattle.tables.specs.Tables.{quadRowAt}
 use Rattle.tables.specs.Run.{World}
 use Rattle.tables.specs.Commands.{tablesOf}
 use Rattle.walk.specs.Walk.{Item, walkOf, wordOf, wordsOf}
-use Rattle.flatten.specs.Flatten.{Output, Flattening, flattened, flattening, over, fitsOutput, writeOutput, walked, tabled, flattenDrawable, flattenOf}
+use Rattle.flatten.specs.Flatten.{Flattening, over, fitsOutput, writeOutput, walked, tabled, flattenDrawable, flattenOf}
 use Rattle.promises.specs.Accepted.{Job, flatteningOf, Accepted, wordsIn}
 
 -- the tables of a job's run
@@ -26,7 +23,7 @@ abbrev pub worldOf : Job → World
 worldOf job = tablesOf (job .setting) (job .state) (job .columns) (job .quads) (job .splines)
 
 abbrev pub itemsIn : Setting → World → List Item
-itemsIn setting w = walkOf setting (w .quads) (w .splines) (w .state .splines)
+itemsIn setting w = walkOf setting (quadRowAt (w .quads)) (w .splines) (w .state .splines)
 
 -- what an accepted drawing leaves
 abbrev pub finishedOf : Job → Flattening
@@ -54,11 +51,13 @@ passed job h = by-drawable (drawableOf (job .state) (job .columns)) refl h
     by-room true h = refl
     by-room false h = absurd (not-nine h)
 
-    by-done : (b : Bool) → isDone (w .state .answer) ≡ b → tabled (job .setting) b w (job .output) .result .answer ≡ Done → (isDone (w .state .answer) ≡ true) × (tabled (job .setting) b w (job .output) ≡ finishedOf job)
+    by-done : (b : Bool) → isDone (w .state .answer) ≡ b → tabled (job .setting) b w (job .output) .result .answer ≡ Done
+        → (isDone (w .state .answer) ≡ true) × (tabled (job .setting) b w (job .output) ≡ finishedOf job)
     by-done true e h = (e, by-room (fitsOutput (length (itemsIn (job .setting) w)) (job .output)) h)
     by-done false e h = absurd (true≢false (sym (ap isDone h) ∙ e))
 
-    by-drawable : (b : Bool) → drawableOf (job .state) (job .columns) ≡ b → flattenDrawable b (job .setting) (job .state) (job .columns) (job .quads) (job .splines) (job .output) .result .answer ≡ Done → Passed job
+    by-drawable : (b : Bool) → drawableOf (job .state) (job .columns) ≡ b
+        → flattenDrawable b (job .setting) (job .state) (job .columns) (job .quads) (job .splines) (job .output) .result .answer ≡ Done → Passed job
     by-drawable true e h =
         let z = by-done (isDone (w .state .answer)) refl h in
         record { drawable = e; done = z .0; result = ap (λ (b : Bool). flattenDrawable b (job .setting) (job .state) (job .columns) (job .quads) (job .splines) (job .output)) e ∙ z .1 }

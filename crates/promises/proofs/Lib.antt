@@ -8,6 +8,7 @@ pub mod Decoding
 pub mod Contours
 pub mod Sharing
 pub mod Cursor
+pub mod Arrivals
 pub mod Steps
 pub mod Telling
 pub mod DrawingAnswers
@@ -20,3 +21,7 @@ pub mod Answering
 pub mod ListingReading
 pub mod ListingAnswers
 pub mod QuarterRound
+pub mod LayoutLaws
+pub mod LayoutRuns
+pub mod LayoutWalks
+pub mod Layouts

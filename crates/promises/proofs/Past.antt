@@ -1,40 +1,33 @@
 -- A run writes below its counts alone, and so does a walk that is delivered: every entry past them is as it was. Assumes nothing.
-use Prim.Native.Nat.{ℕ, suc, _+_, _-_, _*_, _≤_, _<_}
-use mathlib.Core.Path.{_≡_, refl, sym, ap, _∙_, subst}
+use Prim.Native.Nat.{ℕ, _+_, _-_, _≤_, _<_}
+use mathlib.Core.Path.{_≡_, refl, sym, ap, _∙_}
 use mathlib.Core.Logic.{_≢_}
 use mathlib.Core.Bool.{Bool, true, false, cond}
 use mathlib.Core.List.{List, [], _∷_, _++_}
 use native.Mathlib.Nat.{le-refl, le-add-right}
 use native.Mathlib.Omega.{arith}
-use lib.Ieee.{Float}
 use lib.ListN.{length, getD, set, drop, length-set, length-append, length-drop}
 use lib.Seq.{getD-set-other, getD-append-add, getD-drop}
 use native.Mathlib.Numerals.{lt-add-one}
 use Rattle.columns.specs.Flags.{flagByteOf}
 use Rattle.answer.specs.Number.{isDone}
-use Rattle.point.specs.declared.Point.{Point}
-use Rattle.point.specs.declared.Angle.{Angle}
-use Rattle.primitives.specs.declared.Three.{Three}
-use Rattle.primitives.specs.declared.QuadRow.{QuadRow}
 use Rattle.primitives.specs.declared.SplineEdit.{SplineEdit}
 use Rattle.point.specs.declared.Setting.{Setting}
 use Rattle.primitives.specs.declared.Capacities.{Capacities}
 use Rattle.primitives.specs.declared.Primitive.{Primitive}
-use Rattle.primitives.specs.declared.State.{State}
 use Rattle.primitives.specs.Splines.{splineEditOf}
 use Rattle.primitives.specs.Plan.{refusedOf, markedOf}
-use Rattle.tables.specs.Tables.{QuadTable, SplineTable, setThree, putQuad, clearFlag, putSpline}
-use Rattle.tables.specs.Run.{World, world, applyOf, pushOf, runOf}
+use Rattle.tables.specs.Tables.{QuadTable, SplineTable, clearFlag, putSpline}
+use Rattle.tables.specs.Past.{Past, QuadsPast, SplinesPast}
+use Rattle.tables.specs.Run.{World, applyOf, pushOf, runOf}
+use Rattle.tables.proofs.RowLaws.{past-self, put-past}
 use Rattle.tables.proofs.Pushes.{Pushed, kept, marked, lined, bent, pushed}
 use Rattle.tables.proofs.Sound.{Sound, sound-push, pred-lt}
 use Rattle.flatten.specs.Flatten.{Output, over}
-use Rattle.promises.specs.FlattenAnswers.{Past, QuadsPast, SplinesPast, OutputPast}
+use Rattle.promises.specs.FlattenAnswers.{OutputPast}
 
 -- ---- one column
 module _ {A : Type 0} where
-  pub past-self : (n : ℕ) (l : List A) → Past n l l
-  past-self n l = record { as-long = refl; entries = λ i d h. refl }
-
   -- an entry below the count is written
   past-set : (n m i : ℕ) (v : A) (old new : List A) → n ≤ m → i < m → Past n old new → Past m old (set new i v)
   past-set n m i v old new h k P =
@@ -65,42 +58,7 @@ module _ {A : Type 0} where
       whole : (a b n : ℕ) → a ≡ n → n ≤ b → a + (b - a) ≡ b
       whole a b n e h = omega arith
 
-past-three : (n : ℕ) (v : Three) (old new : List Float) → Past (3 * n) old new → Past (3 * (n + 1)) old (setThree new n v)
-past-three n v old new P =
-    past-set (3 * (n + 1)) (3 * (n + 1)) (3 * n + 2) (v .c) old _ (le-refl (3 * (n + 1))) (third n)
-    (past-set (3 * (n + 1)) (3 * (n + 1)) (3 * n + 1) (v .b) old _ (le-refl (3 * (n + 1))) (second n)
-    (past-set (3 * n) (3 * (n + 1)) (3 * n) (v .a) old new (more n) (first n) P))
-  where
-    more : (n : ℕ) → 3 * n ≤ 3 * (n + 1)
-    more n = omega arith
-
-    first : (n : ℕ) → 3 * n < 3 * (n + 1)
-    first n = omega arith
-
-    second : (n : ℕ) → 3 * n + 1 < 3 * (n + 1)
-    second n = omega arith
-
-    third : (n : ℕ) → 3 * n + 2 < 3 * (n + 1)
-    third n = omega arith
-
--- ---- a quad after the last, and a spline that is opened or joined
-
-put-quad-past : (n : ℕ) (row : QuadRow) (q₀ q : QuadTable) → QuadsPast n q₀ q → QuadsPast (n + 1) q₀ (putQuad q n row)
-unfolding putQuad
-put-quad-past n row q₀ q P =
-    record {
-      x = past-three n (row .x) (q₀ .x) (q .x) (P .x);
-      y = past-three n (row .y) (q₀ .y) (q .y) (P .y);
-      weight = past-three n (row .weight) (q₀ .weight) (q .weight) (P .weight);
-      x0 = past-set n (n + 1) n (row .x0) (q₀ .x0) (q .x0) (le-add-right n 1) (lt-add-one n) (P .x0);
-      dx-recip = past-set n (n + 1) n (row .«dx_recip») (q₀ .dx-recip) (q .dx-recip) (le-add-right n 1) (lt-add-one n) (P .dx-recip);
-      k0 = past-set n (n + 1) n (row .k0) (q₀ .k0) (q .k0) (le-add-right n 1) (lt-add-one n) (P .k0);
-      dk = past-set n (n + 1) n (row .dk) (q₀ .dk) (q .dk) (le-add-right n 1) (lt-add-one n) (P .dk);
-      curvatures-recip = past-set n (n + 1) n (row .«curvature_recip») (q₀ .curvatures-recip) (q .curvatures-recip) (le-add-right n 1) (lt-add-one n) (P .curvatures-recip);
-      partial-curvatures = past-set n (n + 1) n (row .«partial_curvature») (q₀ .partial-curvatures) (q .partial-curvatures) (le-add-right n 1) (lt-add-one n) (P .partial-curvatures);
-      partial-splines = past-set n (n + 1) n (row .spline) (q₀ .partial-splines) (q .partial-splines) (le-add-right n 1) (lt-add-one n) (P .partial-splines);
-    }
-
+-- ---- a spline that is opened or joined
 put-spline-past : (n m : ℕ) (edit : SplineEdit) (s₀ s : SplineTable) → n ≤ m → edit .at < m → SplinesPast n s₀ s → SplinesPast m s₀ (putSpline s edit)
 unfolding putSpline clearFlag
 put-spline-past n m edit s₀ s h k P =
@@ -145,13 +103,13 @@ module _ (caps : Capacities) (q : QuadTable) (s : SplineTable) where
   push-past w S P (bent true start end angle c row A B K fit e o) =
       let n = w .state .splines in
       record {
-        quads = put-quad-past (w .state .quads) row q (w .quads) (P .quads);
+        quads = put-past (w .state .quads) row q (w .quads) (P .quads);
         splines = put-spline-past n (n + 1) _ s (w .splines) (le-add-right n 1) (lt-add-one n) (P .splines);
       }
   push-past w S P (bent false start end angle c row A B K fit e o) =
       let n = w .state .splines in
       record {
-        quads = put-quad-past (w .state .quads) row q (w .quads) (P .quads);
+        quads = put-past (w .state .quads) row q (w .quads) (P .quads);
         splines = put-spline-past n n _ s (w .splines) (le-refl n) (pred-lt n (S .waits (A .joins refl))) (P .splines);
       }
 
@@ -169,21 +127,6 @@ module _ (caps : Capacities) (q : QuadTable) (s : SplineTable) where
       past false = P
 
 -- ---- nothing written
-pub quads-self : (n : ℕ) (q : QuadTable) → QuadsPast n q q
-quads-self n q =
-    record {
-      x = past-self (3 * n) (q .x);
-      y = past-self (3 * n) (q .y);
-      weight = past-self (3 * n) (q .weight);
-      x0 = past-self n (q .x0);
-      dx-recip = past-self n (q .dx-recip);
-      k0 = past-self n (q .k0);
-      dk = past-self n (q .dk);
-      curvatures-recip = past-self n (q .curvatures-recip);
-      partial-curvatures = past-self n (q .partial-curvatures);
-      partial-splines = past-self n (q .partial-splines);
-    }
-
 pub splines-self : (n : ℕ) (s : SplineTable) → SplinesPast n s s
 splines-self n s =
     record {

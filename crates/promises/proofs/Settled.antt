@@ -27,7 +27,10 @@ use Rattle.listing.specs.declared.Listed.the-variants.{Bytes, Short}
 use Rattle.listing.specs.Reading.{Fields, read, wrong, pairFields, twoPointsFields, threePointsFields, Progress, going, finished, stopped, progressOf}
 use Rattle.listing.specs.Writing.{Listing, listed, listedAs}
 use Rattle.listing.specs.Program.{listingOf}
-use Rattle.promises.specs.Settled.{Settles, ValueSettled, ResultAndKeptSettled, ColumnsSettled, QuadsSettled, SplinesSettled, OutputSettled, DrawnSettled, TablesSettled, DeliveredSettled, FlattenSettled, ReplySettled, FlatReplySettled, ListingSettled, Lists, ListingLists, PairSettled, TwoPointsSettled, ThreePointsSettled, HasStopped, has-stopped, ReadSettled}
+use Rattle.promises.specs.Settled.{Settles, ValueSettled, ResultAndKeptSettled, ColumnsSettled, QuadsSettled, SplinesSettled, OutputSettled}
+use Rattle.promises.specs.Settled.{DrawnSettled, TablesSettled, DeliveredSettled, FlattenSettled, ReplySettled, FlatReplySettled}
+use Rattle.promises.specs.Settled.{ListingSettled, Lists, ListingLists, PairSettled, TwoPointsSettled, ThreePointsSettled, HasStopped}
+use Rattle.promises.specs.Settled.{has-stopped, ReadSettled}
 
 -- a form settles an outcome if the outcome's parts can be found again in what the form puts together
 told : {A D : Type 0} (form : A → D) (back : D → A) → ((a : A) → back (form a) ≡ a) → Settles form
@@ -43,8 +46,7 @@ pub columns-settled : ColumnsSettled
 columns-settled = told _ (λ c. (c .x, c .y, c .weight, c .commands)) (λ a. refl)
 
 pub quads-settled : QuadsSettled
-quads-settled =
-    told _ (λ q. (q .x, q .y, q .weight, q .x0, q .dx-recip, q .k0, q .dk, q .curvatures-recip, q .partial-curvatures, q .partial-splines)) (λ a. refl)
+quads-settled = told _ (λ q. (q .rows, q .partial-splines)) (λ a. refl)
 
 pub splines-settled : SplinesSettled
 splines-settled = told _ (λ s. (s .curvature, s .p0x, s .p0y, s .p2x, s .p2y, s .contour)) (λ a. refl)

@@ -1,59 +1,48 @@
 -- Demands 3e and 3f. The cursor comes to each spline at or before its first quad, and so passes no last quad (3e). Where a whole number lies strictly between the last two
 -- sums of each spline of two or more quads it comes to each spline at its first quad, some step falls on each quad, and none strays (3f). Assumes nothing.
-use mathlib.Core.Path.{_≡_, refl, sym, ap, ap₂, _∙_, subst, subst₂}
-use mathlib.Core.Logic.{_⊎_, inl, inr, _≢_}
-use mathlib.Core.Bool.{Bool, true, false, not, cond}
-use mathlib.Core.List.{List, [], _∷_, _++_, List·Memᴰ, Memᴰ·append-left, Memᴰ·append-right}
+use mathlib.Core.Path.{_≡_, sym, ap, _∙_, subst}
+use mathlib.Core.Logic.{_⊎_, inl, inr}
+use mathlib.Core.Bool.{Bool, true, false, cond}
+use mathlib.Core.List.{List, [], _∷_, List·Memᴰ, Memᴰ·append-left, Memᴰ·append-right}
 use Prim.Native.Nat.{ℕ, zero, suc, _+_, _-_, _*_, _≤_, _<_, zero-le}
 use native.Mathlib.Nat.{le-trans, le-of-eq, le-refl, le-of-lt, lt-of-lt-of-le, lt-of-le-of-lt, lt-irrefl, not-suc-le-zero, zero-add}
-use native.Mathlib.Numerals.{add-one}
 use native.Mathlib.Decide.{decLt}
 use native.Mathlib.Omega.{arith, by-contra}
-use lib.Dec.{T, eqb, lit≤, eqb→eq, not-T}
+use lib.Dec.{T}
 use lib.Ieee.{Float}
-use lib.Ieee.Bits.{is-true, is-false}
-use lib.Ieee.Fits.{eq→eqb}
 use lib.Ieee.Positive.{num, den}
 use lib.ListN.{getD}
 use Rattle.answer.specs.declared.Answer.the-variants.{Done}
-use Rattle.leaves.specs.Single.{zero32}
-use Rattle.leaves.specs.Whole.{wholeUpOf}
 use Rattle.command.specs.declared.PointCommand.the-variants.{Start, Incr, End}
 use Rattle.point.specs.declared.Setting.{Setting}
 use Rattle.primitives.specs.declared.Capacities.{Capacities}
-use Rattle.tables.specs.Tables.{QuadTable, SplineTable, splineAt}
+use Rattle.primitives.specs.declared.QuadRow.{QuadRow}
+use Rattle.tables.specs.Tables.{SplineTable, quadRowAt, splineAt}
 use Rattle.tables.specs.Run.{World}
-use Rattle.tables.proofs.RunningSums.{Sum, Up, no-steps, up-bounds, up-two}
-use Rattle.tables.proofs.Spans.{sumAt, ownerAt, Span, LastOf, span-total}
+use Rattle.tables.proofs.Spans.{sumAt, ownerAt, Span}
 use Rattle.tables.proofs.Sound.{Sound, cut-le}
 use Rattle.walk.specs.Walk.{Item, item, subdivisionsOf, stepSizeOf, startsOf, stepsFrom, cursorFrom, cursorAfter, splineItemsOf, walkOf}
 use Rattle.flatten.specs.Flatten.{Flattening, Output, flattened, flattening, walked}
 use Rattle.promises.specs.Words.{isStep, isEnd, cutAfter}
-use Rattle.promises.specs.Accepted.{Job, flatteningOf, walkIn, stepsOf}
-use Rattle.promises.specs.Demand3.{itemsOf, StepOf, splineOfQuad, LastQuad, NotAfterLast, Demand3e, Between, Spread, QuadHasStep, NoStray, Demand3f}
-use Rattle.promises.proofs.Flattened.{worldOf, itemsIn, finishedOf, passed}
+use Rattle.promises.specs.Accepted.{walkIn, stepsOf}
+use Rattle.promises.specs.Demand3.{StepOf, splineOfQuad, LastQuad, NotAfterLast, Demand3e, Spread, QuadHasStep, NoStray, Demand3f}
+use Rattle.promises.proofs.Flattened.{worldOf, finishedOf, passed}
 use Rattle.promises.proofs.Decoding.{capsOf, job-sound}
-use Rattle.promises.proofs.Cutting.{All, all-append, all-member}
+use Rattle.promises.proofs.Cutting.{All, all-append, all-map, all-member}
 use Rattle.promises.proofs.Walking.{Piece, piece-at}
-use Rattle.promises.proofs.Cursor.{Below, cursor-from-under, steps-under, first-falls, StepAt, step-at, steps-inside, cursor-ends, Reached, reached}
-use Rattle.promises.proofs.Cursor.{falls-once}
+use Rattle.promises.proofs.Cursor.{Below, steps-under, first-falls, step-at, steps-inside, cursor-ends, reached, falls-once}
+use Rattle.promises.proofs.Arrivals.{all-steps, none-left, Ends, ends, after-none, after-some, Early, stays-early}
 
 -- ---- a statement about the steps of a spline's items
-abbrev Steps : (Item → Type 0) → Item → Type 0
+abbrev pub Steps : (Item → Type 0) → Item → Type 0
 Steps P i = T (isStep (i .command)) → P i
 
-every-step : (P : Item → Type 0) (q : QuadTable) (size : Float) (n p c : ℕ) → All P (stepsFrom q size n p c) → All (Steps P) (stepsFrom q size n p c)
-every-step P q size n p c h = all-map (stepsFrom q size n p c) h
-  where
-    all-map : (l : List Item) → All P l → All (Steps P) l
-    all-map [] h = tt
-    all-map (i ∷ l) h = (λ t. h .0, all-map l (h .1))
-
-spline-steps : (P : Item → Type 0) (q : QuadTable) (s : SplineTable) (k c : ℕ) → All P (stepsFrom q (stepSizeOf s k) (stepsOf s k) 1 c) → All (Steps P) (splineItemsOf q s k c)
+pub spline-steps : (P : Item → Type 0) (rows : ℕ → QuadRow) (s : SplineTable) (k c : ℕ)
+    → All P (stepsFrom rows (stepSizeOf s k) (stepsOf s k) 1 c) → All (Steps P) (splineItemsOf rows s k c)
 unfolding splineItemsOf
-spline-steps P q s k c h =
+spline-steps P rows s k c h =
     all-append (Steps P) (cond (startsOf s k) (item (Start k) 0 0 ∷ []) []) _ (start (startsOf s k))
-    (all-append (Steps P) (stepsFrom q (stepSizeOf s k) (stepsOf s k) 1 c) _ (every-step P q (stepSizeOf s k) (stepsOf s k) 1 c h) ((λ t. absurd t), tt))
+    (all-append (Steps P) (stepsFrom rows (stepSizeOf s k) (stepsOf s k) 1 c) _ (all-map P (Steps P) (λ i p t. p) (stepsFrom rows (stepSizeOf s k) (stepsOf s k) 1 c) h) ((λ t. absurd t), tt))
   where
     start : (b : Bool) → All (Steps P) (cond b (item (Start k) 0 0 ∷ []) [])
     start true = ((λ t. absurd t), tt)
@@ -63,6 +52,20 @@ module _ (setting : Setting) (caps : Capacities) (w : World) (S : Sound caps w) 
   -- the tables that the run leaves, and the walk
   abbrev left : Flattening
   left = flattening (flattened Done (w .state .splines) (w .state .quads) points) (w .quads) (w .splines) o
+
+  abbrev rows : ℕ → QuadRow
+  rows = quadRowAt (w .quads)
+
+  abbrev s : SplineTable
+  s = w .splines
+
+  -- the number m of spline k
+  abbrev ups : ℕ → ℕ
+  ups k = subdivisionsOf s k
+
+  -- the walk, cut after each End
+  abbrev pieces : List (List Item)
+  pieces = cutAfter (λ (i : Item). isEnd (i .command)) (walkIn setting left)
 
   -- ---- the spline of a quad
   record Home (i : ℕ) : Type 0 where
@@ -82,14 +85,11 @@ module _ (setting : Setting) (caps : Capacities) (w : World) (S : Sound caps w) 
       go zero l g = absurd (not-suc-le-zero (lt-of-lt-of-le g (le-of-eq (S .first))))
       go (suc n) l g = step n l g (decLt i (S .cut n)) (go n (le-trans (le-of-lt (le-refl (suc n))) l))
 
-  home-owner : (i : ℕ) (H : Home i) → ownerAt (w .quads) i ≡ H .spline
+  home-owner : (i : ℕ) (H : Home i) → ownerAt rows i ≡ H .spline
   home-owner i H = S .span (H .spline) (H .inside) .owned i (H .low) (H .high)
 
   -- ---- the last quad of spline k
-  total : ℕ → Float
-  total k = splineAt (w .splines) k .curvature
-
-  last-quad : (k : ℕ) (h : k < w .state .splines) (L : LastOf (w .quads) (total k) (S .cut k) (S .cut (suc k))) → LastQuad left k (L .at)
+  last-quad : (k : ℕ) (h : k < w .state .splines) (L : Ends caps w S k) → LastQuad left k (L .at)
   last-quad k h L =
       record {
         stored = le-trans (le-of-eq (L .next)) (cut-le caps w S (suc k) h);
@@ -100,90 +100,34 @@ module _ (setting : Setting) (caps : Capacities) (w : World) (S : Sound caps w) 
             (lt-of-lt-of-le (subst (λ (x : ℕ). j < S .cut (suc x)) (sym (home-owner j H) ∙ e) (H .high)) (le-trans (le-of-eq (sym (L .next))) l));
       }
 
-  -- ---- the number of its steps
-  module _ (k : ℕ) (h : k < w .state .splines) where
-    ups : ℕ
-    ups = subdivisionsOf (w .splines) k
-
-    no-ups : total k ≡ zero32 → subdivisionsOf (w .splines) k ≡ 0
-    unfolding subdivisionsOf total
-    no-ups e = ap wholeUpOf e ∙ no-steps
-
-    module _ (L : LastOf (w .quads) (total k) (S .cut k) (S .cut (suc k))) where
-      last-sum : Sum (sumAt (w .quads) (L .at))
-      last-sum = subst Sum (L .same) (L .sum)
-
-      last-up : Up (sumAt (w .quads) (L .at)) (subdivisionsOf (w .splines) k)
-      unfolding subdivisionsOf total
-      last-up = subst (λ (x : Float). Up x (wholeUpOf (total k))) (L .same) (up-bounds (total k) (L .sum))
-
-      many : 2 ≤ subdivisionsOf (w .splines) k
-      many = up-two (sumAt (w .quads) (L .at)) (subdivisionsOf (w .splines) k) last-sum last-up
-
-  all-steps : (m : ℕ) → 2 ≤ m → 1 + (m - 1) ≤ m
-  all-steps m h = omega arith
-
-  none-left : (m : ℕ) → m ≡ 0 → m - 1 ≡ 0
-  none-left m e = omega arith
-
-  -- ---- the cursor after spline k
-  after-none : (k c : ℕ) → subdivisionsOf (w .splines) k ≡ 0 → cursorAfter (w .quads) (w .splines) k c ≡ c
-  unfolding cursorAfter
-  after-none k c e = ap (λ (b : Bool). cond b c (cursorFrom (w .quads) (subdivisionsOf (w .splines) k - 1) 1 c + 1)) (is-true (eqb (subdivisionsOf (w .splines) k) 0) (eq→eqb e))
-
-  after-some : (k c : ℕ) → 2 ≤ subdivisionsOf (w .splines) k → cursorAfter (w .quads) (w .splines) k c ≡ suc (cursorFrom (w .quads) (subdivisionsOf (w .splines) k - 1) 1 c)
-  unfolding cursorAfter
-  after-some k c h =
-      ap (λ (b : Bool). cond b c (cursorFrom (w .quads) (subdivisionsOf (w .splines) k - 1) 1 c + 1))
-      (is-false (eqb (subdivisionsOf (w .splines) k) 0) (not-T (eqb (subdivisionsOf (w .splines) k) 0) (λ t. no (subdivisionsOf (w .splines) k) h (eqb→eq (subdivisionsOf (w .splines) k) 0 t))))
-      ∙ add-one _
-    where
-      no : (m : ℕ) → 2 ≤ m → m ≡ 0 → ⊥
-      no m h e = omega arith
+  -- a spline without quads has no step
+  no-step : (k c : ℕ) → ups k ≡ 0 → (i : Item) → List·Memᴰ i (splineItemsOf rows s k c) → T (isStep (i .command)) → ⊥
+  unfolding stepsFrom
+  no-step k c e i =
+      all-member (Steps (λ (x : Item). ⊥)) (splineItemsOf rows s k c) i
+      (spline-steps (λ (x : Item). ⊥) rows s k c
+      (subst (λ (n : ℕ). All (λ (x : Item). ⊥) (stepsFrom rows (stepSizeOf s k) n 1 c)) (sym (none-left (ups k) e)) tt))
 
   -- ---- 3e
-  Early : ℕ → ℕ → Type 0
-  Early k c = c ≤ S .cut k
-
-  stays-early : (k c : ℕ) → k < w .state .splines → Early k c → Early (suc k) (cursorAfter (w .quads) (w .splines) k c)
-  unfolding Early total
-  stays-early k c h e = elim (span-total (w .quads) (total k) (S .cut k) (S .cut (suc k)) k (S .span k h)) [
-    | inl z ↦ le-trans (le-of-eq (after-none k c (no-ups k h (z .1)))) (le-trans e (le-of-eq (z .0)))
-    | inr L ↦
-        le-trans (le-of-eq (after-some k c (many k h L)))
-        (le-trans (up (cursor-from-under (w .quads) (L .at) (subdivisionsOf (w .splines) k) (last-sum k h L) (last-up k h L) (subdivisionsOf (w .splines) k - 1) 1 c (le-trans e (L .inside)) (all-steps (subdivisionsOf (w .splines) k) (many k h L)))) (le-of-eq (L .next)))
-  ]
-    where
-      up : {a b : ℕ} → a ≤ b → suc a ≤ suc b
-      up h = omega arith
-
-  piece : (inv : ℕ → ℕ → Type 0) → inv 0 0 → ((k c : ℕ) → k < w .state .splines → inv k c → inv (suc k) (cursorAfter (w .quads) (w .splines) k c)) → (k : ℕ) → k < w .state .splines
-      → Piece (w .quads) (w .splines) inv (cutAfter (λ (i : Item). isEnd (i .command)) (walkIn setting left)) k k
+  piece : (inv : ℕ → ℕ → Type 0) → inv 0 0 → ((k c : ℕ) → k < w .state .splines → inv k c → inv (suc k) (cursorAfter rows s k c))
+      → (k : ℕ) → k < w .state .splines → Piece rows s inv pieces k k
   unfolding walkOf
   piece inv first next k h =
-      subst (Piece (w .quads) (w .splines) inv (cutAfter (λ (i : Item). isEnd (i .command)) (walkIn setting left)) k) (zero-add k)
-      (piece-at (w .quads) (w .splines) setting inv (w .state .splines) 0 0 first (λ j c l u. next j c (lt-of-lt-of-le l (le-of-eq (zero-add (w .state .splines)))) u) k h)
-
-  early-piece : (k : ℕ) → k < w .state .splines → Piece (w .quads) (w .splines) Early (cutAfter (λ (i : Item). isEnd (i .command)) (walkIn setting left)) k k
-  unfolding Early
-  early-piece k h = piece Early zero-le stays-early k h
+      subst (Piece rows s inv pieces k) (zero-add k)
+      (piece-at rows s setting inv (w .state .splines) 0 0 first (λ j c l u. next j c (lt-of-lt-of-le l (le-of-eq (zero-add (w .state .splines)))) u) k h)
 
   pub not-after : (k : ℕ) (i : Item) → StepOf setting left k i → NotAfterLast left k i
-  unfolding Early total
-  not-after k i T = elim (span-total (w .quads) (total k) (S .cut k) (S .cut (suc k)) k (S .span k h)) [
-    | inl e ↦
-        absurd
-        (all-member (Steps (λ (x : Item). ⊥)) (splineItemsOf (w .quads) (w .splines) k (z .cursor)) i
-        (spline-steps (λ (x : Item). ⊥) (w .quads) (w .splines) k (z .cursor) (subst (λ (n : ℕ). All (λ (x : Item). ⊥) (stepsFrom (w .quads) (stepSizeOf (w .splines) k) n 1 (z .cursor))) (sym (none-left (subdivisionsOf (w .splines) k) (no-ups k h (e .1)))) (unfold stepsFrom in tt)))
-        member (T .step))
+  not-after k i T = elim (ends caps w S k h) [
+    | inl e ↦ absurd (no-step k (z .cursor) (e .1) i member (T .step))
     | inr L ↦
         record {
           last = L .at;
           is-last = last-quad k h L;
           not-after =
-              all-member (Steps (λ (x : Item). x .quad ≤ L .at)) (splineItemsOf (w .quads) (w .splines) k (z .cursor)) i
-              (spline-steps (λ (x : Item). x .quad ≤ L .at) (w .quads) (w .splines) k (z .cursor)
-              (steps-under (w .quads) (L .at) (subdivisionsOf (w .splines) k) (last-sum k h L) (last-up k h L) (stepSizeOf (w .splines) k) (subdivisionsOf (w .splines) k - 1) 1 (z .cursor) (le-trans (z .holds) (L .inside)) (all-steps (subdivisionsOf (w .splines) k) (many k h L))))
+              all-member (Steps (λ (x : Item). x .quad ≤ L .at)) (splineItemsOf rows s k (z .cursor)) i
+              (spline-steps (λ (x : Item). x .quad ≤ L .at) rows s k (z .cursor)
+              (steps-under rows (L .at) (ups k) (L .sum) (L .up) (stepSizeOf s k) (ups k - 1) 1 (z .cursor) (le-trans (z .holds) (L .inside))
+              (all-steps (ups k) (L .many))))
               member (T .step);
         }
   ]
@@ -191,63 +135,59 @@ module _ (setting : Setting) (caps : Capacities) (w : World) (S : Sound caps w) 
       h : k < w .state .splines
       h = T .spline
 
-      z : Piece (w .quads) (w .splines) Early (cutAfter (λ (i : Item). isEnd (i .command)) (walkIn setting left)) k k
-      z = early-piece k h
+      z : Piece rows s (Early caps w S) pieces k k
+      z = piece (Early caps w S) zero-le (stays-early caps w S) k h
 
-      member : List·Memᴰ i (splineItemsOf (w .quads) (w .splines) k (z .cursor))
+      member : List·Memᴰ i (splineItemsOf rows s k (z .cursor))
       member = subst (List·Memᴰ i) (z .is) (T .member)
 
   -- ---- 3f
   module _ (spread : Spread left) where
-    exactly : ℕ → ℕ → Type 0
+    abbrev exactly : ℕ → ℕ → Type 0
     exactly k c = c ≡ S .cut k
 
-    -- the quads of a spline that has some end at its last one
-    span-to : (k : ℕ) (h : k < w .state .splines) (L : LastOf (w .quads) (total k) (S .cut k) (S .cut (suc k))) → Span (w .quads) (total k) (S .cut k) (suc (L .at)) k
-    unfolding total
-    span-to k h L = subst (λ (x : ℕ). Span (w .quads) (total k) (S .cut k) x k) (sym (L .next)) (S .span k h)
+    abbrev total : ℕ → Float
+    total k = splineAt s k .curvature
 
-    between : (k : ℕ) (h : k < w .state .splines) (L : LastOf (w .quads) (total k) (S .cut k) (S .cut (suc k))) → (b : ℕ) → suc b ≡ L .at → S .cut k ≤ b
-        → (p : ℕ) × Below (sumAt (w .quads) b) p × (p * den (sumAt (w .quads) (L .at)) < num (sumAt (w .quads) (L .at)))
+    -- the quads of a spline that has some end at its last one
+    span-to : (k : ℕ) (h : k < w .state .splines) (L : Ends caps w S k) → Span rows (total k) (S .cut k) (suc (L .at)) k
+    span-to k h L = subst (λ (x : ℕ). Span rows (total k) (S .cut k) x k) (sym (L .next)) (S .span k h)
+
+    between : (k : ℕ) (h : k < w .state .splines) (L : Ends caps w S k) → (b : ℕ) → suc b ≡ L .at → S .cut k ≤ b
+        → (p : ℕ) × Below (sumAt rows b) p × (p * den (sumAt rows (L .at)) < num (sumAt rows (L .at)))
     between k h L b e g =
         let B = spread k b (subst (LastQuad left k) (sym e) (last-quad k h L)) (S .span k h .owned b g (under b (L .at) (S .cut (suc k)) e (L .next))) in
-        (B .whole, B .over, subst (λ (x : ℕ). B .whole * den (sumAt (w .quads) x) < num (sumAt (w .quads) x)) e (B .under))
+        (B .whole, B .over, subst (λ (x : ℕ). B .whole * den (sumAt rows x) < num (sumAt rows x)) e (B .under))
       where
         under : (b a hi : ℕ) → suc b ≡ a → suc a ≡ hi → b < hi
         under b a hi e f = omega arith
 
-    stays-exact : (k c : ℕ) → k < w .state .splines → exactly k c → exactly (suc k) (cursorAfter (w .quads) (w .splines) k c)
-    unfolding exactly total
-    stays-exact k c h e = elim (span-total (w .quads) (total k) (S .cut k) (S .cut (suc k)) k (S .span k h)) [
-      | inl z ↦ after-none k c (no-ups k h (z .1)) ∙ e ∙ z .0
+    stays-exact : (k c : ℕ) → k < w .state .splines → exactly k c → exactly (suc k) (cursorAfter rows s k c)
+    stays-exact k c h e = elim (ends caps w S k h) [
+      | inl z ↦ after-none caps w S k c (z .1) ∙ e ∙ z .0
       | inr L ↦
-          after-some k c (many k h L)
-          ∙ ap suc (ap (cursorFrom (w .quads) (subdivisionsOf (w .splines) k - 1) 1) e
-          ∙ cursor-ends (w .quads) (total k) (S .cut k) (L .at) k (subdivisionsOf (w .splines) k) (span-to k h L) (L .inside) (last-sum k h L) (last-up k h L) (between k h L))
+          after-some caps w S k c (L .many)
+          ∙ ap suc (ap (cursorFrom rows (ups k - 1) 1) e
+          ∙ cursor-ends rows (total k) (S .cut k) (L .at) k (ups k) (span-to k h L) (L .inside) (L .sum) (L .up) (between k h L))
           ∙ L .next
     ]
 
-    exact-piece : (k : ℕ) → k < w .state .splines → Piece (w .quads) (w .splines) exactly (cutAfter (λ (i : Item). isEnd (i .command)) (walkIn setting left)) k k
-    unfolding exactly
+    exact-piece : (k : ℕ) → k < w .state .splines → Piece rows s exactly pieces k k
     exact-piece k h = piece exactly (sym (S .first)) stays-exact k h
 
     step-stays : (k : ℕ) (i : Item) → StepOf setting left k i → (i .quad < w .state .quads) × (splineOfQuad left (i .quad) ≡ k)
-    unfolding exactly total
-    step-stays k i T = elim (span-total (w .quads) (total k) (S .cut k) (S .cut (suc k)) k (S .span k h)) [
-      | inl e ↦
-          absurd
-          (all-member (Steps (λ (x : Item). ⊥)) (splineItemsOf (w .quads) (w .splines) k (z .cursor)) i
-          (spline-steps (λ (x : Item). ⊥) (w .quads) (w .splines) k (z .cursor) (subst (λ (n : ℕ). All (λ (x : Item). ⊥) (stepsFrom (w .quads) (stepSizeOf (w .splines) k) n 1 (z .cursor))) (sym (none-left (subdivisionsOf (w .splines) k) (no-ups k h (e .1)))) (unfold stepsFrom in tt)))
-          member (T .step))
+    step-stays k i T = elim (ends caps w S k h) [
+      | inl e ↦ absurd (no-step k (z .cursor) (e .1) i member (T .step))
       | inr L ↦
-          let m = subdivisionsOf (w .splines) k in
+          let inside : (Item → Type 0) = λ x. (S .cut k ≤ x .quad) × (x .quad ≤ L .at) in
           let r = span-to k h L in
+          let falls = first-falls rows (total k) (S .cut k) (L .at) k (ups k) r (L .inside) (L .sum) (L .up) in
+          let steps =
+          steps-inside rows (total k) (S .cut k) (L .at) k (ups k) r (L .inside) (L .sum) (L .up) (stepSizeOf s k) (ups k - 1) 1 (S .cut k)
+          (λ u. falls) (all-steps (ups k) (L .many)) in
           let g =
-          all-member (Steps (λ (x : Item). (S .cut k ≤ x .quad) × (x .quad ≤ L .at))) (splineItemsOf (w .quads) (w .splines) k (z .cursor)) i
-          (spline-steps (λ (x : Item). (S .cut k ≤ x .quad) × (x .quad ≤ L .at)) (w .quads) (w .splines) k (z .cursor)
-          (subst (λ (c : ℕ). All (λ (x : Item). (S .cut k ≤ x .quad) × (x .quad ≤ L .at)) (stepsFrom (w .quads) (stepSizeOf (w .splines) k) (m - 1) 1 c)) (sym (z .holds))
-          (steps-inside (w .quads) (total k) (S .cut k) (L .at) k m r (L .inside) (last-sum k h L) (last-up k h L) (stepSizeOf (w .splines) k) (m - 1) 1 (S .cut k)
-          (λ u. first-falls (w .quads) (total k) (S .cut k) (L .at) k m r (L .inside) (last-sum k h L) (last-up k h L)) (all-steps m (many k h L)))))
+          all-member (Steps inside) (splineItemsOf rows s k (z .cursor)) i
+          (spline-steps inside rows s k (z .cursor) (subst (λ (c : ℕ). All inside (stepsFrom rows (stepSizeOf s k) (ups k - 1) 1 c)) (sym (z .holds)) steps))
           member (T .step) in
           let u : i .quad < S .cut (suc k) = lt-of-le-of-lt (g .1) (le-of-eq (L .next)) in
           (lt-of-lt-of-le u (cut-le caps w S (suc k) h), S .span k h .owned (i .quad) (g .0) u)
@@ -256,19 +196,19 @@ module _ (setting : Setting) (caps : Capacities) (w : World) (S : Sound caps w) 
         h : k < w .state .splines
         h = T .spline
 
-        z : Piece (w .quads) (w .splines) exactly (cutAfter (λ (i : Item). isEnd (i .command)) (walkIn setting left)) k k
+        z : Piece rows s exactly pieces k k
         z = exact-piece k h
 
-        member : List·Memᴰ i (splineItemsOf (w .quads) (w .splines) k (z .cursor))
+        member : List·Memᴰ i (splineItemsOf rows s k (z .cursor))
         member = subst (List·Memᴰ i) (z .is) (T .member)
 
-    in-items : (k c : ℕ) (i : Item) → List·Memᴰ i (stepsFrom (w .quads) (stepSizeOf (w .splines) k) (stepsOf (w .splines) k) 1 c) → List·Memᴰ i (splineItemsOf (w .quads) (w .splines) k c)
+    in-items : (k c : ℕ) (i : Item) → List·Memᴰ i (stepsFrom rows (stepSizeOf s k) (stepsOf s k) 1 c) → List·Memᴰ i (splineItemsOf rows s k c)
     unfolding splineItemsOf
-    in-items k c i m = Memᴰ·append-right (cond (startsOf (w .splines) k) (item (Start k) 0 0 ∷ []) []) (Memᴰ·append-left (item (End k (splineAt (w .splines) k .contour)) 0 0 ∷ []) m)
+    in-items k c i m =
+        Memᴰ·append-right (cond (startsOf s k) (item (Start k) 0 0 ∷ []) []) (Memᴰ·append-left (item (End k (splineAt s k .contour)) 0 0 ∷ []) m)
 
     quad-stepped : (quad : ℕ) → quad < w .state .quads → QuadHasStep setting left quad
-    unfolding exactly total
-    quad-stepped quad l = go (span-total (w .quads) (total k) (S .cut k) (S .cut (suc k)) k (S .span k h))
+    quad-stepped quad l = go (ends caps w S k h)
       where
         H : Home quad
         H = home quad l
@@ -279,11 +219,8 @@ module _ (setting : Setting) (caps : Capacities) (w : World) (S : Sound caps w) 
         h : k < w .state .splines
         h = H .inside
 
-        z : Piece (w .quads) (w .splines) exactly (cutAfter (λ (i : Item). isEnd (i .command)) (walkIn setting left)) k k
+        z : Piece rows s exactly pieces k k
         z = exact-piece k h
-
-        m : ℕ
-        m = subdivisionsOf (w .splines) k
 
         below : (p m : ℕ) → p < m → p < 1 + (m - 1)
         below p m h = omega arith
@@ -294,26 +231,25 @@ module _ (setting : Setting) (caps : Capacities) (w : World) (S : Sound caps w) 
         upto : (i a hi : ℕ) → suc a ≡ hi → i < hi → i ≤ a
         upto i a hi e b = omega arith
 
-        go : ((S .cut k ≡ S .cut (suc k)) × (total k ≡ zero32)) ⊎ LastOf (w .quads) (total k) (S .cut k) (S .cut (suc k)) → QuadHasStep setting left quad
+        member : (i : Item) → List·Memᴰ i (stepsFrom rows (stepSizeOf s k) (stepsOf s k) 1 (S .cut k)) → List·Memᴰ i (getD pieces k [])
+        member i m = subst (List·Memᴰ i) (sym (z .is)) (subst (λ (c : ℕ). List·Memᴰ i (splineItemsOf rows s k c)) (sym (z .holds)) (in-items k (S .cut k) i m))
+
+        go : ((S .cut k ≡ S .cut (suc k)) × (ups k ≡ 0)) ⊎ Ends caps w S k → QuadHasStep setting left quad
         go (inl e) = absurd (empty (S .cut k) (S .cut (suc k)) quad (e .0) (H .low) (H .high))
         go (inr L) =
             let r = span-to k h L in
-            let s = last-sum k h L in
-            let u = last-up k h L in
-            let R = reached (w .quads) (total k) (S .cut k) (L .at) k m r (L .inside) s u (between k h L) quad (H .low) (upto quad (L .at) (S .cut (suc k)) (L .next) (H .high)) in
+            let falls = first-falls rows (total k) (S .cut k) (L .at) k (ups k) r (L .inside) (L .sum) (L .up) in
+            let R =
+            reached rows (total k) (S .cut k) (L .at) k (ups k) r (L .inside) (L .sum) (L .up) (between k h L) quad (H .low)
+            (upto quad (L .at) (S .cut (suc k)) (L .next) (H .high)) in
             let A =
-            step-at (w .quads) (total k) (S .cut k) (L .at) k m r (L .inside) s u (stepSizeOf (w .splines) k) (m - 1) 1 (S .cut k) (λ g. first-falls (w .quads) (total k) (S .cut k) (L .at) k m r (L .inside) s u)
-            (all-steps m (many k h L)) (R .step) (R .least) (below (R .step) m (R .most)) in
+            step-at rows (total k) (S .cut k) (L .at) k (ups k) r (L .inside) (L .sum) (L .up) (stepSizeOf s k) (ups k - 1) 1 (S .cut k)
+            (λ g. falls) (all-steps (ups k) (L .many)) (R .step) (R .least) (below (R .step) (ups k) (R .most)) in
             record {
               spline = k;
-              item = item (Incr (stepSizeOf (w .splines) k)) (R .step) (A .quad);
-              is-step =
-                  record {
-                    spline = h;
-                    member = subst (List·Memᴰ (item (Incr (stepSizeOf (w .splines) k)) (R .step) (A .quad))) (sym (z .is)) (subst (λ (c : ℕ). List·Memᴰ (item (Incr (stepSizeOf (w .splines) k)) (R .step) (A .quad)) (splineItemsOf (w .quads) (w .splines) k c)) (sym (z .holds)) (in-items k (S .cut k) (item (Incr (stepSizeOf (w .splines) k)) (R .step) (A .quad)) (A .member)));
-                    step = tt;
-                  };
-              uses = falls-once (w .quads) (total k) (S .cut k) (L .at) k m r (L .inside) s u (R .step) (A .quad) quad (A .falls) (R .falls);
+              item = item (Incr (stepSizeOf s k)) (R .step) (A .quad);
+              is-step = record { spline = h; member = member (item (Incr (stepSizeOf s k)) (R .step) (A .quad)) (A .member); step = tt };
+              uses = falls-once rows (total k) (S .cut k) (L .at) k (ups k) r (L .inside) (L .sum) (L .up) (R .step) (A .quad) quad (A .falls) (R .falls);
             }
 
     pub no-stray : NoStray setting left

@@ -23,7 +23,8 @@ use Rattle.command.specs.Packing.{indexLimit}
 use Rattle.command.proofs.Laws.{Packs}
 use Rattle.point.specs.declared.Setting.{Setting}
 use Rattle.primitives.specs.declared.Capacities.{Capacities}
-use Rattle.tables.specs.Tables.{QuadTable, SplineTable, splineAt}
+use Rattle.primitives.specs.declared.QuadRow.{QuadRow}
+use Rattle.tables.specs.Tables.{SplineTable, quadRowAt, splineAt}
 use Rattle.tables.specs.Run.{World}
 use Rattle.tables.proofs.RunningSums.{Sum, no-steps, up-bounds, size-real}
 use Rattle.tables.proofs.Spans.{Span, LastOf, span-total}
@@ -40,12 +41,12 @@ abbrev pub endsItem : Item → Bool
 endsItem i = isEnd (i .command)
 
 -- ---- the items of a spline
-module _ (q : QuadTable) (s : SplineTable) where
+module _ (rows : ℕ → QuadRow) (s : SplineTable) where
   startItems : ℕ → List Item
   startItems k = cond (startsOf s k) (item (Start k) 0 0 ∷ []) []
 
   stepItems : ℕ → ℕ → List Item
-  stepItems k cursor = stepsFrom q (stepSizeOf s k) (stepsOf s k) 1 cursor
+  stepItems k cursor = stepsFrom rows (stepSizeOf s k) (stepsOf s k) 1 cursor
 
   endItem : ℕ → Item
   endItem k = item (End k (splineAt s k .contour)) 0 0
@@ -58,16 +59,16 @@ module _ (q : QuadTable) (s : SplineTable) where
       go true = (refl, tt)
       go false = tt
 
-  steps-no-end : (size : Float) (n p cursor : ℕ) → All (λ (i : Item). endsItem i ≡ false) (stepsFrom q size n p cursor)
+  steps-no-end : (size : Float) (n p cursor : ℕ) → All (λ (i : Item). endsItem i ≡ false) (stepsFrom rows size n p cursor)
   unfolding stepsFrom
   steps-no-end size zero p cursor = tt
-  steps-no-end size (suc n) p cursor = (refl, steps-no-end size n (p + 1) (cursorAt q p cursor))
+  steps-no-end size (suc n) p cursor = (refl, steps-no-end size n (p + 1) (cursorAt rows p cursor))
 
-  items-are : (k cursor : ℕ) → splineItemsOf q s k cursor ≡ (startItems k ++ stepItems k cursor) ++ (endItem k ∷ [])
+  items-are : (k cursor : ℕ) → splineItemsOf rows s k cursor ≡ (startItems k ++ stepItems k cursor) ++ (endItem k ∷ [])
   unfolding splineItemsOf startItems stepItems endItem
   items-are k cursor = sym (append-assoc (startItems k) (stepItems k cursor) (endItem k ∷ []))
 
-  cut-spline : (k cursor : ℕ) (rest : List Item) → cutAfter endsItem (splineItemsOf q s k cursor ++ rest) ≡ splineItemsOf q s k cursor ∷ cutAfter endsItem rest
+  cut-spline : (k cursor : ℕ) (rest : List Item) → cutAfter endsItem (splineItemsOf rows s k cursor ++ rest) ≡ splineItemsOf rows s k cursor ∷ cutAfter endsItem rest
   unfolding stepItems endItem
   cut-spline k cursor rest =
       ap (λ (x : List Item). cutAfter endsItem (x ++ rest)) (items-are k cursor)
@@ -77,34 +78,38 @@ module _ (q : QuadTable) (s : SplineTable) where
       ∙ ap (λ (x : List Item). x ∷ cutAfter endsItem rest) (sym (items-are k cursor))
 
   -- ---- n splines from k on
-  pub pieces-count : (setting : Setting) (n k cursor : ℕ) → length (cutAfter endsItem (walkFrom setting q s n k cursor)) ≡ n
+  pub pieces-count : (setting : Setting) (n k cursor : ℕ) → length (cutAfter endsItem (walkFrom setting rows s n k cursor)) ≡ n
   unfolding walkFrom cutAfter
   pieces-count setting zero k cursor = refl
   pieces-count setting (suc n) k cursor =
-      ap length (cut-spline k cursor (walkFrom setting q s n (k + 1) (cursorAfter q s k cursor))) ∙ ap suc (pieces-count setting n (k + 1) (cursorAfter q s k cursor))
+      ap length (cut-spline k cursor (walkFrom setting rows s n (k + 1) (cursorAfter rows s k cursor))) ∙ ap suc (pieces-count setting n (k + 1) (cursorAfter rows s k cursor))
 
   -- piece i has the items of spline k, and some cursor at which `inv` holds
   pub record Piece (inv : ℕ → ℕ → Type 0) (pieces : List (List Item)) (i k : ℕ) : Type 0 where
     pub cursor : ℕ
-    pub is : getD pieces i [] ≡ splineItemsOf q s k cursor
+    pub is : getD pieces i [] ≡ splineItemsOf rows s k cursor
     pub holds : inv k cursor
 
-  pub piece-at : (setting : Setting) (inv : ℕ → ℕ → Type 0) (n k cursor : ℕ) → inv k cursor → ((j c : ℕ) → j < k + n → inv j c → inv (suc j) (cursorAfter q s j c)) → (i : ℕ) → i < n
-      → Piece inv (cutAfter endsItem (walkFrom setting q s n k cursor)) i (k + i)
+  pub piece-at : (setting : Setting) (inv : ℕ → ℕ → Type 0) (n k cursor : ℕ) → inv k cursor → ((j c : ℕ) → j < k + n → inv j c → inv (suc j) (cursorAfter rows s j c)) → (i : ℕ) → i < n
+      → Piece inv (cutAfter endsItem (walkFrom setting rows s n k cursor)) i (k + i)
   unfolding walkFrom
   piece-at setting inv zero k cursor h step i l = absurd (not-suc-le-zero l)
   piece-at setting inv (suc n) k cursor h step zero l =
       record {
         cursor = cursor;
-        is = ap (λ (x : List (List Item)). getD x 0 []) (cut-spline k cursor (walkFrom setting q s n (k + 1) (cursorAfter q s k cursor))) ∙ ap (λ (x : ℕ). splineItemsOf q s x cursor) (sym (add-zero k));
+        is =
+            ap (λ (x : List (List Item)). getD x 0 []) (cut-spline k cursor (walkFrom setting rows s n (k + 1) (cursorAfter rows s k cursor)))
+            ∙ ap (λ (x : ℕ). splineItemsOf rows s x cursor) (sym (add-zero k));
         holds = subst (λ (x : ℕ). inv x cursor) (sym (add-zero k)) h;
       }
   piece-at setting inv (suc n) k cursor h step (suc i) l =
-      let c = cursorAfter q s k cursor in
-      let z = piece-at setting inv n (k + 1) c (subst (λ (x : ℕ). inv x c) (suc-eq-add-one k) (step k cursor (far k n) h)) (λ j d m. step j d (lt-of-lt-of-le m (le-of-eq (shift-one k n)))) i (le-of-suc-le-suc l) in
+      let c = cursorAfter rows s k cursor in
+      let z =
+      piece-at setting inv n (k + 1) c (subst (λ (x : ℕ). inv x c) (suc-eq-add-one k) (step k cursor (far k n) h))
+      (λ j d m. step j d (lt-of-lt-of-le m (le-of-eq (shift-one k n)))) i (le-of-suc-le-suc l) in
       record {
         cursor = z .cursor;
-        is = ap (λ (x : List (List Item)). getD x (suc i) []) (cut-spline k cursor (walkFrom setting q s n (k + 1) c)) ∙ z .is ∙ ap (λ (x : ℕ). splineItemsOf q s x (z .cursor)) (shift-one k i);
+        is = ap (λ (x : List (List Item)). getD x (suc i) []) (cut-spline k cursor (walkFrom setting rows s n (k + 1) c)) ∙ z .is ∙ ap (λ (x : ℕ). splineItemsOf rows s x (z .cursor)) (shift-one k i);
         holds = subst (λ (x : ℕ). inv x (z .cursor)) (shift-one k i) (z .holds);
       }
     where
@@ -112,21 +117,22 @@ module _ (q : QuadTable) (s : SplineTable) where
       far k n = omega arith
 
   -- ---- the commands of a spline
-  steps-commands : (size : Float) (n p cursor : ℕ) → map commandOf (stepsFrom q size n p cursor) ≡ replicate n (Incr size)
+  steps-commands : (size : Float) (n p cursor : ℕ) → map commandOf (stepsFrom rows size n p cursor) ≡ replicate n (Incr size)
   unfolding stepsFrom
   steps-commands size zero p cursor = refl
-  steps-commands size (suc n) p cursor = ap (λ (x : List PointCommand). Incr size ∷ x) (steps-commands size n (p + 1) (cursorAt q p cursor))
+  steps-commands size (suc n) p cursor = ap (λ (x : List PointCommand). Incr size ∷ x) (steps-commands size n (p + 1) (cursorAt rows p cursor))
 
   map-append : (s t : List Item) → map commandOf (s ++ t) ≡ map commandOf s ++ map commandOf t
   map-append [] t = refl
   map-append (a ∷ s) t = ap (λ (x : List PointCommand). a .command ∷ x) (map-append s t)
 
-  pub piece-commands : (k cursor : ℕ) → map commandOf (splineItemsOf q s k cursor) ≡ pieceOf s k
+  pub piece-commands : (k cursor : ℕ) → map commandOf (splineItemsOf rows s k cursor) ≡ pieceOf s k
   unfolding splineItemsOf pieceOf
   piece-commands k cursor =
       map-append (cond (startsOf s k) (item (Start k) 0 0 ∷ []) []) _
       ∙ ap₂ (λ (x y : List PointCommand). x ++ y) (start (startsOf s k))
-      (map-append (stepsFrom q (stepSizeOf s k) (stepsOf s k) 1 cursor) _ ∙ ap (λ (x : List PointCommand). x ++ (End k (splineAt s k .contour) ∷ [])) (steps-commands (stepSizeOf s k) (stepsOf s k) 1 cursor))
+      (map-append (stepsFrom rows (stepSizeOf s k) (stepsOf s k) 1 cursor) _
+      ∙ ap (λ (x : List PointCommand). x ++ (End k (splineAt s k .contour) ∷ [])) (steps-commands (stepSizeOf s k) (stepsOf s k) 1 cursor))
     where
       start : (b : Bool) → map commandOf (cond b (item (Start k) 0 0 ∷ []) []) ≡ cond b (Start k ∷ []) []
       start true = refl
@@ -139,7 +145,7 @@ Packed i = Packs (i .command)
 module _ (caps : Capacities) (w : World) (S : Sound caps w) (limit : caps .splines ≤ indexLimit) where
   step-packs : (k : ℕ) → k < w .state .splines → 0 < stepsOf (w .splines) k → Packs (Incr (stepSizeOf (w .splines) k))
   unfolding subdivisionsOf stepSizeOf
-  step-packs k h p = elim (span-total (w .quads) _ _ _ k (S .span k h)) [
+  step-packs k h p = elim (span-total (quadRowAt (w .quads)) _ _ _ k (S .span k h)) [
     | inl z ↦ absurd (no-step (wholeUpOf (splineAt (w .splines) k .curvature)) (ap wholeUpOf (z .1) ∙ no-steps) p)
     | inr z ↦
         let c = splineAt (w .splines) k .curvature in
@@ -149,30 +155,31 @@ module _ (caps : Capacities) (w : World) (S : Sound caps w) (limit : caps .splin
       no-step : (m : ℕ) → m ≡ 0 → 0 < m - 1 → ⊥
       no-step m e h = omega arith
 
-  steps-packed : (size : Float) (n p cursor : ℕ) → (0 < n → Packs (Incr size)) → All Packed (stepsFrom (w .quads) size n p cursor)
+  steps-packed : (size : Float) (n p cursor : ℕ) → (0 < n → Packs (Incr size)) → All Packed (stepsFrom (quadRowAt (w .quads)) size n p cursor)
   unfolding stepsFrom
   steps-packed size zero p cursor h = tt
-  steps-packed size (suc n) p cursor h = (h (zero-lt-suc n), steps-packed size n (p + 1) (cursorAt (w .quads) p cursor) (λ k. h (zero-lt-suc n)))
+  steps-packed size (suc n) p cursor h = (h (zero-lt-suc n), steps-packed size n (p + 1) (cursorAt (quadRowAt (w .quads)) p cursor) (λ k. h (zero-lt-suc n)))
 
   index : (k : ℕ) → k < w .state .splines → k < indexLimit
   index k h = lt-of-lt-of-le h (le-trans (S .room .splines) limit)
 
-  spline-packed : (k cursor : ℕ) → k < w .state .splines → All Packed (splineItemsOf (w .quads) (w .splines) k cursor)
+  spline-packed : (k cursor : ℕ) → k < w .state .splines → All Packed (splineItemsOf (quadRowAt (w .quads)) (w .splines) k cursor)
   unfolding splineItemsOf
   spline-packed k cursor h =
       all-append Packed (cond (startsOf (w .splines) k) (item (Start k) 0 0 ∷ []) []) _ (start (startsOf (w .splines) k))
-      (all-append Packed (stepsFrom (w .quads) (stepSizeOf (w .splines) k) (stepsOf (w .splines) k) 1 cursor) _ (steps-packed (stepSizeOf (w .splines) k) (stepsOf (w .splines) k) 1 cursor (step-packs k h)) (index k h, tt))
+      (all-append Packed (stepsFrom (quadRowAt (w .quads)) (stepSizeOf (w .splines) k) (stepsOf (w .splines) k) 1 cursor) _
+      (steps-packed (stepSizeOf (w .splines) k) (stepsOf (w .splines) k) 1 cursor (step-packs k h)) (index k h, tt))
     where
       start : (b : Bool) → All Packed (cond b (item (Start k) 0 0 ∷ []) [])
       start true = (index k h, tt)
       start false = tt
 
-  pub walk-packed : (setting : Setting) (n k cursor : ℕ) → k + n ≤ w .state .splines → All Packed (walkFrom setting (w .quads) (w .splines) n k cursor)
+  pub walk-packed : (setting : Setting) (n k cursor : ℕ) → k + n ≤ w .state .splines → All Packed (walkFrom setting (quadRowAt (w .quads)) (w .splines) n k cursor)
   unfolding walkFrom
   walk-packed setting zero k cursor h = tt
   walk-packed setting (suc n) k cursor h =
-      all-append Packed (splineItemsOf (w .quads) (w .splines) k cursor) _ (spline-packed k cursor (le-trans (far k n) h))
-      (walk-packed setting n (k + 1) (cursorAfter (w .quads) (w .splines) k cursor) (le-trans (le-of-eq (shift-one k n)) h))
+      all-append Packed (splineItemsOf (quadRowAt (w .quads)) (w .splines) k cursor) _ (spline-packed k cursor (le-trans (far k n) h))
+      (walk-packed setting n (k + 1) (cursorAfter (quadRowAt (w .quads)) (w .splines) k cursor) (le-trans (le-of-eq (shift-one k n)) h))
     where
       far : (k n : ℕ) → k < k + suc n
       far k n = omega arith

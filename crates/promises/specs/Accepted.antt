@@ -12,7 +12,7 @@ use Rattle.command.specs.declared.PointCommand.the-variants.{Start, Incr, End}
 use Rattle.point.specs.declared.Setting.{Setting}
 use Rattle.store.specs.declared.StoreState.{StoreState}
 use Rattle.store.specs.Columns.{Columns, moveCommand}
-use Rattle.tables.specs.Tables.{QuadTable, SplineTable, capacitiesOf, splineAt}
+use Rattle.tables.specs.Tables.{QuadTable, SplineTable, capacitiesOf, quadRowAt, splineAt}
 use Rattle.tables.specs.Run.{world, startState, runOf}
 use Rattle.tables.specs.Commands.{primitivesFrom}
 use Rattle.walk.specs.Walk.{Item, walkOf, startsOf, subdivisionsOf, stepSizeOf}
@@ -39,7 +39,7 @@ wordsIn f = take (f .result .points) (f .output .words)
 
 -- the walk over the tables that it leaves
 abbrev pub walkIn : Setting → Flattening → List Item
-walkIn setting f = walkOf setting (f .quads) (f .splines) (f .result .splines)
+walkIn setting f = walkOf setting (quadRowAt (f .quads)) (f .splines) (f .result .splines)
 
 -- ---- contours: "the splines opened between two Moves of the command list"
 abbrev pub commandAt : Job → ℕ → ℕ

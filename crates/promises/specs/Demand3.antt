@@ -5,12 +5,12 @@ use mathlib.Core.Logic.{_≢_, _↔_}
 use mathlib.Core.Bool.{true}
 use mathlib.Core.List.{List, [], map, List·Memᴰ}
 use lib.Dec.{T}
-use lib.Ieee.{Float, nan}
+use lib.Ieee.{Float}
 use lib.Ieee.Positive.{num, den}
 use lib.ListN.{length, getD}
 use Rattle.command.specs.declared.PointCommand.{PointCommand}
 use Rattle.point.specs.declared.Setting.{Setting}
-use Rattle.tables.specs.Tables.{QuadTable, SplineTable, splineAt}
+use Rattle.tables.specs.Tables.{quadRowAt}
 use Rattle.walk.specs.Walk.{Item, startsOf, stepSizeOf}
 use Rattle.flatten.specs.Flatten.{Flattening}
 use Rattle.promises.specs.Words.{isStep, isEnd, cutAfter, decoded, piecesIn, isFlagged}
@@ -70,10 +70,10 @@ pub record StepOf (setting : Setting) (f : Flattening) (k : ℕ) (i : Item) : Ty
 
 -- "a quad's spline is its number in the quad table"
 abbrev pub splineOfQuad : Flattening → ℕ → ℕ
-splineOfQuad f i = getD (f .quads .partial-splines) i 0
+splineOfQuad f i = quadRowAt (f .quads) i .spline
 
 abbrev pub sumOfQuad : Flattening → ℕ → Float
-sumOfQuad f i = getD (f .quads .partial-curvatures) i nan
+sumOfQuad f i = quadRowAt (f .quads) i .«partial_curvature»
 
 -- quad i is the last one of spline k
 pub record LastQuad (f : Flattening) (k i : ℕ) : Type 0 where

@@ -8,7 +8,7 @@ use Rattle.store.specs.declared.Call.the-variants.{Move, Line, Build}
 use Rattle.point.specs.declared.Setting.the-variants.{Screen, Knife}
 use Rattle.primitives.specs.declared.Primitive.{Primitive}
 use Rattle.primitives.specs.declared.Primitive.the-variants.{Line as Straight}
-use Rattle.tables.specs.Tables.{capacitiesOf}
+use Rattle.tables.specs.Tables.{capacitiesOf, quadRowAt}
 use Rattle.tables.specs.Run.{World, world, runOf, startState}
 use Rattle.walk.specs.Walk.{walkOf, wordsOf}
 use Rattle.promises.specs.Room.{emptyQuads, emptySplines}
@@ -22,7 +22,7 @@ along from to = Straight (plain (pointAt from zero32)) (plain (pointAt to zero32
 unfoldable pub wordsAlong : List Primitive → List ℕ
 wordsAlong ps =
     let w = runOf Screen (capacitiesOf (emptyQuads 8) (emptySplines 8)) ps (world startState (emptyQuads 8) (emptySplines 8)) in
-    wordsOf (walkOf Screen (w .quads) (w .splines) (w .state .splines))
+    wordsOf (walkOf Screen (quadRowAt (w .quads)) (w .splines) (w .state .splines))
 
 -- from 0 to 10, and on from start to 20
 abbrev pub gapTo : Float → List Primitive

@@ -21,7 +21,7 @@ use Rattle.store.specs.Drawing.{Outcome, freshOf}
 use Rattle.store.specs.Replay.{replayOf}
 use Rattle.point.specs.declared.Setting.{Setting}
 use Rattle.point.specs.declared.Setting.the-variants.{Screen, Knife}
-use Rattle.tables.specs.Tables.{QuadTable, quadTable, SplineTable, splineTable}
+use Rattle.tables.specs.Tables.{QuadTable, quadTable, quadRowAt, SplineTable, splineTable}
 use Rattle.walk.specs.Walk.{Item, walkOf}
 use Rattle.flatten.specs.Flatten.{Flattening, Output, output, flattenOf}
 use Rattle.promises.specs.Room.{emptyColumns, emptyQuads, emptySplines, emptyOutput}
@@ -49,6 +49,10 @@ pointsAfter setting calls =
     let n = f .result .points in
     map bitsOf (take n (f .output .x) ++ take n (f .output .y))
 
+-- the numbers of the quad table's first row as they lie, and its spline
+unfoldable pub rowAfter : Setting → List Call → List ℕ
+rowAfter setting calls = let q = flat setting calls .quads in map bitsOf (take 15 (q .rows)) ++ take 1 (q .partial-splines)
+
 -- the number of points in the store, and the first one's bits
 unfoldable pub storedAfter : List Call → List ℕ
 storedAfter calls = let o = drawn calls in o .state .points ∷ map bitsOf (take 1 (o .columns .x) ++ take 1 (o .columns .y))
@@ -56,8 +60,8 @@ storedAfter calls = let o = drawn calls in o .state .points ∷ map bitsOf (take
 -- P12's tables: the sums 2, 3 in one spline and 2 in the next
 unfoldable pub joinedQuads : QuadTable
 joinedQuads =
-    let none = replicate 9 zero32 in
-    quadTable none none none none none none none none (whole32 2 ∷ whole32 3 ∷ whole32 2 ∷ []) (0 ∷ 0 ∷ 1 ∷ [])
+    let rowOf : (ℕ → List Float) = λ sum. replicate 14 zero32 ++ (whole32 sum ∷ []) in
+    quadTable (rowOf 2 ++ rowOf 3 ++ rowOf 2) (0 ∷ 0 ∷ 1 ∷ [])
 
 unfoldable pub joinedSplines : SplineTable
 joinedSplines =
@@ -66,7 +70,7 @@ joinedSplines =
 
 -- the quad of each item: Start, two steps, End, a step, End
 unfoldable pub joinedCursors : List ℕ
-joinedCursors = map (λ i. i .quad) (walkOf Screen joinedQuads joinedSplines 2)
+joinedCursors = map (λ i. i .quad) (walkOf Screen (quadRowAt joinedQuads) joinedSplines 2)
 
 pub record Example : Type 0 where
   pub given : List ℕ
@@ -83,6 +87,10 @@ doubled = Move (P 0 0) ∷ Line (P 10 0) ∷ Line (P 10 0) ∷ Line (P 10 10) �
 abbrev pub back : List Call
 back = Line (P 10 0) ∷ Line (P 4 0) ∷ Build ∷ []
 
+-- a quad along the x axis
+abbrev pub onward : List Call
+onward = Quad (P 5 0) (P 10 0) ∷ Build ∷ []
+
 abbrev pub promised : List Example
 promised =
     -- P1 "fresh, built: no words."
@@ -98,7 +106,11 @@ promised =
     ∷ example (wordsAfter Screen back) (0 ∷ 0x7F800000 ∷ 0xFFC00000 ∷ [])
     ∷ example (pointsAfter Screen back) (0 ∷ 0 ∷ 0 ∷ 0 ∷ [])
     -- P6 "quad (5,0) (10,0) from the origin, built"
-    ∷ example (wordsAfter Screen (Quad (P 5 0) (P 10 0) ∷ Build ∷ [])) (0 ∷ 0x7F800000 ∷ 0x3F800000 ∷ 0xFFC00000 ∷ [])
+    ∷ example (wordsAfter Screen onward) (0 ∷ 0x7F800000 ∷ 0x3F800000 ∷ 0xFFC00000 ∷ [])
+    -- and its row: three x, three y, three weights, x0, dx_recip, k0, dk, the reciprocal, the sum; spline 0
+    ∷ example (rowAfter Screen onward)
+    (0x00000000 ∷ 0x40A00000 ∷ 0x41200000 ∷ 0x00000000 ∷ 0x00000000 ∷ 0x00000000 ∷ 0x3F800000 ∷ 0x3F800000 ∷ 0x3F800000
+    ∷ 0x3D1603C0 ∷ 0x3F800000 ∷ 0x00000000 ∷ 0x3F800000 ∷ 0x3F000000 ∷ 0x40000000 ∷ 0 ∷ [])
     -- P7 "quad (0,0) (0,0) from the origin: no words."
     ∷ example (wordsAfter Screen (Quad (P 0 0) (P 0 0) ∷ [])) (0 ∷ [])
     -- P8 "move (1,1), move (2,2): one point."

@@ -1,5 +1,5 @@
 -- RULES, Answers, of flattening: each answer, if and only if what the rules say of the drawing, of what was pushed before, and of the buffers. Assumes nothing.
-use Prim.Native.Nat.{ℕ, _-_, _*_, _≤_, _<_}
+use Prim.Native.Nat.{ℕ, _-_, _≤_, _<_}
 use mathlib.Core.Path.{_≡_}
 use mathlib.Core.Logic.{_⊎_, _≢_, _↔_}
 use mathlib.Core.Bool.{Bool, true}
@@ -28,7 +28,8 @@ use Rattle.primitives.specs.Splines.{opensOf, sumBefore}
 use Rattle.store.specs.declared.StoreState.{StoreState}
 use Rattle.store.specs.Columns.{Columns, moveCommand, cubicCommand}
 use Rattle.store.specs.Drawable.{totalUsesOf}
-use Rattle.tables.specs.Tables.{QuadTable, SplineTable, capacitiesOf, lastSplineOf}
+use Rattle.tables.specs.Tables.{capacitiesOf, lastSplineOf, quadRowAt}
+use Rattle.tables.specs.Past.{Past, QuadsPast, SplinesPast}
 use Rattle.tables.specs.Run.{World, world, runOf, startState}
 use Rattle.tables.specs.Commands.{cubicFrom, commandPrimitivesOf, primitivesOf, tablesOf}
 use Rattle.walk.specs.Walk.{Item, walkOf}
@@ -106,7 +107,7 @@ Refused job a =
 
 -- ---- 9: "words or outputs are shorter than the walk", the one over the complete tables
 abbrev pub walkLength : Job → ℕ
-walkLength job = let w = tablesOf (job .setting) (job .state) (job .columns) (job .quads) (job .splines) in length (walkOf (job .setting) (w .quads) (w .splines) (w .state .splines))
+walkLength job = let w = tablesOf (job .setting) (job .state) (job .columns) (job .quads) (job .splines) in length (walkOf (job .setting) (quadRowAt (w .quads)) (w .splines) (w .state .splines))
 
 pub data Short (n : ℕ) (o : Output) : Type 0 where
   words : length (o .words) < n → Short n o
@@ -135,32 +136,7 @@ FlatteningAnswers = (job : Job) → FlattenAnswers job
 abbrev pub RefusedWritesNothing : Type 0
 RefusedWritesNothing = (job : Job) → flatteningOf job .result .answer ≢ Done → (flatteningOf job .output ≡ job .output) × (flatteningOf job .result .points ≡ 0)
 
--- "entries past the count are unchanged": those from entry n on; and the column is as long as it was
-pub record Past {A : Type 0} (n : ℕ) (old new : List A) : Type 0 where
-  pub as-long : length new ≡ length old
-  pub entries : (i : ℕ) (d : A) → n ≤ i → getD new i d ≡ getD old i d
-
--- n quads are counted; x, y and weight have three numbers for each
-pub record QuadsPast (n : ℕ) (old new : QuadTable) : Type 0 where
-  pub x : Past (3 * n) (old .x) (new .x)
-  pub y : Past (3 * n) (old .y) (new .y)
-  pub weight : Past (3 * n) (old .weight) (new .weight)
-  pub x0 : Past n (old .x0) (new .x0)
-  pub dx-recip : Past n (old .dx-recip) (new .dx-recip)
-  pub k0 : Past n (old .k0) (new .k0)
-  pub dk : Past n (old .dk) (new .dk)
-  pub curvatures-recip : Past n (old .curvatures-recip) (new .curvatures-recip)
-  pub partial-curvatures : Past n (old .partial-curvatures) (new .partial-curvatures)
-  pub partial-splines : Past n (old .partial-splines) (new .partial-splines)
-
-pub record SplinesPast (n : ℕ) (old new : SplineTable) : Type 0 where
-  pub curvature : Past n (old .curvature) (new .curvature)
-  pub p0x : Past n (old .p0x) (new .p0x)
-  pub p0y : Past n (old .p0y) (new .p0y)
-  pub p2x : Past n (old .p2x) (new .p2x)
-  pub p2y : Past n (old .p2y) (new .p2y)
-  pub contour : Past n (old .contour) (new .contour)
-
+-- "entries past the count are unchanged"
 pub record OutputPast (n : ℕ) (old new : Output) : Type 0 where
   pub words : Past n (old .words) (new .words)
   pub x : Past n (old .x) (new .x)

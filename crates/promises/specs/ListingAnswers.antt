@@ -16,6 +16,7 @@ use Rattle.store.specs.declared.Call.{Call}
 use Rattle.store.specs.declared.Call.the-variants.{Build}
 use Rattle.store.specs.Drawing.{Outcome, drawOf, freshOf}
 use Rattle.store.specs.Replay.{replayOf}
+use Rattle.tables.specs.Tables.{quadRowAt}
 use Rattle.evaluate.specs.Evaluate.{Finished, pointsOf}
 use Rattle.flatten.specs.Flatten.{Flattening}
 use Rattle.text.specs.Places.{LongestBeginning, newlines}
@@ -92,7 +93,7 @@ pub record Flattens (text : List ℕ) (a : Answer) : Type 0 where
 
 -- the points of the walk over the tables that a flattening leaves
 abbrev pub pointsIn : Flattening → List Finished
-pointsIn f = pointsOf (f .quads) (f .splines) (walkIn Screen f)
+pointsIn f = pointsOf (quadRowAt (f .quads)) (f .splines) (walkIn Screen f)
 
 -- ---- "Numbered answers: No, Given when", of the program, each with its line
 abbrev pub Short : List ℕ → Type 0

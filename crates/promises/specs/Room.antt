@@ -15,8 +15,7 @@ unfoldable pub emptyColumns : ℕ → Columns
 emptyColumns n = columns (zeros n) (zeros n) (zeros n) (replicate n 0)
 
 unfoldable pub emptyQuads : ℕ → QuadTable
-emptyQuads n =
-    quadTable (zeros (3 * n)) (zeros (3 * n)) (zeros (3 * n)) (zeros n) (zeros n) (zeros n) (zeros n) (zeros n) (zeros n) (replicate n 0)
+emptyQuads n = quadTable (zeros (15 * n)) (replicate n 0)
 
 unfoldable pub emptySplines : ℕ → SplineTable
 emptySplines n = splineTable (zeros n) (zeros n) (zeros n) (zeros n) (zeros n) (replicate n 0)

@@ -50,9 +50,7 @@ abbrev pub ColumnsSettled : Type 0
 ColumnsSettled = Settles (λ (c : Floats × Floats × Floats × List ℕ). columns (c .0) (c .1) (c .2) (c .3))
 
 abbrev pub QuadsSettled : Type 0
-QuadsSettled =
-    Settles (λ (q : Floats × Floats × Floats × Floats × Floats × Floats × Floats × Floats × Floats × List ℕ).
-    quadTable (q .0) (q .1) (q .2) (q .3) (q .4) (q .5) (q .6) (q .7) (q .8) (q .9))
+QuadsSettled = Settles (λ (q : Floats × List ℕ). quadTable (q .0) (q .1))
 
 abbrev pub SplinesSettled : Type 0
 SplinesSettled = Settles (λ (s : Floats × Floats × Floats × Floats × Floats × List ℕ). splineTable (s .0) (s .1) (s .2) (s .3) (s .4) (s .5))

@@ -1,4 +1,4 @@
--- RULES, Answers 13: "entries past the count are unchanged". Assumes nothing.
+-- RULES, Answers 12: "entries past the count are unchanged". Assumes nothing.
 use Prim.Native.Nat.{ℕ, _*_, _≤_}
 use mathlib.Core.Path.{_≡_}
 use mathlib.Core.List.{List}
