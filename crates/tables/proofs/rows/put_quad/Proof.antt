@@ -1,5 +1,5 @@
 -- `tables::rows::put_quad` meets its contract: below the capacity a row is written, past it nothing. Assumes nothing.
-use Prim.Native.Nat.{ℕ, _+_, _*_, _≤_, _<_}
+use Prim.Native.Nat.{_+_, _*_, _≤_, _<_}
 use native.Mathlib.Omega.{arith}
 use lib.ListN.{length}
 use borrow.Author.Tests.{le-ltb}
@@ -28,7 +28,7 @@ mul-j : tie.Need-mul-j
 mul-j c = omega (arith, room c)
 
 put-row-requires : tie.Need-put-row-requires
-put-row-requires c κs = room (c .before)
+put-row-requires c κs = omega (arith, room (c .before))
 
 put-u32-requires : tie.Need-put-u32-requires
 put-u32-requires c κs = search needs
