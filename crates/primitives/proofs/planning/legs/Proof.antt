@@ -40,11 +40,21 @@ returns c = rw (c .before .before .enum-told .given .1, c .enum-told2 .given .1)
 
 returns-2 : tie.Need-returns-2
 unfolding legsOf
-returns-2 c = rw (c .before .before .before .before .enum-told .given .1, c .before .before .enum-told3 .given .1, ← c .before .applied .ensures, ← c .applied2 .ensures)
+returns-2 c = rw (
+  c .before .before .before .before .enum-told .given .1,
+  c .before .before .enum-told3 .given .1,
+  ← c .before .applied .ensures,
+  ← c .applied2 .ensures,
+)
 
 returns-3 : tie.Need-returns-3
 unfolding legsOf
-returns-3 c = rw (c .before .before .before .before .enum-told4 .given .1, c .before .before .enum-told5 .given .1, ← c .before .applied3 .ensures, ← c .applied4 .ensures)
+returns-3 c = rw (
+  c .before .before .before .before .enum-told4 .given .1,
+  c .before .before .enum-told5 .given .1,
+  ← c .before .applied3 .ensures,
+  ← c .applied4 .ensures,
+)
 
 returns-4 : tie.Need-returns-4
 unfolding legsOf

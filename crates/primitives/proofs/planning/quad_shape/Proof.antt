@@ -30,7 +30,16 @@ legs-requires c κs = search needs
 
 returns : tie.Need-returns
 unfolding quadShapeOf
-returns c = rw (← c .before .before .before .before .before .before .before .applied .ensures, ← c .before .before .before .before .before .before .applied2 .ensures, ← c .before .before .before .before .before .minus .ensures, ← c .before .before .before .before .angle .ensures, ← c .before .before .before .applied3 .ensures, ← c .before .before .minus2 .ensures, ← c .before .angle2 .ensures, ← c .legs .ensures)
+returns c = rw (
+  ← c .before .before .before .before .before .before .before .applied .ensures,
+  ← c .before .before .before .before .before .before .applied2 .ensures,
+  ← c .before .before .before .before .before .minus .ensures,
+  ← c .before .before .before .before .angle .ensures,
+  ← c .before .before .before .applied3 .ensures,
+  ← c .before .before .minus2 .ensures,
+  ← c .before .angle2 .ensures,
+  ← c .legs .ensures,
+)
 
 pub quad-shape-spec : {M : Type 1} → statement M
 quad-shape-spec =
