@@ -69,7 +69,27 @@ fn seconds(times: usize, mut f: impl FnMut()) -> f64 {
     (now() - start) / times as f64
 }
 
+/// C's allocator takes large buffers from the system one at a time, until one of that size was freed: what one side lends would then change how long the other
+/// side's own vectors take. Here all come from the heap, and stay there.
+#[cfg(target_env = "gnu")]
+fn settle_allocator() {
+    extern "C" {
+        fn mallopt(parameter: i32, value: i32) -> i32;
+    }
+    const M_TRIM_THRESHOLD: i32 = -1;
+    const M_MMAP_THRESHOLD: i32 = -3;
+    // SAFETY: glibc's mallopt takes any two numbers, and is called before there is another thread
+    unsafe {
+        assert_eq!(mallopt(M_TRIM_THRESHOLD, i32::MAX), 1);
+        assert_eq!(mallopt(M_MMAP_THRESHOLD, 32 << 20), 1);
+    }
+}
+
+#[cfg(not(target_env = "gnu"))]
+fn settle_allocator() {}
+
 fn main() {
+    settle_allocator();
     println!("medians of {PAIRS} paired runs, one thread");
     println!("{:8} {:>9} {:>9} {:>12} {:>12} {:>7}", "kind", "commands", "points", "Rust", "ours", "ratio");
     for kind in ["lines", "quads", "cubics"] {
