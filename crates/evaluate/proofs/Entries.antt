@@ -19,7 +19,7 @@ use Rattle.command.specs.Packing.{packOf}
 use Rattle.point.specs.declared.Setting.{Setting}
 use Rattle.primitives.specs.declared.QuadRow.{QuadRow}
 use Rattle.tables.specs.Tables.{SplineTable, splineAt}
-use Rattle.walk.specs.Walk.{Item, item, subdivisionsOf, stepSizeOf, startsAfterOf, startsOf, cursorAt, stepsFrom, cursorFrom, cursorAfter}
+use Rattle.walk.specs.Walk.{Item, item, subdivisionsOf, stepSizeOf, startsOf, cursorAt, stepsFrom, cursorFrom, cursorAfter}
 use Rattle.walk.specs.Walk.{splineItemsOf, walkFrom, walkOf, wordOf, wordsOf}
 use Rattle.walk.proofs.Lengths.{steps-length}
 use Rattle.evaluate.specs.declared.Place.{Place}
@@ -72,10 +72,10 @@ module _ (rows : ℕ → QuadRow) (s : SplineTable) (k : ℕ) (from : Place) (o 
   startItems : List Item
   startItems = cond (startsOf s k) (item (Start k) 0 0 ∷ []) []
 
-  start-written : writeStartOf k (splineAt s (k - 1)) (splineAt s k) from o
+  start-written : writeStartOf (startsOf s k) k (splineAt s k .p0) from o
       ≡ written (writeItems rows s (from .at) startItems o) (placeAt (from .at + length startItems) (from .cursor))
-  unfolding startItems writeStartOf startsOf writeItems wordOf itemPointOf commandPointOf
-  start-written = go (startsAfterOf k (splineAt s (k - 1)) (splineAt s k))
+  unfolding startItems writeStartOf writeItems wordOf itemPointOf commandPointOf
+  start-written = go (startsOf s k)
     where
       go : (b : Bool)
           → cond b
@@ -120,7 +120,7 @@ module _ (rows : ℕ → QuadRow) (s : SplineTable) (k : ℕ) (from : Place) (o 
   afterStart a = afterSteps (writeStepsOf rows (stepSizeOf s k) (subdivisionsOf s k - 1) (a .place) (a .output))
 
   -- a whole spline
-  pub spline-written : writeSplineOf rows k (splineAt s (k - 1)) (splineAt s k) from o
+  pub spline-written : writeSplineOf rows k (startsOf s k) (splineAt s k) from o
       ≡ written (writeItems rows s (from .at) (splineItemsOf rows s k (from .cursor)) o)
       (placeAt (from .at + length (splineItemsOf rows s k (from .cursor))) (cursorAfter rows s k (from .cursor)))
   unfolding startItems writeSplineOf writeStepsOf endPlaceOf splineItemsOf cursorAfter subdivisionsOf stepSizeOf wordOf itemPointOf commandPointOf

@@ -14,7 +14,7 @@ use Rattle.primitives.specs.declared.SplineRow.{SplineRow}
 use Rattle.primitives.specs.declared.QuadRow.{QuadRow}
 use Rattle.tables.specs.Tables.{SplineTable, splineAt}
 use Rattle.leaves.specs.Single.{whole32}
-use Rattle.walk.specs.Walk.{cursorAtOf, cursorAt, cursorFrom, cursorAfter, startsAfterOf, subdivisionsOf, walkOf}
+use Rattle.walk.specs.Walk.{cursorAtOf, cursorAt, cursorFrom, cursorAfter, startsAfterOf, startsOf, subdivisionsOf, walkOf}
 use Rattle.walk.specs.Length.{stepsOf, sizeOf, walkLengthOf}
 use Rattle.walk.proofs.Lengths.{whole-up-bound, steps-bound, spline-length, spline-length-bound, walk-length}
 use Rattle.evaluate.specs.declared.Place.{Place}
@@ -90,10 +90,10 @@ module _
 pub few : (n : ℕ) (sum : Float) → n ≡ stepsOf sum → n ≤ 65536
 few n sum e = rw e (steps-bound sum)
 
-pub start-place : (k : ℕ) (last row : SplineRow) (from to : Place) (o₀ o : Output) → written o to ≡ writeStartOf k last row from o₀
+pub start-place : (starts : Bool) (k : ℕ) (first : Point) (from to : Place) (o₀ o : Output) → written o to ≡ writeStartOf starts k first from o₀
     → (to .at ≤ from .at + 1) × (to .cursor ≡ from .cursor)
 unfolding writeStartOf
-start-place k last row from to o₀ o e = go (startsAfterOf k last row) _ e
+start-place starts k first from to o₀ o e = go starts _ e
   where
     go : (b : Bool) (o' : Output) → written o to ≡ cond b (written o' (placeAt (from .at + 1) (from .cursor))) (written o₀ from)
         → (to .at ≤ from .at + 1) × (to .cursor ≡ from .cursor)
@@ -113,17 +113,17 @@ end-place rows size n from start to o₀ o h f g e =
     let b = cursor-from-bound rows n 1 (start .cursor) in
     (omega (arith, f .0, g .0), omega (arith, f .1, g .1))
 
-pub spline-passes : (rows : ℕ → QuadRow) (k : ℕ) (last row : SplineRow) (from start to r : Place) (o₀ o₁ o₂ o₃ : Output) (size : Float) (n word : ℕ)
-    → written o₁ start ≡ writeStartOf k last row from o₀
+pub spline-passes : (rows : ℕ → QuadRow) (k : ℕ) (starts : Bool) (row : SplineRow) (from start to r : Place) (o₀ o₁ o₂ o₃ : Output) (size : Float) (n word : ℕ)
+    → written o₁ start ≡ writeStartOf starts k (row .p0) from o₀
     → size ≡ sizeOf (row .curvature)
     → n ≡ stepsOf (row .curvature)
     → written o₂ to ≡ writeStepsOf rows size n start o₁
     → word ≡ packOf (End k (row .contour))
     → o₃ ≡ writeEntryOf (to .at) word (finished (row .p2) (row .contour)) o₂
     → r ≡ endPlaceOf (row .curvature) to
-    → written o₃ r ≡ writeSplineOf rows k last row from o₀
+    → written o₃ r ≡ writeSplineOf rows k starts row from o₀
 unfolding writeSplineOf
-spline-passes rows k last row from start to r o₀ o₁ o₂ o₃ size n word hs hz hn ht hw ho hr = rw (← hs, ← hz, ← hn, ← ht, ← hw, ← ho, ← hr)
+spline-passes rows k starts row from start to r o₀ o₁ o₂ o₃ size n word hs hz hn ht hw ho hr = rw (← hs, ← hz, ← hn, ← ht, ← hw, ← ho, ← hr)
 
 -- ---- all splines
 pub record Walking (rows : ℕ → QuadRow) (s : SplineTable) (n : ℕ) (o₀ o : Output) (last : SplineRow) (place : Place) (k left : ℕ) : Type 0 where
@@ -152,8 +152,8 @@ after-bound rows s k cursor =
 
 walk-more : (rows : ℕ → QuadRow) (s : SplineTable) (left k : ℕ) (from : Place) (o : Output) → 0 < left
     → writeWalkFrom rows s left k from o
-    ≡ writeWalkFrom rows s (left - 1) (k + 1) (writeSplineOf rows k (splineAt s (k - 1)) (splineAt s k) from o .place)
-    (writeSplineOf rows k (splineAt s (k - 1)) (splineAt s k) from o .output)
+    ≡ writeWalkFrom rows s (left - 1) (k + 1) (writeSplineOf rows k (startsOf s k) (splineAt s k) from o .place)
+    (writeSplineOf rows k (startsOf s k) (splineAt s k) from o .output)
 unfolding writeWalkFrom
 walk-more rows s zero k from o h = absurd (let z : _≡_ {A = ℕ} 0 1 = omega arith in omega arith)
 walk-more rows s (suc n) k from o h = let e : suc n - 1 ≡ n = omega arith in rw e
@@ -161,12 +161,13 @@ walk-more rows s (suc n) k from o h = let e : suc n - 1 ≡ n = omega arith in r
 module _
     {rows : ℕ → QuadRow} {s : SplineTable} {n : ℕ} {o₀ o : Output} {last : SplineRow} {place : Place} {k left : ℕ}
     (g : Walking rows s n o₀ o last place k left) where
-  pub walking-more : {row : SplineRow} {place' : Place} {o' : Output} → 0 < left
-      → row ≡ splineAt s k → written o' place' ≡ writeSplineOf rows k last row place o → Same o' o
+  pub walking-more : {row : SplineRow} {starts : Bool} {place' : Place} {o' : Output} → 0 < left
+      → row ≡ splineAt s k → starts ≡ startsAfterOf k last row → written o' place' ≡ writeSplineOf rows k starts row place o → Same o' o
       → Walking rows s n o₀ o' row place' (k + 1) (left - 1)
-  walking-more {row} {place'} {o'} h hr hw l =
+  unfolding startsOf
+  walking-more {row} {starts} {place'} {o'} h hr hs hw l =
       let e : k + 1 - 1 ≡ k = omega arith in
-      let w : written o' place' ≡ writeSplineOf rows k (splineAt s (k - 1)) (splineAt s k) place o = rw (← g .before, ← hr) hw in
+      let w : written o' place' ≡ writeSplineOf rows k (startsOf s k) (splineAt s k) place o = rw (← g .before, ← hr, ← hs) hw in
       let p = ap (λ (x : Written). x .place) (w ∙ spline-written rows s k place o) in
       let pa = ap (λ (x : Place). x .at) p in
       let pc = ap (λ (x : Place). x .cursor) p in

@@ -1,7 +1,7 @@
 -- Scaffolding: the walk of `deliverOf` (Delivery) written entry by entry, for the contracts of private functions in src/writing.rt; no promise rests on it.
 -- Assumes nothing.
 use Prim.Native.Nat.{ℕ, zero, suc, _+_, _-_}
-use mathlib.Core.Bool.{false, cond}
+use mathlib.Core.Bool.{Bool, false, cond}
 use lib.Dec.{eqb}
 use lib.Ieee.{Float}
 use lib.ListN.{set}
@@ -9,10 +9,11 @@ use Rattle.leaves.specs.Whole.{wholeUpOf}
 use Rattle.command.specs.declared.PointCommand.the-variants.{Start, Incr, End}
 use Rattle.command.specs.Packing.{packOf}
 use Rattle.columns.specs.Flags.{flagByteOf}
+use Rattle.point.specs.declared.Point.{Point}
 use Rattle.primitives.specs.declared.QuadRow.{QuadRow}
 use Rattle.primitives.specs.declared.SplineRow.{SplineRow}
 use Rattle.tables.specs.Tables.{SplineTable, splineAt}
-use Rattle.walk.specs.Walk.{cursorAt, startsAfterOf}
+use Rattle.walk.specs.Walk.{cursorAt, startsOf}
 use Rattle.walk.specs.Length.{stepsOf, sizeOf}
 use Rattle.evaluate.specs.declared.Place.{Place}
 use Rattle.evaluate.specs.Evaluate.{Finished, finished, stepQuadOf, stepPointOf}
@@ -33,10 +34,10 @@ unfoldable pub writeEntryOf : ℕ → ℕ → Finished → Output → Output
 writeEntryOf at word f o =
     output (set (o .words) at word) (set (o .x) at (f .point .x)) (set (o .y) at (f .point .y)) (set (o .end) at (flagByteOf (f .end)))
 
-unfoldable pub writeStartOf : ℕ → SplineRow → SplineRow → Place → Output → Written
-writeStartOf k last row from o =
-    cond (startsAfterOf k last row)
-    (written (writeEntryOf (from .at) (packOf (Start k)) (finished (row .p0) false) o) (placeAt (from .at + 1) (from .cursor)))
+unfoldable pub writeStartOf : Bool → ℕ → Point → Place → Output → Written
+writeStartOf starts k first from o =
+    cond starts
+    (written (writeEntryOf (from .at) (packOf (Start k)) (finished first false) o) (placeAt (from .at + 1) (from .cursor)))
     (written o from)
 
 -- n steps from step p on
@@ -54,9 +55,9 @@ writeStepsOf rows size n from o = writeStepsFrom rows size n 1 from o
 unfoldable pub endPlaceOf : Float → Place → Place
 endPlaceOf sum from = placeAt (from .at + 1) (cond (eqb (wholeUpOf sum) 0) (from .cursor) (from .cursor + 1))
 
-unfoldable pub writeSplineOf : (ℕ → QuadRow) → ℕ → SplineRow → SplineRow → Place → Output → Written
-writeSplineOf rows k last row from o =
-    let a = writeStartOf k last row from o in
+unfoldable pub writeSplineOf : (ℕ → QuadRow) → ℕ → Bool → SplineRow → Place → Output → Written
+writeSplineOf rows k starts row from o =
+    let a = writeStartOf starts k (row .p0) from o in
     let b = writeStepsOf rows (sizeOf (row .curvature)) (stepsOf (row .curvature)) (a .place) (a .output) in
     let o' = writeEntryOf (b .place .at) (packOf (End k (row .contour))) (finished (row .p2) (row .contour)) (b .output) in
     written o' (endPlaceOf (row .curvature) (b .place))
@@ -65,7 +66,7 @@ writeSplineOf rows k last row from o =
 unfoldable pub writeWalkFrom : (ℕ → QuadRow) → SplineTable → ℕ → ℕ → Place → Output → Output
 writeWalkFrom rows s zero k from o = o
 writeWalkFrom rows s (suc n) k from o =
-    let w = writeSplineOf rows k (splineAt s (k - 1)) (splineAt s k) from o in
+    let w = writeSplineOf rows k (startsOf s k) (splineAt s k) from o in
     writeWalkFrom rows s n (k + 1) (w .place) (w .output)
 
 unfoldable pub writeWalkOf : (ℕ → QuadRow) → SplineTable → ℕ → Output → Output

@@ -38,29 +38,29 @@ fn write_entry(
     put_u8(out_end, at, flag_byte(flag));
 }
 
-// The Start of spline k, where there is one.
+// The Start of spline k at its first point, if it has one.
 fn write_start(
     words: &mut [u32],
     out_x: &mut [f32],
     out_y: &mut [f32],
     out_end: &mut [u8],
+    starts: bool,
     k: u32,
-    last: SplineRow,
-    row: SplineRow,
+    first: Point,
     from: Place,
 ) -> Place
     requires { ⌜ from .at ≤ 0x4000_0000_0000_0000 ⌝ }
-    ensures { λ r. ⌜ written (output (now (words .exit)) (now («out_x» .exit)) (now («out_y» .exit)) (now («out_end» .exit))) r ≡ writeStartOf k last row from (output (now (words .entry)) (now («out_x» .entry)) (now («out_y» .entry)) (now («out_end» .entry))) ⌝ }
+    ensures { λ r. ⌜ written (output (now (words .exit)) (now («out_x» .exit)) (now («out_y» .exit)) (now («out_end» .exit))) r ≡ writeStartOf starts k first from (output (now (words .entry)) (now («out_x» .entry)) (now («out_y» .entry)) (now («out_end» .entry))) ⌝ }
 {
-    if !walk::starts_after(k, last, row) {
+    if !starts {
         return from;
     }
     let at = from.at;
     let word = PointCommand::Start(k as usize).pack();
-    let start = row.p0;
-    write_entry(words, out_x, out_y, out_end, at, word, start, false);
+    write_entry(words, out_x, out_y, out_end, at, word, first, false);
+    let next = at + 1;
     Place {
-        at: at + 1,
+        at: next,
         cursor: from.cursor,
     }
 }
@@ -111,7 +111,7 @@ fn end_place(sum: f32, from: Place) -> Place
     Place { at, cursor: next }
 }
 
-// Spline k, which comes after `last`.
+// Spline k, with a Start or without.
 fn write_spline(
     quad_rows: &[f32],
     partial_splines: &[u32],
@@ -120,15 +120,16 @@ fn write_spline(
     out_y: &mut [f32],
     out_end: &mut [u8],
     k: u32,
-    last: SplineRow,
+    starts: bool,
     row: SplineRow,
     from: Place,
 ) -> Place
     requires { ⌜ (from .at ≤ 0x4000_0000_0000_0000) × (from .cursor ≤ 0x4000_0000_0000_0000) ⌝ }
-    ensures { λ r. ⌜ written (output (now (words .exit)) (now («out_x» .exit)) (now («out_y» .exit)) (now («out_end» .exit))) r ≡ writeSplineOf (quadRowAt (quadTable (now («quad_rows» .entry)) (now («partial_splines» .entry)))) k last row from (output (now (words .entry)) (now («out_x» .entry)) (now («out_y» .entry)) (now («out_end» .entry))) ⌝ }
+    ensures { λ r. ⌜ written (output (now (words .exit)) (now («out_x» .exit)) (now («out_y» .exit)) (now («out_end» .exit))) r ≡ writeSplineOf (quadRowAt (quadTable (now («quad_rows» .entry)) (now («partial_splines» .entry)))) k starts row from (output (now (words .entry)) (now («out_x» .entry)) (now («out_y» .entry)) (now («out_end» .entry))) ⌝ }
 {
     let sum = row.curvature;
-    let start = write_start(words, out_x, out_y, out_end, k, last, row, from);
+    let first = row.p0;
+    let start = write_start(words, out_x, out_y, out_end, starts, k, first, from);
     let size = walk::size(sum);
     let n = walk::steps(sum);
     let to = write_steps(
@@ -173,6 +174,7 @@ fn write_walk(
     let mut left = n;
     while left > 0 {
         let row = spline_at(curvature, p0x, p0y, p2x, p2y, contour, k as usize);
+        let starts = walk::starts_after(k, last, row);
         place = write_spline(
             quad_rows,
             partial_splines,
@@ -181,7 +183,7 @@ fn write_walk(
             out_y,
             out_end,
             k,
-            last,
+            starts,
             row,
             place,
         );

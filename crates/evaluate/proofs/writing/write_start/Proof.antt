@@ -5,12 +5,9 @@ use borrow.Author.Needs.{needs}
 use Rattle.evaluate.proofs.writing.write_start.Statement.{statement}
 use Rattle.evaluate.proofs.writing.write_start.Tie as tie
 
-starts-after-requires : tie.Need-starts-after-requires
-starts-after-requires c κs = search needs
-
 returns : tie.Need-returns
 unfolding writeStartOf
-returns c = rw (← c .before .starts-after .ensures, not-true (c .before .starts-after .result) (c .if1 .taken))
+returns c = let s : tie.Start = search in rw (not-true (s .args .starts) (c .if1 .taken))
 
 pack-requires : tie.Need-pack-requires
 pack-requires c κs = search needs
@@ -18,8 +15,8 @@ pack-requires c κs = search needs
 write-entry-requires : tie.Need-write-entry-requires
 write-entry-requires c κs = search needs
 
-add-t14 : tie.Need-add-t14
-add-t14 c = search needs
+add-next : tie.Need-add-next
+add-next c = search needs
 
 same-length : tie.Need-same-length
 same-length c = search needs
@@ -39,18 +36,17 @@ returns-2 c =
     let e : tie.After-write-entry = search in
     let w : tie.After-pack = search in
     let t : tie.Else1 = search in
-    let s = t .before .starts-after in
-    rw (← s .ensures, not-false (s .result) (t .if1 .left), ← w .pack .ensures, e .write-entry .ensures)
+    let s : tie.Start = search in
+    rw (not-false (s .args .starts) (t .if1 .left), ← w .pack .ensures, e .write-entry .ensures)
 
 pub write-start-spec : {M : Type 1} → statement M
 write-start-spec =
     tie.close
     (tie.spec
-    starts-after-requires
     returns
     pack-requires
     write-entry-requires
-    add-t14
+    add-next
     same-length
     same-length-2
     same-length-3

@@ -21,7 +21,7 @@ spline-at-requires c κs = search needs
 loop-holds : tie.Need-loop-holds Inv-loop μ-loop
 loop-holds c = walking-start (c .spline-at .ensures)
 
--- ---- the places of a turn: where it begins, and, from its end, after the row and after the spline; and the function's start
+-- ---- the places of a turn: where it begins, and, from its end, after the row, after the test for a Start and after the spline; and the function's start
 abbrev Turn : Type 0
 Turn = tie.In-loop Inv-loop μ-loop
 
@@ -37,6 +37,9 @@ turn c = search
 unfoldable read : Done → tie.After-spline-at2 Inv-loop μ-loop
 read c = search
 
+unfoldable told : Done → tie.After-starts-after Inv-loop μ-loop
+told c = search
+
 unfoldable written : Done → tie.After-write-spline Inv-loop μ-loop
 written c = search
 
@@ -46,6 +49,9 @@ cast-spline-at c = omega (arith, c .before .loop .inv .within, start c .fits .n)
 
 spline-at-requires-2 : tie.Need-spline-at-requires-2 Inv-loop μ-loop
 spline-at-requires-2 c κs = search needs
+
+starts-after-requires : tie.Need-starts-after-requires Inv-loop μ-loop
+starts-after-requires c κs = search needs
 
 write-spline-requires : tie.Need-write-spline-requires Inv-loop μ-loop
 unfolding start
@@ -67,10 +73,10 @@ unfolding turn
 loop-less c = omega (arith, turn c .loop-test .taken)
 
 loop-again : tie.Need-loop-again Inv-loop μ-loop
-unfolding turn read written
+unfolding turn read told written
 loop-again c =
-    walking-more (turn c .before .loop .inv) (turn c .loop-test .taken) (read c .spline-at2 .ensures) (written c .write-spline .ensures)
-    (same-kept _ _ (written c .write-spline .kept .1 .1))
+    walking-more (turn c .before .loop .inv) (turn c .loop-test .taken) (read c .spline-at2 .ensures) (told c .starts-after .ensures)
+    (written c .write-spline .ensures) (same-kept _ _ (written c .write-spline .kept .1 .1))
 
 same-length : tie.Need-same-length Inv-loop μ-loop
 same-length c = c .before .loop .inv .long .words
@@ -97,6 +103,7 @@ write-walk-spec =
     loop-holds
     cast-spline-at
     spline-at-requires-2
+    starts-after-requires
     write-spline-requires
     add-k
     sub-left
