@@ -36,22 +36,29 @@ pub record Delivered (setting : Setting) (f : Flattening) (o : Output) : Type 0 
   pub points : f .result .points ≡ length (itemsOf setting f)
   pub written : f .output ≡ writeOutput (quadRowAt (f .quads)) (f .splines) (itemsOf setting f) o
 
-walked-done : (setting : Setting) (b : Bool) (w : World) (o : Output) → fitsOutput (length (walkOf setting (quadRowAt (w .quads)) (w .splines) (w .state .splines))) o ≡ b → isDone (walked b w (walkOf setting (quadRowAt (w .quads)) (w .splines) (w .state .splines)) o .result .answer) ≡ true → Delivered setting (walked b w (walkOf setting (quadRowAt (w .quads)) (w .splines) (w .state .splines)) o) o
+walked-done : (setting : Setting) (b : Bool) (w : World) (o : Output)
+    → fitsOutput (length (walkOf setting (quadRowAt (w .quads)) (w .splines) (w .state .splines))) o ≡ b
+    → isDone (walked b w (walkOf setting (quadRowAt (w .quads)) (w .splines) (w .state .splines)) o .result .answer) ≡ true
+    → Delivered setting (walked b w (walkOf setting (quadRowAt (w .quads)) (w .splines) (w .state .splines)) o) o
 unfolding walked
 walked-done setting true w o e h = record { fits = e; points = refl; written = refl }
 walked-done setting false w o e h = absurd (let z : _≡_ {A = ℕ} 0 1 = cc in omega arith)
 
-tabled-done : (setting : Setting) (b : Bool) (w : World) (o : Output) → isDone (w .state .answer) ≡ b → isDone (tabled setting b w o .result .answer) ≡ true → Delivered setting (tabled setting b w o) o
+tabled-done : (setting : Setting) (b : Bool) (w : World) (o : Output) → isDone (w .state .answer) ≡ b → isDone (tabled setting b w o .result .answer) ≡ true
+    → Delivered setting (tabled setting b w o) o
 unfolding tabled
-tabled-done setting true w o e h = walked-done setting (fitsOutput (length (walkOf setting (quadRowAt (w .quads)) (w .splines) (w .state .splines))) o) w o refl h
+tabled-done setting true w o e h = walked-done setting
+    (fitsOutput (length (walkOf setting (quadRowAt (w .quads)) (w .splines) (w .state .splines))) o) w o refl h
 tabled-done setting false w o e h = absurd (let z : _≡_ {A = ℕ} 0 1 = cc in omega arith)
 
-drawable-done : (b : Bool) (setting : Setting) (st : StoreState) (c : Columns) (q : QuadTable) (s : SplineTable) (o : Output) → isDone (flattenDrawable b setting st c q s o .result .answer) ≡ true → Delivered setting (flattenDrawable b setting st c q s o) o
+drawable-done : (b : Bool) (setting : Setting) (st : StoreState) (c : Columns) (q : QuadTable) (s : SplineTable) (o : Output)
+    → isDone (flattenDrawable b setting st c q s o .result .answer) ≡ true → Delivered setting (flattenDrawable b setting st c q s o) o
 unfolding flattenDrawable
 drawable-done true setting st c q s o h = let w = tablesOf setting st c q s in tabled-done setting (isDone (w .state .answer)) w o refl h
 drawable-done false setting st c q s o h = absurd (let z : _≡_ {A = ℕ} 0 1 = cc in omega arith)
 
-pub flatten-done : (setting : Setting) (st : StoreState) (c : Columns) (q : QuadTable) (s : SplineTable) (o : Output) → isDone (flattenOf setting st c q s o .result .answer) ≡ true → Delivered setting (flattenOf setting st c q s o) o
+pub flatten-done : (setting : Setting) (st : StoreState) (c : Columns) (q : QuadTable) (s : SplineTable) (o : Output)
+    → isDone (flattenOf setting st c q s o .result .answer) ≡ true → Delivered setting (flattenOf setting st c q s o) o
 unfolding flattenOf
 flatten-done setting st c q s o h = drawable-done (drawableOf st c) setting st c q s o h
 
@@ -65,13 +72,18 @@ module _ {A : Type 0} where
   tail-at : (l : List A) (i : ℕ) (v : A) (rest : List A) → drop i l ≡ v ∷ rest → drop (i + 1) l ≡ rest
   tail-at l i v rest h = sym (drop-drop 1 i l) ∙ ap (drop 1) h
 
-pub points-from : (ps : List Finished) (i : ℕ) (x y : List Float) (end : List ℕ) (rx ry : List Float) (re : List ℕ) → drop i x ≡ map (λ p. p .point .x) ps ++ rx → drop i y ≡ map (λ p. p .point .y) ps ++ ry → drop i end ≡ map (λ p. flagByteOf (p .end)) ps ++ re → columnPoints i (length ps) x y end ≡ ps
+pub points-from : (ps : List Finished) (i : ℕ) (x y : List Float) (end : List ℕ) (rx ry : List Float) (re : List ℕ)
+    → drop i x ≡ map (λ p. p .point .x) ps ++ rx → drop i y ≡ map (λ p. p .point .y) ps ++ ry → drop i end ≡ map (λ p. flagByteOf (p .end)) ps ++ re
+    → columnPoints i (length ps) x y end ≡ ps
 unfolding columnPoints
 points-from [] i x y end rx ry re hx hy he = refl
 points-from (p ∷ ps) i x y end rx ry re hx hy he =
-    ap (λ (v : Float). finished (pointAt v (getD y i nan)) (isFlagOf (getD end i 0)) ∷ columnPoints (i + 1) (length ps) x y end) (head-at x i nan (p .point .x) (map (λ q. q .point .x) ps ++ rx) hx)
-    ∙ ap (λ (v : Float). finished (pointAt (p .point .x) v) (isFlagOf (getD end i 0)) ∷ columnPoints (i + 1) (length ps) x y end) (head-at y i nan (p .point .y) (map (λ q. q .point .y) ps ++ ry) hy)
-    ∙ ap (λ (v : ℕ). finished (p .point) (isFlagOf v) ∷ columnPoints (i + 1) (length ps) x y end) (head-at end i 0 (flagByteOf (p .end)) (map (λ q. flagByteOf (q .end)) ps ++ re) he)
+    ap (λ (v : Float). finished (pointAt v (getD y i nan)) (isFlagOf (getD end i 0)) ∷ columnPoints (i + 1) (length ps) x y end)
+    (head-at x i nan (p .point .x) (map (λ q. q .point .x) ps ++ rx) hx)
+    ∙ ap (λ (v : Float). finished (pointAt (p .point .x) v) (isFlagOf (getD end i 0)) ∷ columnPoints (i + 1) (length ps) x y end)
+    (head-at y i nan (p .point .y) (map (λ q. q .point .y) ps ++ ry) hy)
+    ∙ ap (λ (v : ℕ). finished (p .point) (isFlagOf v) ∷ columnPoints (i + 1) (length ps) x y end)
+    (head-at end i 0 (flagByteOf (p .end)) (map (λ q. flagByteOf (q .end)) ps ++ re) he)
     ∙ ap (λ (b : Bool). finished (p .point) b ∷ columnPoints (i + 1) (length ps) x y end) (flag-back (p .end))
     ∙ ap (λ (r : List Finished). p ∷ r)
     (points-from ps (i + 1) x y end rx ry re
@@ -97,8 +109,15 @@ module _ (setting : Setting) (f : Flattening) (o : Output) (d : Delivered settin
       let w = writeOutput (quadRowAt (f .quads)) (f .splines) (itemsOf setting f) o in
       ap (λ (n : ℕ). columnPoints 0 n (f .output .x) (f .output .y) (f .output .end)) (sym delivered-count)
       ∙ ap (λ (u : Output). columnPoints 0 (length delivered) (u .x) (u .y) (u .end)) (d .written)
-      ∙ points-from delivered 0 (w .x) (w .y) (w .end) (drop (length (map (λ p. p .point .x) delivered)) (o .x)) (drop (length (map (λ p. p .point .y) delivered)) (o .y)) (drop (length (map (λ p. flagByteOf (p .end)) delivered)) (o .end)) refl refl refl
+      ∙ points-from delivered 0 (w .x) (w .y) (w .end) (drop (length (map (λ p. p .point .x) delivered)) (o .x))
+      (drop (length (map (λ p. p .point .y) delivered)) (o .y)) (drop (length (map (λ p. flagByteOf (p .end)) delivered)) (o .end)) refl refl refl
 
   pub delivered-fit : f .result .points ≤ length (o .words)
   unfolding fitsOutput
-  delivered-fit = omega (arith, d .points, leb-true (length (itemsOf setting f)) (length (o .words)) (first-of (leb (length (itemsOf setting f)) (length (o .words))) (leb (length (itemsOf setting f)) (length (o .x))) (leb (length (itemsOf setting f)) (length (o .y))) (leb (length (itemsOf setting f)) (length (o .end))) (d .fits)))
+  delivered-fit = omega (
+    arith,
+    d .points,
+    leb-true (length (itemsOf setting f)) (length (o .words))
+        (first-of (leb (length (itemsOf setting f)) (length (o .words))) (leb (length (itemsOf setting f)) (length (o .x)))
+        (leb (length (itemsOf setting f)) (length (o .y))) (leb (length (itemsOf setting f)) (length (o .end))) (d .fits)),
+  )
