@@ -2,11 +2,13 @@
 use crate::Angle;
 use crate::Setting;
 ghost use mathlib.Core.Path.{_≡_};
-ghost use Rattle.point.specs.Angle.{approxAtan2Of, diffOf, changedOf};
+ghost use Rattle.point.specs.Angle.{approxAtan2Of, diffOf, fullDiffOf, differenceOf, changedOf};
 
 const PI: f32 = 3.1415927;
 
 const FRAC_PI_2: f32 = 1.5707964;
+
+const TWO_PI: f32 = 6.2831855;
 
 const MAX_ANGLE_ERROR: f32 = 0.001;
 
@@ -51,7 +53,28 @@ pub fn diff(a0: f32, a1: f32) -> f32
     diff
 }
 
-// This is the same in both settings.
+// How far two directions are apart around the full turn, where one and its reverse are a half turn apart.
+pub fn full_diff(a0: f32, a1: f32) -> f32
+    ensures { λ r. ⌜ r ≡ fullDiffOf a0 a1 ⌝ }
+{
+    let turn = leaves::abs(a1 - a0);
+    let rest = TWO_PI - turn;
+    if rest < turn {
+        return rest;
+    }
+    turn
+}
+
+fn difference(setting: Setting, a0: f32, a1: f32) -> f32
+    ensures { λ r. ⌜ r ≡ differenceOf setting a0 a1 ⌝ }
+{
+    match setting {
+        Setting::Screen => diff(a0, a1),
+        Setting::Knife => full_diff(a0, a1),
+    }
+}
+
+// A slit goes out and back: the knife has to see the reversal, which the screen folds away.
 pub fn changed(setting: Setting, a0: Angle, a1: Angle) -> bool
     ensures { λ r. ⌜ r ≡ changedOf setting a0 a1 ⌝ }
 {
@@ -59,7 +82,7 @@ pub fn changed(setting: Setting, a0: Angle, a1: Angle) -> bool
         Angle::Missing => false,
         Angle::Known(last) => match a1 {
             Angle::Missing => false,
-            Angle::Known(next) => diff(last, next) > MAX_ANGLE_ERROR,
+            Angle::Known(next) => difference(setting, last, next) > MAX_ANGLE_ERROR,
         },
     }
 }

@@ -12,6 +12,7 @@ pub use curve::quad_at;
 pub use direction::approx_atan2;
 pub use direction::changed;
 pub use direction::diff;
+pub use direction::full_diff;
 ghost use mathlib.Core.Path.{_≡_};
 ghost use Rattle.leaves.specs.Single.{_⊕_, _⊗_};
 ghost use Rattle.point.specs.Point.{pointAt, plain, rationalOf, appliedOf, minusOf, sameOf, lenOf};
@@ -22,7 +23,7 @@ pub struct Point {
     pub y: f32,
 }
 
-// The screen setting is the Rust's. In the knife setting a line without angle keeps the last angle.
+// The screen setting is the Rust's. In the knife setting a line without angle keeps the last angle, and a reversal is a corner.
 pub enum Setting {
     Screen,
     Knife,

@@ -16,8 +16,8 @@ enum-told-2 c = search needs
 enum-known-a1 : tie.Need-enum-known-a1
 enum-known-a1 c = search needs
 
-diff-requires : tie.Need-diff-requires
-diff-requires c κs = search needs
+difference-requires : tie.Need-difference-requires
+difference-requires c κs = search needs
 
 returns : tie.Need-returns
 unfolding changedOf
@@ -39,7 +39,7 @@ changed-spec =
     enum-known-a0
     enum-told-2
     enum-known-a1
-    diff-requires
+    difference-requires
     returns
     returns-2
     returns-3)
