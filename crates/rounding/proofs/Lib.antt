@@ -4,6 +4,7 @@ pub mod Rounding
 pub mod Packing
 pub mod Parts
 pub mod Values
+pub mod Differences
 pub mod Sums
 pub mod Lifts
 pub mod Roots
