@@ -22,3 +22,4 @@ pub mod RootNearest
 pub mod RootOnly
 pub mod Cuts
 pub mod RootLargest
+pub mod Bounds

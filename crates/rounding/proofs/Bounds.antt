@@ -1,0 +1,129 @@
+-- A value of the format is rounded to itself, so a fraction that does not lie above it, or below it, is rounded to a float that does not either.
+-- Assumes nothing.
+use mathlib.Core.Path.{_≡_, refl, sym, ap, _∙_, subst}
+use mathlib.Core.Bool.{Bool, true, false, _&&_, _||_, cond, true≢false}
+use Prim.Native.Nat.{ℕ, suc, _+_, _*_, _^_, _≤_, _<_}
+use native.Mathlib.Nat.{le-of-lt, le-of-eq, mul-right-comm, eq-of-mul-eq-mul-right}
+use lib.Dec.{T, ltb, leb, eqb, ltb→lt, eqb→eq}
+use lib.Pow.{pow-pos}
+use lib.Ieee.{Float, nan, inf, fin, Format, prec, emax, low, up, down, odd, units, round, le, fits, top, toBits}
+use lib.Ieee.Fits.{and-l, down-pos, round-is, round-fits}
+use lib.Ieee.Exact.{HasValue, odd-sign, round-exact}
+use lib.Ieee.Order.{drop, kept, round-mono}
+use lib.Ieee.Positive.{num, den, den-pos, through}
+use lib.Ieee.Scale.{finite, round-same}
+use Rattle.rounding.specs.Parts.{sig, place}
+use Rattle.rounding.proofs.Parts.{sig-lt}
+use Rattle.rounding.proofs.Values.{worth, worth-value, worth-cross, worth-under, value-finite, cross}
+use Rattle.rounding.proofs.Distances.{same-float}
+
+-- finite, not negative, and at most n / d
+abbrev pub AtMost : Float → ℕ → ℕ → Type 0
+AtMost nan n d = ⊥
+AtMost (inf s) n d = ⊥
+AtMost (fin s m e) n d = (s ≡ false) × (m * up e * d ≤ n * down e)
+
+-- finite, not negative, and at least n / d
+abbrev pub AtLeast : Float → ℕ → ℕ → Type 0
+AtLeast nan n d = ⊥
+AtLeast (inf s) n d = ⊥
+AtLeast (fin s m e) n d = (s ≡ false) × (n * down e ≤ m * up e * d)
+
+-- ---- a value of the format is rounded to itself
+one-sign : (x : Float) (s t : Bool) (a c b d : ℕ) → HasValue x s a c → HasValue x t b d → HasValue x t a c
+one-sign nan s t a c b d v w = v
+one-sign (inf i) s t a c b d v w = v
+one-sign (fin i m e) s t a c b d v w = (w .0, v .1)
+
+own : (f : Format) (x : Float) → T (fits f x) → T (finite x) → HasValue (round f false (worth f x) (2 ^ low f)) false (worth f x) (2 ^ low f)
+unfolding worth
+own f x F h =
+    let b = toBits f x in
+    round-exact f false (worth f x) (2 ^ low f) (sig f b) (place f b) (pow-pos (low f)) (sig-lt f b) (worth-under f x F h) refl
+
+pub round-kept : (f : Format) (B : Float) (n d : ℕ) → T (fits f B) → 0 < d → HasValue B false n d → round f false n d ≡ B
+round-kept f B n d F D v =
+    let w = worth f B in
+    let l = 2 ^ low f in
+    let h = value-finite B false n d v in
+    let s = leb (top f) (toBits f B) in
+    let is : n * l ≡ w * d = eq-of-mul-eq-mul-right (den B) (den-pos B) (n * l) (w * d)
+    (mul-right-comm n l (den B) ∙ ap (λ (z : ℕ). z * l) (sym (cross B false n d v)) ∙ mul-right-comm (num B) d l
+    ∙ ap (λ (z : ℕ). z * d) (worth-cross f B F h) ∙ mul-right-comm w (den B) d) in
+    round-same f false n d w l D (pow-pos (low f)) is
+    ∙ same-float f (round f false w l) B false w (round-fits f false w l) F (own f B F h) (one-sign B s false w l n d (worth-value f B F h) v)
+
+-- ---- what is rounded from a fraction that is not negative is no NaN and not negative
+abbrev Unsigned : Float → Type 0
+Unsigned nan = ⊥
+Unsigned (inf s) = s ≡ false
+Unsigned (fin s m e) = s ≡ false
+
+value-unsigned : (x : Float) (a c : ℕ) → HasValue x false a c → Unsigned x
+value-unsigned nan a c v = v
+value-unsigned (inf s) a c v = absurd v
+value-unsigned (fin s m e) a c v = v .0
+
+units-unsigned : (f : Format) (q k : ℕ) → Unsigned (units f false q k)
+unfolding units
+units-unsigned f q k = go (ltb (q * 2 ^ k) (2 ^ (low f + suc (emax f))))
+  where
+    go : (b : Bool) → Unsigned (cond b (odd (suc (prec f)) false q k (low f)) (inf false))
+    go true = value-unsigned (odd (suc (prec f)) false q k (low f)) (q * 2 ^ k) (2 ^ low f) (odd-sign (suc (prec f)) false q k (low f))
+    go false = refl
+
+round-unsigned : (f : Format) (a c : ℕ) → Unsigned (round f false a c)
+round-unsigned f a c =
+    let p = prec f in
+    let n = a * 2 ^ low f in
+    subst (λ (x : Float). Unsigned x) (sym (round-is f false a c)) (units-unsigned f (kept p n c) (drop p n c))
+
+-- ---- the order of two such floats is that of the fractions
+by-test : (a b : ℕ) → T (ltb a b || (eqb a b && true)) → a ≤ b
+by-test a b h = go (ltb a b) (ltb→lt a b) h
+  where
+    go : (t : Bool) → (T t → a < b) → T (t || (eqb a b && true)) → a ≤ b
+    go true l h = le-of-lt (l tt)
+    go false l h = le-of-eq (eqb→eq a b (and-l (eqb a b) true h))
+
+at-most : (x B : Float) (n d : ℕ) → Unsigned x → HasValue B false n d → T (le x B) → AtMost x n d
+unfolding le
+at-most nan B n d u v h = u
+at-most (inf true) B n d u v h = absurd (true≢false u)
+at-most (inf false) nan n d u v h = v
+at-most (inf false) (inf t) n d u v h = v
+at-most (inf false) (fin t k g) n d u v h = h
+at-most (fin true m e) B n d u v h = absurd (true≢false u)
+at-most (fin false m e) nan n d u v h = absurd v
+at-most (fin false m e) (inf t) n d u v h = absurd v
+at-most (fin false m e) (fin true k g) n d u v h = absurd (true≢false (v .0))
+at-most (fin false m e) (fin false k g) n d u v h = (
+  refl,
+  through (m * up e) (k * up g) n (down e) (down g) d (down-pos g) (by-test (m * up e * down g) (k * up g * down e) h) (le-of-eq (v .1)),
+)
+
+at-least : (x B : Float) (n d : ℕ) → Unsigned x → HasValue B false n d → T (finite x) → T (le B x) → AtLeast x n d
+unfolding le
+at-least nan B n d u v w h = u
+at-least (inf s) B n d u v w h = w
+at-least (fin true m e) B n d u v w h = absurd (true≢false u)
+at-least (fin false m e) nan n d u v w h = absurd v
+at-least (fin false m e) (inf t) n d u v w h = absurd v
+at-least (fin false m e) (fin true k g) n d u v w h = absurd (true≢false (v .0))
+at-least (fin false m e) (fin false k g) n d u v w h = (
+  refl,
+  through n (k * up g) (m * up e) d (down g) (down e) (down-pos g) (le-of-eq (sym (v .1))) (by-test (k * up g * down e) (m * up e * down g) h),
+)
+
+-- ---- a / c against n / d, which is a value of the format
+pub round-at-most : (f : Format) (B : Float) (a c n d : ℕ) → T (fits f B) → HasValue B false n d → 0 < c → 0 < d → a * d ≤ n * c
+    → AtMost (round f false a c) n d
+round-at-most f B a c n d F v C D h =
+    at-most (round f false a c) B n d (round-unsigned f a c) v
+    (subst (λ (z : Float). T (le (round f false a c) z)) (round-kept f B n d F D v) (round-mono f a c n d C D h))
+
+pub round-at-least : (f : Format) (B : Float) (a c n d : ℕ) → T (fits f B) → HasValue B false n d → 0 < c → 0 < d → n * c ≤ a * d
+    → T (finite (round f false a c)) → AtLeast (round f false a c) n d
+round-at-least f B a c n d F v C D h w =
+    at-least (round f false a c) B n d (round-unsigned f a c) v w
+    (subst (λ (z : Float). T (le z (round f false a c))) (round-kept f B n d F D v) (round-mono f n d a c D C h))
