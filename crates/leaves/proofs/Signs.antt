@@ -2,13 +2,13 @@
 -- makes. Assumes nothing.
 use mathlib.Core.Path.{_≡_, refl, sym, ap, ap₂, _∙_, subst}
 use mathlib.Core.Bool.{Bool, true, false, not, _&&_, _||_, Bool·beq, cond}
-use Prim.Native.Nat.{ℕ, _+_, _*_, _<_, _≤_}
+use Prim.Native.Nat.{ℕ, zero, suc, _+_, _-_, _*_, _/_, _%_, _^_, _<_, _≤_, compare}
 use native.Mathlib.Nat.{le-add-right}
 use native.Mathlib.Omega.{arith}
 use borrow.Author.Tests.{le-leb, lt-leb, eq-eqb}
 use lib.IntN.{ℤ}
-use lib.Dec.{T, leb, eqb}
-use lib.Ieee.{Float, nan, inf, fin, Format, binary32, up, down, top, lt, eq, ne, neg, fits, isNan, toBits}
+use lib.Dec.{T, leb, ltb, eqb}
+use lib.Ieee.{Float, nan, inf, fin, Format, binary32, prec, emax, low, up, down, size, nearest, odd, units, round, top, lt, eq, ne, neg, fits, isNan, toBits}
 use lib.Ieee.Fits.{neg-fits}
 use lib.Ieee.Bits.{toBits-lt}
 use Rattle.leaves.specs.Small.{negativeOf, absOf, lessOf, minOf, maxOf, clampOf}
@@ -101,3 +101,25 @@ max-is x y n l h k = ap₂ (λ (a b : Bool). cond (a || b) y x) (sym h ∙ nan-t
 pub clamp-is : (x lo hi : Float) (t u : Bool) → lt x lo ≡ t → lt hi x ≡ u → cond t lo (cond u hi x) ≡ clampOf x lo hi
 unfolding clampOf
 clamp-is x lo hi t u h k = ap₂ (λ (a b : Bool). cond a lo (cond b hi x)) (sym h) (sym k)
+
+-- ---- what is rounded has the sign it was given, so its size is what is rounded without
+abs-odd : (d : ℕ) (s : Bool) (q k l : ℕ) → absOf (odd d s q k l) ≡ odd d false q k l
+unfolding odd absOf
+abs-odd d s zero k l = refl
+abs-odd d s (suc q) k l = refl
+
+abs-units : (f : Format) (s : Bool) (q k : ℕ) → absOf (units f s q k) ≡ units f false q k
+unfolding units absOf
+abs-units f s q k = go (ltb (q * 2 ^ k) (2 ^ (low f + suc (emax f))))
+  where
+    go : (b : Bool) → absOf (cond b (odd (suc (prec f)) s q k (low f)) (inf s)) ≡ cond b (odd (suc (prec f)) false q k (low f)) (inf false)
+    go true = abs-odd (suc (prec f)) s q k (low f)
+    go false = refl
+
+pub abs-round : (f : Format) (s : Bool) (a c : ℕ) → absOf (round f s a c) ≡ round f false a c
+unfolding round
+abs-round f s a c =
+    let n = a * 2 ^ low f in
+    let k = size (n / c) - prec f in
+    let u = c * 2 ^ k in
+    abs-units f s (nearest (n / u) (compare (n % u * 2) u)) k

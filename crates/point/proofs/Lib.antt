@@ -3,3 +3,7 @@ pub mod Ones
 pub mod Exact
 pub mod Quarter
 pub mod Lengths
+pub mod TurnSizes
+pub mod Grids
+pub mod Turns
+pub mod TurnLaws

@@ -1,3 +1,4 @@
 pub mod Point
 pub mod Angle
+pub mod Turning
 pub mod Curve

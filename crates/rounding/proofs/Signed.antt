@@ -45,6 +45,22 @@ by-order {X} a b h k = go (ltb a b) (ltb→lt a b) (nltb→le a b)
     go true p q = h (p tt)
     go false p q = k (q tt)
 
+either : (a b : ℕ) → cond (ltb b a) (a - b) (b - a) ≡ cond (ltb a b) (b - a) (a - b)
+either a b =
+    by-order a b (λ h. ap (λ (x : Bool). cond x (a - b) (b - a)) (le-ltb b a (less h)) ∙ sym (ap (λ (x : Bool). cond x (b - a) (a - b)) (lt-ltb a b h)))
+    (λ h. level h ∙ sym (ap (λ (x : Bool). cond x (b - a) (a - b)) (le-ltb a b h)))
+  where
+    less : a < b → a ≤ b
+    less h = omega arith
+
+    same : a ≤ b → b ≤ a → b - a ≡ a - b
+    same h k = omega arith
+
+    level : b ≤ a → cond (ltb b a) (a - b) (b - a) ≡ a - b
+    level h =
+        by-order b a (λ k. ap (λ (x : Bool). cond x (a - b) (b - a)) (lt-ltb b a k))
+        (λ k. ap (λ (x : Bool). cond x (a - b) (b - a)) (le-ltb b a k) ∙ same k h)
+
 difference : (a b : ℕ) → natAbs (pos a +ℤ negℤ (pos b)) ≡ gap a b
 difference a b = by-order a b (λ h. ap natAbs (less-is a b h) ∙ abs-neg (b - a) ∙ below a b h) (λ h. ap natAbs (more-is a b h) ∙ above a b h)
   where
@@ -172,6 +188,14 @@ module _ (s : Bool) (a : ℕ) (t : Bool) (b w : ℕ) (W : 0 < w) where
 
   pub sum-scaled : (f : Format) (c : ℕ) → round f (sumSign s a t b) (sumSize s a t b * w) c ≡ sum f s (a * w) t (b * w) c
   sum-scaled f c = sym (sum-rounds f s (a * w) t (b * w) c ∙ ap₂ (λ (x : Bool) (y : ℕ). round f x y c) sign-scale size-scale)
+
+-- a - b and b - a have the same size
+pub size-swap : (s : Bool) (a : ℕ) (t : Bool) (b : ℕ) → sumSize t b (not s) a ≡ sumSize s a (not t) b
+unfolding sumSize
+size-swap true a false b = add-comm b a
+size-swap false a true b = add-comm b a
+size-swap true a true b = either a b
+size-swap false a false b = either a b
 
 pub sumSize-lt : (s : Bool) (a : ℕ) (t : Bool) (b c : ℕ) → a < c → b < c → sumSize s a t b < c + c
 unfolding sumSize

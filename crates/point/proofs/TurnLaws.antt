@@ -1,0 +1,162 @@
+-- The laws of the two differences, turn by turn: the one around the full turn is from 0 to π, its rest is exact above π, and it says changed where the folded
+-- one does and where the turn lies within 0.001 of π. Assumes nothing.
+use mathlib.Core.Path.{_≡_, refl, sym, ap, ap₂, _∙_, subst}
+use mathlib.Core.Bool.{Bool, true, false, _&&_, _||_, cond, true≢false}
+use Prim.Native.Nat.{ℕ, zero, suc, _+_, _-_, _*_, _^_, _≤_, _<_, zero-le}
+use native.Mathlib.Nat.{mul-assoc, mul-comm, mul-left-comm, mul-right-comm, mul-pos, zero-mul, zero-lt-suc, le-trans, le-of-eq, le-of-lt, mul-le-mul-right, add-mul}
+use native.Mathlib.Nat.{eq-of-mul-eq-mul-right}
+use native.Mathlib.Omega.{arith}
+use mathlib.Core.Logic.{inl, inr}
+use borrow.Author.Tests.{le-ltb, lt-ltb, le-leb, lt-leb, leb-true, ltb-true}
+use lib.IntN.{ℤ, pos, negsuc}
+use lib.Dec.{T, leb, ltb, lit≤}
+use lib.Ieee.{Float, nan, inf, fin, binary32, up, down, round, lt, le, fits, ofBits}
+use lib.Ieee.Bits.{is-true}
+use lib.Ieee.Exact.{HasValue}
+use lib.Ieee.Fits.{down-pos}
+use lib.Ieee.Positive.{num, den, den-pos, through}
+use lib.Ieee.Scale.{finite}
+use Rattle.rounding.proofs.Basics.{le-or-lt}
+use Rattle.rounding.proofs.Bounds.{AtMost, AtLeast, round-at-most, round-at-least}
+use Rattle.rounding.proofs.Differences.{lt-values, le-values, minus-values}
+use Rattle.rounding.proofs.Values.{cross}
+use Rattle.leaves.specs.Single.{_⊖_, zero32}
+use Rattle.leaves.specs.Small.{absOf}
+use Rattle.leaves.proofs.Signs.{abs-round}
+use Rattle.point.specs.Angle.{pi, halfPi, twoPi, maxAngleError, turnOf}
+use Rattle.point.specs.Turning.{Sums}
+use Rattle.point.proofs.Digits.{nought, zero-is}
+use Rattle.point.proofs.Grids.{minus-at, round-at, on-grid, grid-more, grid-most}
+use Rattle.point.proofs.TurnSizes.{half-turn-value, full-turn-value, error-value, pi-fits, half-fits, quarter-turn-value, turn-symmetric}
+use Rattle.point.proofs.Turns.{aroundOf, foldedOf, fromPi, Where, short, wide, long, where-of, around-short, around-long, folded-short, folded-wide, folded-third}
+use Rattle.point.proofs.Turns.{folded-fourth, beyond-is, beyond-value, rest-value, rest-is, error-less, either-error, half-at}
+
+-- ---- how far a turn lies from π
+-- π less a turn up to π/2 is π/2 or more
+short-far : (m : ℕ) (e : ℤ) → m * up e * 8388608 ≤ 13176795 * down e → le (fromPi (fin false m e)) maxAngleError ≡ false
+short-far m e h =
+    let N = m * up e in
+    let D = down e in
+    let t = fin false m e in
+    let Q = 26353590 * D - N * 8388608 in
+    let C : 0 < 8388608 * D = mul-pos (zero-lt-suc 8388607) (down-pos e) in
+    let is : fromPi t ≡ round binary32 false Q (8388608 * D) =
+    turn-symmetric pi t
+    ∙ ap absOf (minus-values binary32 pi t 26353590 8388608 N D (zero-lt-suc 8388607) (down-pos e) half-turn-value (refl, refl) (below (N * 8388608) D h))
+    ∙ abs-round binary32 false Q (8388608 * D) in
+    subst (λ (x : Float). le x maxAngleError ≡ false) (sym is)
+    (far (round binary32 false Q (8388608 * D))
+    (round-at-least binary32 halfPi Q (8388608 * D) 13176795 8388608 half-fits quarter-turn-value C (zero-lt-suc 8388607) (least (N * 8388608) D h)
+    (bounded (round binary32 false Q (8388608 * D))
+    (round-at-most binary32 pi Q (8388608 * D) 26353590 8388608 pi-fits half-turn-value C (zero-lt-suc 8388607) (most (N * 8388608) D)))))
+  where
+    below : (X D : ℕ) → X ≤ 13176795 * D → X ≤ 26353590 * D
+    below X D h = omega arith
+
+    least : (X D : ℕ) → X ≤ 13176795 * D → 13176795 * (8388608 * D) ≤ (26353590 * D - X) * 8388608
+    least X D h = omega arith
+
+    most : (X D : ℕ) → (26353590 * D - X) * 8388608 ≤ 26353590 * (8388608 * D)
+    most X D = omega arith
+
+    bounded : (x : Float) → AtMost x 26353590 8388608 → T (finite x)
+    bounded nan h = h
+    bounded (inf s) h = h
+    bounded (fin s m e) h = tt
+
+    more : (X D : ℕ) → 0 < D → 13176795 * D ≤ X * 8388608 → 8589935 * D < X * 8589934592
+    more X D P h = omega arith
+
+    far : (x : Float) → AtLeast x 13176795 8388608 → le x maxAngleError ≡ false
+    far nan a = absurd a
+    far (inf s) a = absurd a
+    far (fin true n d) a = absurd (true≢false (a .0))
+    far (fin false n d) a =
+        le-values (fin false n d) maxAngleError (n * up d) (down d) 8589935 8589934592 (down-pos d) (zero-lt-suc 8589934591) (refl, refl) error-value
+        ∙ lt-leb (n * up d * 8589934592) (8589935 * down d) (more (n * up d) (down d) (down-pos d) (a .1))
+
+wide-from : (t : Float) (n : ℕ) → HasValue t false n 8388608 → n ≤ 26353590 → fromPi t ≡ round binary32 false (26353590 - n) 8388608
+wide-from t n v k =
+    turn-symmetric pi t ∙ ap absOf (minus-at 23 pi t 26353590 n half-turn-value v k) ∙ abs-round binary32 false (26353590 - n) 8388608
+
+long-from : (t : Float) (n : ℕ) → HasValue t false n 4194304 → 13176795 < n → fromPi t ≡ round binary32 false (n - 13176795) 4194304
+long-from t n v h = ap absOf (beyond-is t n v h) ∙ abs-round binary32 false (n - 13176795) 4194304
+
+-- ---- parts of 2 ^ 22 against 0.001
+error-under : (x : Float) (n : ℕ) → HasValue x false n 4194304 → 4195 ≤ n → lt maxAngleError x ≡ true
+error-under x n p h =
+    lt-values maxAngleError x 8589935 8589934592 n 4194304 (zero-lt-suc 8589934591) (zero-lt-suc 4194303) error-value p
+    ∙ lt-ltb 36028798730240 (n * 8589934592) (more n h)
+  where
+    more : (n : ℕ) → 4195 ≤ n → 36028798730240 < n * 8589934592
+    more n h = omega arith
+
+over-error : (x : Float) (n : ℕ) → HasValue x false n 4194304 → 4195 ≤ n → le x maxAngleError ≡ false
+over-error x n p h =
+    le-values x maxAngleError n 4194304 8589935 8589934592 (zero-lt-suc 4194303) (zero-lt-suc 8589934591) p error-value
+    ∙ lt-leb (n * 8589934592) 36028798730240 (more n h)
+  where
+    more : (n : ℕ) → 4195 ≤ n → 36028798730240 < n * 8589934592
+    more n h = omega arith
+
+-- ---- beside the folded difference
+abbrev Beside : Float → Type 0
+Beside t = lt maxAngleError (aroundOf t) ≡ lt maxAngleError (foldedOf t) || le (fromPi t) maxAngleError
+
+or-none : (a b c : Bool) → a ≡ b → c ≡ false → a ≡ b || c
+or-none true b c h k = subst (λ (x : Bool). true ≡ x || c) h refl
+or-none false b c h k = ap₂ (λ (x y : Bool). x || y) h (sym k)
+
+short-beside : (m : ℕ) (e : ℤ) → m * up e * 8388608 ≤ 13176795 * down e → Beside (fin false m e)
+short-beside m e h =
+    let t = fin false m e in
+    or-none (lt maxAngleError (aroundOf t)) (lt maxAngleError (foldedOf t)) (le (fromPi t) maxAngleError)
+    (ap (lt maxAngleError) (around-short m e (more (m * up e * 8388608) (down e) h) ∙ sym (folded-short m e h))) (short-far m e h)
+  where
+    more : (X D : ℕ) → X ≤ 13176795 * D → X ≤ 26353590 * D
+    more X D h = omega arith
+
+wide-short : (m : ℕ) (e : ℤ) (n : ℕ) → HasValue (fin false m e) false n 8388608 → n ≤ 26353590 → m * up e * 8388608 ≤ 26353590 * down e
+wide-short m e n v k = le-trans (le-of-eq (v .1)) (mul-le-mul-right (down e) k)
+
+wide-beside : (m : ℕ) (e : ℤ) (n : ℕ) → HasValue (fin false m e) false n 8388608 → 13176795 < n → n ≤ 26353590 → Beside (fin false m e)
+wide-beside m e n v h k =
+    let t = fin false m e in
+    let x = round binary32 false (26353590 - n) 8388608 in
+    ap (lt maxAngleError) (around-short m e (wide-short m e n v k))
+    ∙ error-less t n v (enough n h)
+    ∙ sym (either-error x (26353590 - n) 8388608 (zero-lt-suc 8388607) (round-at 23 (26353590 - n) (lit≤ tt) (few n h)))
+    ∙ sym (ap₂ (λ (a b : Float). lt maxAngleError a || le b maxAngleError) (folded-wide t n v h k) (wide-from t n v k))
+  where
+    enough : (n : ℕ) → 13176795 < n → 8389 ≤ n
+    enough n h = omega arith
+
+    few : (n : ℕ) → 13176795 < n → 26353590 - n < 16777216
+    few n h = omega arith
+
+third-beside : (t : Float) (n : ℕ) → HasValue t false n 4194304 → 13176795 < n → n ≤ 26353590 → (n - 13176795) * 2 ≤ 13176795 → Beside t
+third-beside t n v h k l =
+    let x = round binary32 false (n - 13176795) 4194304 in
+    ap (lt maxAngleError) (around-long t n v h k)
+    ∙ error-under (round binary32 false (26353590 - n) 4194304) (26353590 - n) (rest-value n h) (enough n l)
+    ∙ sym (either-error x (n - 13176795) 4194304 (zero-lt-suc 4194303) (beyond-value n k))
+    ∙ sym (ap₂ (λ (a b : Float). lt maxAngleError a || le b maxAngleError) (folded-third t n v h k l) (long-from t n v h))
+  where
+    enough : (n : ℕ) → (n - 13176795) * 2 ≤ 13176795 → 4195 ≤ 26353590 - n
+    enough n h = omega arith
+
+fourth-beside : (t : Float) (n : ℕ) → HasValue t false n 4194304 → 13176795 < n → n ≤ 26353590 → 13176795 < (n - 13176795) * 2 → Beside t
+fourth-beside t n v h k l =
+    or-none (lt maxAngleError (aroundOf t)) (lt maxAngleError (foldedOf t)) (le (fromPi t) maxAngleError)
+    (ap (lt maxAngleError) (around-long t n v h k ∙ sym (folded-fourth t n v h k l)))
+    (ap (λ (x : Float). le x maxAngleError) (long-from t n v h)
+    ∙ over-error (round binary32 false (n - 13176795) 4194304) (n - 13176795) (beyond-value n k) (enough (n - 13176795) l))
+  where
+    enough : (a : ℕ) → 13176795 < a * 2 → 4195 ≤ a
+    enough a h = omega arith
+
+pub beside : (t : Float) → Where t → Beside t
+beside t (short m e is h) = subst Beside (sym is) (short-beside m e h)
+beside t (wide m e n is v h k) = subst Beside (sym is) (wide-beside m e n (subst (λ (x : Float). HasValue x false n 8388608) is v) h k)
+beside t (long n v h k) =
+    elim (le-or-lt ((n - 13176795) * 2) 13176795) [ inl l ↦ third-beside t n v h k l | inr l ↦ fourth-beside t n v h k l ]

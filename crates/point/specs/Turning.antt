@@ -1,0 +1,59 @@
+-- RULES, Angles 7 to 12: what the comparison of angles promises, apart from its arithmetic. `turning` (point/proofs/Turning) proves it. Assumes nothing.
+use mathlib.Core.Path.{_≡_}
+use mathlib.Core.Bool.{Bool, true, false, _&&_, _||_}
+use Prim.Native.Nat.{_+_, _*_}
+use lib.Dec.{T}
+use lib.Ieee.{Float, lt, le, neg}
+use lib.Ieee.Scale.{finite}
+use lib.Ieee.Positive.{num, den}
+use Rattle.leaves.specs.Single.{_⊖_, f32, zero32, one32}
+use Rattle.leaves.specs.Small.{absOf}
+use Rattle.point.specs.declared.Point.{Point}
+use Rattle.point.specs.declared.Angle.{Angle}
+use Rattle.point.specs.declared.Angle.the-variants.{Missing, Known}
+use Rattle.point.specs.declared.Setting.the-variants.{Screen, Knife}
+use Rattle.point.specs.Point.{pointAt, minusOf}
+use Rattle.point.specs.Angle.{pi, twoPi, maxAngleError, angleOf, turnOf, fullDiffOf, changedOf}
+
+-- "For every finite direction"
+abbrev pub finiteOf : Point → Bool
+finiteOf d = finite (d .x) && finite (d .y)
+
+abbrev pub knownOf : Angle → Bool
+knownOf Missing = false
+knownOf (Known a) = true
+
+-- an angle from -π to π, and so no NaN
+abbrev pub angled : Float → Bool
+angled a = le (absOf a) pi
+
+-- the direction back
+abbrev pub reverseOf : Point → Point
+reverseOf d = pointAt (neg (d .x)) (neg (d .y))
+
+-- x + y is exactly z, for values that are not negative: as fractions
+abbrev pub Sums : Float → Float → Float → Type 0
+Sums x y z = (num x * den y + num y * den x) * den z ≡ num z * (den x * den y)
+
+-- the least direction below the negative x axis that f32 has there
+abbrev pub underLeft : Point
+underLeft = pointAt (neg one32) (f32 0x8000_0001)
+
+pub record Turning : Type 0 where
+  -- "angles lie within ±π"
+  pub within : (d : Point) (a : Float) → T (finiteOf d) → angleOf d ≡ Known a → T (angled a)
+  -- "turn reaches exactly 2π", and no more
+  pub turn-most : (a0 a1 : Float) → T (angled a0) → T (angled a1) → T (le (turnOf a0 a1) twoPi)
+  pub turn-reached : (angleOf underLeft ≡ Known (neg pi)) × (angleOf (pointAt (neg one32) zero32) ≡ Known pi) × (turnOf (neg pi) pi ≡ twoPi)
+  -- "2π ⊖ turn is exact above π"
+  pub rest-exact : (a0 a1 : Float) → T (angled a0) → T (angled a1) → T (lt pi (turnOf a0 a1)) → let turn = turnOf a0 a1 in Sums (twoPi ⊖ turn) turn twoPi
+  -- the difference around the full turn is from 0 to π, 0 for equal angles, and symmetric
+  pub most : (a0 a1 : Float) → T (angled a0) → T (angled a1) → T (le zero32 (fullDiffOf a0 a1) && le (fullDiffOf a0 a1) pi)
+  pub none : (a : Float) → T (angled a) → fullDiffOf a a ≡ zero32
+  pub symmetric : (a0 a1 : Float) → fullDiffOf a0 a1 ≡ fullDiffOf a1 a0
+  -- a reversal always counts as changed for the knife: of a direction and its negative, and of a line out and the same line back
+  pub reversed : (d : Point) → T (finiteOf d) → T (knownOf (angleOf d)) → changedOf Knife (angleOf d) (angleOf (reverseOf d)) ≡ true
+  pub out-and-back : (p q : Point) → let d = minusOf q p in T (finiteOf d) → T (knownOf (angleOf d)) → changedOf Knife (angleOf d) (angleOf (minusOf p q)) ≡ true
+  -- "differs from the screen's only for turns within 0.001 of π, and only by adding changes"
+  pub beside-screen : (a0 a1 : Float) → T (angled a0) → T (angled a1)
+      → changedOf Knife (Known a0) (Known a1) ≡ changedOf Screen (Known a0) (Known a1) || le (absOf (turnOf a0 a1 ⊖ pi)) maxAngleError
