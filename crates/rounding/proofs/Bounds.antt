@@ -1,12 +1,14 @@
 -- A value of the format is rounded to itself, so a fraction that does not lie above it, or below it, is rounded to a float that does not either.
 -- Assumes nothing.
 use mathlib.Core.Path.{_≡_, refl, sym, ap, _∙_, subst}
-use mathlib.Core.Bool.{Bool, true, false, _&&_, _||_, cond, true≢false}
-use Prim.Native.Nat.{ℕ, suc, _+_, _*_, _^_, _≤_, _<_}
-use native.Mathlib.Nat.{le-of-lt, le-of-eq, mul-right-comm, eq-of-mul-eq-mul-right}
+use mathlib.Core.Bool.{Bool, true, false, not, _&&_, _||_, cond, true≢false}
+use Prim.Native.Nat.{ℕ, zero, suc, _+_, _-_, _*_, _^_, _≤_, _<_}
+use native.Mathlib.Nat.{le-of-lt, le-of-eq, le-trans, sub-le, mul-assoc, mul-comm, mul-pos, mul-right-comm, mul-le-mul-right, eq-of-mul-eq-mul-right}
+use borrow.Author.Tests.{le-ltb}
+use lib.IntN.{ℤ}
 use lib.Dec.{T, ltb, leb, eqb, ltb→lt, eqb→eq}
 use lib.Pow.{pow-pos}
-use lib.Ieee.{Float, nan, inf, fin, Format, prec, emax, low, up, down, odd, units, round, le, fits, top, toBits}
+use lib.Ieee.{Float, nan, inf, fin, Format, prec, emax, low, up, down, odd, units, round, sum, add, sub, neg, le, fits, top, toBits}
 use lib.Ieee.Fits.{and-l, down-pos, round-is, round-fits}
 use lib.Ieee.Exact.{HasValue, odd-sign, round-exact}
 use lib.Ieee.Order.{drop, kept, round-mono}
@@ -127,3 +129,49 @@ pub round-at-least : (f : Format) (B : Float) (a c n d : ℕ) → T (fits f B) �
 round-at-least f B a c n d F v C D h w =
     at-least (round f false a c) B n d (round-unsigned f a c) v w
     (subst (λ (z : Float). T (le z (round f false a c))) (round-kept f B n d F D v) (round-mono f n d a c D C h))
+
+-- ---- a wider bound
+pub at-most-wider : (x : Float) (n d p q : ℕ) → 0 < d → n * q ≤ p * d → AtMost x n d → AtMost x p q
+at-most-wider nan n d p q D h l = l
+at-most-wider (inf s) n d p q D h l = l
+at-most-wider (fin s m e) n d p q D h l = (l .0, through (m * up e) n p (down e) d q D (l .1) h)
+
+-- ---- a difference that is not negative is at most what is taken from
+taken : (f : Format) (a b c : ℕ) → b ≤ a → sum f false a true b c ≡ round f false (a - b) c
+unfolding sum
+taken f a b c h = ap (λ (t : Bool). cond t (round f true (b - a) c) (round f false (a - b) c)) (le-ltb a b h)
+
+pub minus-at-most : (f : Format) (o : ℕ) (k : ℤ) (y : Float) → T (fits f (fin false o k)) → AtMost y (o * up k) (down k)
+    → AtMost (sub f (fin false o k) y) (o * up k) (down k)
+unfolding sub add neg
+minus-at-most f o k nan F l = l
+minus-at-most f o k (inf t) F l = absurd l
+minus-at-most f o k (fin true m e) F l = absurd (true≢false (l .0))
+minus-at-most f o k (fin false m e) F l =
+    let O = o * up k in
+    let M = m * up e in
+    let K = down k in
+    let E = down e in
+    subst (λ (x : Float). AtMost x O K) (sym (taken f (O * E) (M * K) (K * E) (l .1)))
+    (round-at-most f (fin false o k) (O * E - M * K) (K * E) O K F (refl, refl) (mul-pos (down-pos k) (down-pos e)) (down-pos k)
+    (le-trans (mul-le-mul-right K (sub-le (O * E) (M * K))) (le-of-eq (mul-assoc O E K ∙ ap (λ (z : ℕ). O * z) (mul-comm E K)))))
+
+-- ---- the sign takes no part in rounding
+odd-neg : (d q k l : ℕ) → neg (odd d true q k l) ≡ odd d false q k l
+unfolding odd neg
+odd-neg d zero k l = refl
+odd-neg d (suc q) k l = refl
+
+units-neg : (f : Format) (q k : ℕ) → neg (units f true q k) ≡ units f false q k
+unfolding units neg
+units-neg f q k = go (ltb (q * 2 ^ k) (2 ^ (low f + suc (emax f))))
+  where
+    go : (b : Bool) → neg (cond b (odd (suc (prec f)) true q k (low f)) (inf true)) ≡ cond b (odd (suc (prec f)) false q k (low f)) (inf false)
+    go true = odd-neg (suc (prec f)) q k (low f)
+    go false = refl
+
+pub round-neg : (f : Format) (a c : ℕ) → neg (round f true a c) ≡ round f false a c
+round-neg f a c =
+    let p = prec f in
+    let n = a * 2 ^ low f in
+    ap neg (round-is f true a c) ∙ units-neg f (kept p n c) (drop p n c) ∙ sym (round-is f false a c)
