@@ -3,6 +3,7 @@ pub mod Ones
 pub mod Exact
 pub mod Quarter
 pub mod Lengths
+pub mod Steep
 pub mod TurnSizes
 pub mod Grids
 pub mod Turns
