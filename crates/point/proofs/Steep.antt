@@ -66,6 +66,9 @@ quarter-turn-is : halfPi ≡ quarter-turn
 unfolding ofBits quarter-turn
 quarter-turn-is = refl
 
+up-to-one : (a b : ℕ) → a * 1 ≤ 1 * b → a ≤ b
+up-to-one a b h = omega arith
+
 -- ---- a product with a factor up to 1 is at most the other factor
 product-most : (x : Float) (m : ℕ) (e : ℤ) → T (fits binary32 (fin false m e)) → AtMost x 1 1 → AtMost (mul binary32 x (fin false m e)) (m * up e) (down e)
 unfolding mul
@@ -80,16 +83,13 @@ product-most (fin false p g) m e F l =
     round-at-most binary32 (fin false m e) (P * A) (G * D) A D F (refl, refl) (mul-pos (down-pos g) (down-pos e)) (down-pos e) (less P A G D (l .1))
   where
     less : (P A G D : ℕ) → P * 1 ≤ 1 * G → P * A * D ≤ A * (G * D)
-    less P A G D h = le-trans (mul-le-mul-right D (mul-le-mul-right A (plain P G h))) (le-of-eq (swap G A D))
+    less P A G D h = le-trans (mul-le-mul-right D (mul-le-mul-right A (up-to-one P G h))) (le-of-eq (swap G A D))
       where
-        plain : (P G : ℕ) → P * 1 ≤ 1 * G → P ≤ G
-        plain P G h = omega arith
-
         swap : (G A D : ℕ) → G * A * D ≡ A * (G * D)
-        swap G A D = simp (mul-assoc, mul-comm, mul-left-comm)
+        swap G A D = simp (mul-assoc, mul-left-comm)
 
--- ---- x * y + z with a negative product
--- one that is not larger than z: the sum is from 0 to z
+-- ---- x * y + z with unlike signs of x * y and z
+-- a negative product that is not larger than z: the sum is from 0 to z
 second-less : (a b c : ℕ) → a ≤ b → sum binary32 true a false b c ≡ round binary32 false (b - a) c
 unfolding sum
 second-less a b c h =
@@ -103,39 +103,127 @@ second-less a b c h =
     go false p q = ap₂ (λ (i : Bool) (n : ℕ). round binary32 i n c) (le-ltb b a h) (level (q tt))
 
 module _ (p : ℕ) (g : ℤ) (q : ℕ) (h : ℤ) (o : ℕ) (k : ℤ) where
-  P : ℕ
-  P = p * up g
-
-  Q : ℕ
-  Q = q * up h
-
-  O : ℕ
-  O = o * up k
-
-  room : (a : ℕ) → (O * (down g * down h) - a) * down k ≤ O * (down g * down h * down k)
-  room a = le-trans (mul-le-mul-right (down k) (sub-le (O * (down g * down h)) a)) (le-of-eq (mul-assoc O (down g * down h) (down k)))
+  room : (a : ℕ) → (o * up k * (down g * down h) - a) * down k ≤ o * up k * (down g * down h * down k)
+  room a =
+      let b = o * up k * (down g * down h) in
+      le-trans (mul-le-mul-right (down k) (sub-le b a)) (le-of-eq (mul-assoc (o * up k) (down g * down h) (down k)))
 
   dens : 0 < down g * down h * down k
   dens = mul-pos (mul-pos (down-pos g) (down-pos h)) (down-pos k)
 
-  less-most : (i j : Bool) → unlike i j ≡ true → T (fits binary32 (fin false o k)) → P * Q * down k ≤ O * (down g * down h)
-      → AtMost (fma32 (fin i p g) (fin j q h) (fin false o k)) O (down k)
-  unfolding fmaOf P Q O
+  less-most : (i j : Bool) → unlike i j ≡ true → T (fits binary32 (fin false o k)) → p * up g * (q * up h) * down k ≤ o * up k * (down g * down h)
+      → AtMost (fma32 (fin i p g) (fin j q h) (fin false o k)) (o * up k) (down k)
+  unfolding fmaOf
   less-most i j s F l =
-      let a = P * Q * down k in
-      let b = O * (down g * down h) in
+      let a = p * up g * (q * up h) * down k in
+      let b = o * up k * (down g * down h) in
       let c = down g * down h * down k in
-      subst (λ (x : Float). AtMost x O (down k)) (sym (ap (λ (t : Bool). sum binary32 t a false b c) s ∙ second-less a b c l))
-      (round-at-most binary32 (fin false o k) (b - a) c O (down k) F (refl, refl) dens (down-pos k) (room a))
+      subst (λ (x : Float). AtMost x (o * up k) (down k)) (sym (ap (λ (t : Bool). sum binary32 t a false b c) s ∙ second-less a b c l))
+      (round-at-most binary32 (fin false o k) (b - a) c (o * up k) (down k) F (refl, refl) dens (down-pos k) (room a))
 
-  -- one that is smaller than a negative z: the sum is negative and up to z in size
-  more-most : T (fits binary32 (fin false o k)) → P * Q * down k < O * (down g * down h)
-      → AtMost (neg (fma32 (fin false p g) (fin false q h) (fin true o k))) O (down k)
-  unfolding fmaOf sum P Q O
+  -- a positive one that is smaller than a negative z: the sum is negative, and up to z in size
+  more-most : T (fits binary32 (fin false o k)) → p * up g * (q * up h) * down k < o * up k * (down g * down h)
+      → AtMost (neg (fma32 (fin false p g) (fin false q h) (fin true o k))) (o * up k) (down k)
+  unfolding fmaOf sum
   more-most F l =
-      let a = P * Q * down k in
-      let b = O * (down g * down h) in
+      let a = p * up g * (q * up h) * down k in
+      let b = o * up k * (down g * down h) in
       let c = down g * down h * down k in
-      subst (λ (x : Float). AtMost x O (down k))
+      subst (λ (x : Float). AtMost x (o * up k) (down k))
       (sym (ap (λ (t : Bool). neg (cond t (round binary32 true (b - a) c) (round binary32 false (a - b) c))) (lt-ltb a b l) ∙ round-neg binary32 (b - a) c))
-      (round-at-most binary32 (fin false o k) (b - a) c O (down k) F (refl, refl) dens (down-pos k) (room a))
+      (round-at-most binary32 (fin false o k) (b - a) c (o * up k) (down k) F (refl, refl) dens (down-pos k) (room a))
+
+-- ---- the three fused steps, for s from 0 to 1
+-- s * c0 + c1 is from 0 to c1
+first-most : (s : Float) → AtMost s 1 1 → AtMost (fma32 s c0 c1) 2672849 (2 ^ 24)
+unfolding c0 c1 fits
+first-most nan l = absurd l
+first-most (inf t) l = absurd l
+first-most (fin true p g) l = absurd (true≢false (l .0))
+first-most (fin false p g) l = less-most p g 6240651 (negsuc 26) 2672849 (negsuc 23) false true refl tt (small (p * up g) (down g) (l .1))
+  where
+    small : (P G : ℕ) → P * 1 ≤ 1 * G → P * 6240651 * 2 ^ 24 ≤ 2672849 * (G * 2 ^ 27)
+    small P G h = omega arith
+
+-- i * s + c2 is negative, and up to c2 in size, for i from 0 to c1
+second-most : (i s : Float) → AtMost i 2672849 (2 ^ 24) → AtMost s 1 1 → AtMost (neg (fma32 i s c2)) 2748299 (2 ^ 23)
+unfolding c2 fits
+second-most nan s l h = absurd l
+second-most (inf t) s l h = absurd l
+second-most (fin true p g) s l h = absurd (true≢false (l .0))
+second-most (fin false p g) nan l h = absurd h
+second-most (fin false p g) (inf t) l h = absurd h
+second-most (fin false p g) (fin true q k) l h = absurd (true≢false (h .0))
+second-most (fin false p g) (fin false q k) l h =
+    more-most p g q k 2748299 (negsuc 22) tt (small (p * up g) (down g) (q * up k) (down k) (down-pos g) (down-pos k) (l .1) (h .1))
+  where
+    small : (P G Q K : ℕ) → 0 < G → 0 < K → P * 2 ^ 24 ≤ 2672849 * G → Q * 1 ≤ 1 * K → P * Q * 2 ^ 23 < 2748299 * (G * K)
+    small P G Q K g k l h = ends (P * Q) (P * K) (G * K) (mul-pos g k) (mul-le-mul-left P (up-to-one Q K h)) (scaled P G K l)
+      where
+        scaled : (P G K : ℕ) → P * 2 ^ 24 ≤ 2672849 * G → P * K * 2 ^ 24 ≤ 2672849 * (G * K)
+        scaled P G K l = le-trans (le-of-eq (mul-right-comm P K (2 ^ 24))) (le-trans (mul-le-mul-right K l) (le-of-eq (mul-assoc 2672849 G K)))
+
+        ends : (a b c : ℕ) → 0 < c → a ≤ b → b * 2 ^ 24 ≤ 2672849 * c → a * 2 ^ 23 < 2748299 * c
+        ends a b c p h l = omega arith
+
+-- i * t + a is from 0 to a, for i from -1 to 0 and t from 0 to a
+third-most : (i t : Float) (m : ℕ) (e : ℤ) → T (fits binary32 (fin false m e)) → AtMost (neg i) 1 1 → AtMost t (m * up e) (down e)
+    → AtMost (fma32 i t (fin false m e)) (m * up e) (down e)
+unfolding neg
+third-most nan t m e F l h = absurd l
+third-most (inf j) t m e F l h = absurd l
+third-most (fin false p g) t m e F l h = absurd (true≢false (l .0))
+third-most (fin true p g) nan m e F l h = absurd h
+third-most (fin true p g) (inf j) m e F l h = absurd h
+third-most (fin true p g) (fin true q k) m e F l h = absurd (true≢false (h .0))
+third-most (fin true p g) (fin false q k) m e F l h =
+    less-most p g q k m e true false refl F (small (p * up g) (down g) (q * up k) (down k) (m * up e) (down e) (l .1) (h .1))
+  where
+    small : (P G Q K A D : ℕ) → P * 1 ≤ 1 * G → Q * D ≤ A * K → P * Q * D ≤ A * (G * K)
+    small P G Q K A D l h =
+        le-trans (le-of-eq (mul-assoc P Q D)) (le-trans (mul-le-mul (up-to-one P G l) h) (le-of-eq (mul-left-comm G A K)))
+
+-- ---- what is bent is from 0 to the ratio, and so to 1
+bent-is : (a : Float) → bentOf a ≡ fma32 (fma32 (fma32 (a ⊗ a) c0 c1) (a ⊗ a) c2) (a ⊗ a ⊗ a) a
+unfolding bentOf
+bent-is a =
+    ap₂ (λ (u v : Float). fma32 (fma32 (fma32 (a ⊗ a) u v) (a ⊗ a) (f32 0xbea7_be2c)) (a ⊗ a ⊗ a) a) c0-is c1-is
+    ∙ ap (λ (u : Float). fma32 (fma32 (fma32 (a ⊗ a) c0 c1) (a ⊗ a) u) (a ⊗ a ⊗ a) a) c2-is
+
+fin-most : (m : ℕ) (e : ℤ) → T (fits binary32 (fin false m e)) → AtMost (fin false m e) 1 1 → AtMost (bentOf (fin false m e)) 1 1
+fin-most m e F l =
+    let a = fin false m e in
+    let s = a ⊗ a in
+    let S : AtMost s 1 1 = at-most-wider s (m * up e) (down e) 1 1 (down-pos e) (l .1) (product-most a m e F l) in
+    let i = fma32 s c0 c1 in
+    let n = fma32 i s c2 in
+    let N : AtMost (neg n) 1 1 = at-most-wider (neg n) 2748299 (2 ^ 23) 1 1 (lit< tt) (lit≤ tt) (second-most i s (first-most s S) S) in
+    subst (λ (x : Float). AtMost x 1 1) (sym (bent-is a))
+    (at-most-wider (fma32 n (s ⊗ a) a) (m * up e) (down e) 1 1 (down-pos e) (l .1) (third-most n (s ⊗ a) m e F N (product-most s m e F S)))
+
+bent-most : (a : Float) → T (fits binary32 a) → AtMost a 1 1 → AtMost (bentOf a) 1 1
+bent-most nan F l = absurd l
+bent-most (inf s) F l = absurd l
+bent-most (fin true m e) F l = absurd (true≢false (l .0))
+bent-most (fin false m e) F l = fin-most m e F l
+
+-- ---- the ratio is from 0 to 1
+min-is : (m : ℕ) (e : ℤ) (n : ℕ) (d : ℤ) → minOf (fin false m e) (fin false n d) ≡ cond (ltb (n * up d * down e) (m * up e * down d)) (fin false n d) (fin false m e)
+unfolding minOf lessOf negativeOf isNan lt
+min-is m e n d =
+    ap (λ (b : Bool). cond b (fin false n d) (fin false m e)) (plain (ltb (n * up d * down e) (m * up e * down d)) (eq (fin false n d) (fin false m e)))
+  where
+    plain : (a b : Bool) → a || (b && false) ≡ a
+    plain true b = refl
+    plain false true = refl
+    plain false false = refl
+
+max-is : (m : ℕ) (e : ℤ) (n : ℕ) (d : ℤ) → maxOf (fin false m e) (fin false n d) ≡ cond (ltb (m * up e * down d) (n * up d * down e)) (fin false n d) (fin false m e)
+unfolding maxOf lessOf negativeOf isNan lt
+max-is m e n d =
+    ap (λ (b : Bool). cond b (fin false n d) (fin false m e)) (plain (ltb (m * up e * down d) (n * up d * down e)) (eq (fin false m e) (fin false n d)))
+  where
+    plain : (a b : Bool) → a || (b && false) ≡ a
+    plain true b = refl
+    plain false true = refl
+    plain false false = refl
