@@ -1,17 +1,20 @@
 -- The angle's arithmetic up to the quarter turn: for finite x and y that are not both zero, `steepOf` lies from 0 to half of π; at the ends it is exact.
 -- Assumes nothing.
 use mathlib.Core.Path.{_≡_, refl, sym, ap, ap₂, _∙_, subst}
+use mathlib.Core.Logic.{inl, inr}
 use mathlib.Core.Bool.{Bool, true, false, not, _&&_, _||_, Bool·beq, cond, true≢false}
 use Prim.Native.Nat.{ℕ, zero, suc, _+_, _-_, _*_, _^_, _≤_, _<_, zero-le}
 use native.Mathlib.Nat.{mul-assoc, mul-comm, mul-left-comm, mul-right-comm, mul-one, one-mul, zero-mul, mul-pos, zero-lt-suc, sub-le, le-of-eq, le-of-lt, le-trans}
-use native.Mathlib.Nat.{mul-le-mul, mul-le-mul-left, mul-le-mul-right, lt-of-lt-of-le, lt-of-le-of-lt, mul-lt-mul-of-pos-right, lt-of-mul-lt-mul-right}
+use native.Mathlib.Nat.{le-refl, le-add-right, ne-of-gt, eq-zero-or-pos, zero-add, mul-le-mul, mul-le-mul-left, mul-le-mul-right, lt-of-lt-of-le, lt-of-le-of-lt, mul-lt-mul-of-pos-right, lt-of-mul-lt-mul-right}
 use native.Mathlib.Omega.{arith}
-use borrow.Author.Tests.{le-ltb, lt-ltb}
+use borrow.Author.Tests.{le-ltb, lt-ltb, ne-eqb}
 use lib.IntN.{ℤ, pos, negsuc}
 use lib.Dec.{T, ltb, eqb, lit≤, lit<, ltb→lt, nltb→le, eqb→eq}
 use lib.Ieee.{Float, nan, inf, fin, binary32, up, down, unlike, round, sum, add, sub, mul, div, neg, lt, eq, fits, isNan, ofBits}
 use lib.Ieee.Fits.{up-pos, down-pos, div-fits}
+use lib.Ieee.Positive.{first-pos}
 use lib.Ieee.Scale.{finite}
+use Rattle.rounding.proofs.Basics.{le-or-lt}
 use Rattle.rounding.proofs.Bounds.{AtMost, round-kept, round-at-most, at-most-wider, minus-at-most, round-neg}
 use Rattle.leaves.specs.Single.{_⊖_, _⊗_, _⊘_, f32, zero32}
 use Rattle.leaves.specs.Fma.{fma32, fmaOf}
@@ -208,22 +211,162 @@ bent-most (fin true m e) F l = absurd (true≢false (l .0))
 bent-most (fin false m e) F l = fin-most m e F l
 
 -- ---- the ratio is from 0 to 1
-min-is : (m : ℕ) (e : ℤ) (n : ℕ) (d : ℤ) → minOf (fin false m e) (fin false n d) ≡ cond (ltb (n * up d * down e) (m * up e * down d)) (fin false n d) (fin false m e)
-unfolding minOf lessOf negativeOf isNan lt
-min-is m e n d =
-    ap (λ (b : Bool). cond b (fin false n d) (fin false m e)) (plain (ltb (n * up d * down e) (m * up e * down d)) (eq (fin false n d) (fin false m e)))
-  where
-    plain : (a b : Bool) → a || (b && false) ≡ a
-    plain true b = refl
-    plain false true = refl
-    plain false false = refl
+plain : (a b : Bool) → a || (b && false) ≡ a
+plain true b = refl
+plain false true = refl
+plain false false = refl
 
-max-is : (m : ℕ) (e : ℤ) (n : ℕ) (d : ℤ) → maxOf (fin false m e) (fin false n d) ≡ cond (ltb (m * up e * down d) (n * up d * down e)) (fin false n d) (fin false m e)
-unfolding maxOf lessOf negativeOf isNan lt
-max-is m e n d =
-    ap (λ (b : Bool). cond b (fin false n d) (fin false m e)) (plain (ltb (m * up e * down d) (n * up d * down e)) (eq (fin false m e) (fin false n d)))
+module _ (m : ℕ) (e : ℤ) (n : ℕ) (d : ℤ) where
+  min-is : minOf (fin false m e) (fin false n d) ≡ cond (ltb (n * up d * down e) (m * up e * down d)) (fin false n d) (fin false m e)
+  unfolding minOf lessOf negativeOf isNan lt
+  min-is =
+      ap (λ (b : Bool). cond b (fin false n d) (fin false m e)) (plain (ltb (n * up d * down e) (m * up e * down d)) (eq (fin false n d) (fin false m e)))
+
+  max-is : maxOf (fin false m e) (fin false n d) ≡ cond (ltb (m * up e * down d) (n * up d * down e)) (fin false n d) (fin false m e)
+  unfolding maxOf lessOf negativeOf isNan lt
+  max-is =
+      ap (λ (b : Bool). cond b (fin false n d) (fin false m e)) (plain (ltb (m * up e * down d) (n * up d * down e)) (eq (fin false m e) (fin false n d)))
+
+  ratio-is : ratioOf (fin false m e) (fin false n d)
+      ≡ cond (ltb (n * up d * down e) (m * up e * down d)) (fin false n d) (fin false m e)
+      ⊘ cond (ltb (m * up e * down d) (n * up d * down e)) (fin false n d) (fin false m e)
+  unfolding ratioOf
+  ratio-is = ap₂ (λ (u v : Float). u ⊘ v) min-is max-is
+
+  div-is : 0 < n → fin false m e ⊘ fin false n d ≡ round binary32 false (m * up e * down d) (n * up d * down e)
+  unfolding div
+  div-is h =
+      ap (λ (b : Bool). cond b (cond (eqb m 0) nan (inf false)) (round binary32 false (m * up e * down d) (n * up d * down e))) (ne-eqb n 0 (ne-of-gt h))
+
+  div-most : 0 < n → m * up e * down d ≤ n * up d * down e → AtMost (fin false m e ⊘ fin false n d) 1 1
+  unfolding fits
+  div-most h l =
+      subst (λ (x : Float). AtMost x 1 1) (sym (div-is h))
+      (round-at-most binary32 one (m * up e * down d) (n * up d * down e) 1 1 tt (refl, refl) (mul-pos (mul-pos h (up-pos d)) (down-pos e)) (lit< tt)
+      (le-trans (le-of-eq (mul-one (m * up e * down d))) (le-trans l (le-of-eq (sym (one-mul (n * up d * down e)))))))
+
+ratio-most : (m : ℕ) (e : ℤ) (n : ℕ) (d : ℤ) → 0 < m + n → AtMost (ratioOf (fin false m e) (fin false n d)) 1 1
+ratio-most m e n d h =
+    subst (λ (x : Float). AtMost x 1 1) (sym (ratio-is m e n d))
+    (elim (le-or-lt Y X) [
+      | inl l ↦ elim (le-or-lt X Y) [
+        | inl k ↦ by false false (le-ltb Y X k) (le-ltb X Y l) (div-most m e m e (some l) (le-refl (m * up e * down e)))
+        | inr k ↦ by true false (lt-ltb Y X k) (le-ltb X Y l) (div-most n d m e (some l) l)
+      ]
+      | inr l ↦ by false true (le-ltb Y X (le-of-lt l)) (lt-ltb X Y l) (div-most m e n d (more n (up d) (down e) (lt-of-le-of-lt zero-le l)) (le-of-lt l))
+    ])
   where
-    plain : (a b : Bool) → a || (b && false) ≡ a
-    plain true b = refl
-    plain false true = refl
-    plain false false = refl
+    X : ℕ
+    X = m * up e * down d
+
+    Y : ℕ
+    Y = n * up d * down e
+
+    by : (i j : Bool) → ltb Y X ≡ i → ltb X Y ≡ j → AtMost (cond i (fin false n d) (fin false m e) ⊘ cond j (fin false n d) (fin false m e)) 1 1
+        → AtMost (cond (ltb Y X) (fin false n d) (fin false m e) ⊘ cond (ltb X Y) (fin false n d) (fin false m e)) 1 1
+    by i j p q l =
+        subst (λ (x : Float). AtMost x 1 1)
+        (sym (ap₂ (λ (a b : Bool). cond a (fin false n d) (fin false m e) ⊘ cond b (fin false n d) (fin false m e)) p q)) l
+
+    more : (k a b : ℕ) → 0 < k * a * b → 0 < k
+    more k a b h = first-pos k a (first-pos (k * a) b h)
+
+    other : (m n : ℕ) → 0 < m + n → m ≡ 0 → 0 < n
+    other m n h z = omega arith
+
+    -- the larger one is no zero
+    some : Y ≤ X → 0 < m
+    some l = elim (eq-zero-or-pos m) [
+      | inl z ↦ more m (up e) (down d) (lt-of-lt-of-le (mul-pos (mul-pos (other m n h z) (up-pos d)) (down-pos e)) l)
+      | inr p ↦ p
+    ]
+
+-- ---- the steep angle is from 0 to half of π
+steep-of-ratio : (X Y : Float) → T (fits binary32 (ratioOf X Y)) → AtMost (ratioOf X Y) 1 1 → AtMost (steepOf X Y) 13176795 8388608
+unfolding steepOf quarter-turn fits
+steep-of-ratio X Y F l = go (lt X Y)
+  where
+    r : Float
+    r = bentOf (ratioOf X Y)
+
+    R : AtMost r 13176795 8388608
+    R = at-most-wider r 1 1 13176795 8388608 (lit< tt) (lit≤ tt) (bent-most (ratioOf X Y) F l)
+
+    go : (b : Bool) → AtMost (cond b (halfPi ⊖ r) r) 13176795 8388608
+    go true = subst (λ (h : Float). AtMost (h ⊖ r) 13176795 8388608) (sym quarter-turn-is) (minus-at-most binary32 13176795 (negsuc 22) r tt R)
+    go false = R
+
+ratio-fits : (X Y : Float) → T (fits binary32 (ratioOf X Y))
+unfolding ratioOf
+ratio-fits X Y = div-fits binary32 (minOf X Y) (maxOf X Y)
+
+pub steep-most : (x y : Float) → T (finite x) → T (finite y) → isZero x && isZero y ≡ false → AtMost (steepOf (absOf x) (absOf y)) 13176795 8388608
+unfolding absOf isZero
+steep-most nan y h k z = absurd h
+steep-most (inf s) y h k z = absurd h
+steep-most (fin s m e) nan h k z = absurd k
+steep-most (fin s m e) (inf t) h k z = absurd k
+steep-most (fin s m e) (fin t n d) h k z =
+    let X = fin false m e in
+    let Y = fin false n d in
+    steep-of-ratio X Y (ratio-fits X Y) (ratio-most m e n d (some m n z))
+  where
+    some : (m n : ℕ) → isZero (fin s m e) && isZero (fin t n d) ≡ false → 0 < m + n
+    some zero zero z = absurd (true≢false z)
+    some zero (suc n) z = subst (λ (k : ℕ). 0 < k) (sym (zero-add (suc n))) (zero-lt-suc n)
+    some (suc m) n z = lt-of-lt-of-le (zero-lt-suc m) (le-add-right (suc m) n)
+
+-- ---- the ends: along x it is 0, and along y half of π
+nothing : (d e : ℤ) → 0 * up d * down e ≡ 0
+nothing d e = ap (λ (k : ℕ). k * down e) (zero-mul (up d)) ∙ zero-mul (down e)
+
+zero-over : (d : ℤ) (m : ℕ) (e : ℤ) → 0 < m → fin false 0 d ⊘ fin false m e ≡ nought
+unfolding fits
+zero-over d m e h =
+    div-is 0 d m e h
+    ∙ round-kept binary32 nought (0 * up d * down e) (m * up e * down d) tt (mul-pos (mul-pos h (up-pos e)) (down-pos d))
+    (refl, zero-mul (m * up e * down d) ∙ sym (mul-one (0 * up d * down e) ∙ nothing d e))
+
+bent-nought : bentOf nought ≡ nought
+unfolding bentOf mul fmaOf sum ofBits
+bent-nought = refl
+
+quarter-less : halfPi ⊖ nought ≡ halfPi
+unfolding sub ofBits
+quarter-less = refl
+
+pub steep-flat : (x y : Float) → T (finite x) → isZero x ≡ false → isZero y ≡ true → steepOf (absOf x) (absOf y) ≡ nought
+unfolding absOf isZero steepOf lt
+steep-flat nan y h z w = absurd h
+steep-flat (inf s) y h z w = absurd h
+steep-flat (fin s zero e) y h z w = absurd (true≢false z)
+steep-flat (fin s (suc m) e) nan h z w = absurd (true≢false (sym w))
+steep-flat (fin s (suc m) e) (inf t) h z w = absurd (true≢false (sym w))
+steep-flat (fin s (suc m) e) (fin t (suc n) d) h z w = absurd (true≢false (sym w))
+steep-flat (fin s (suc m) e) (fin t zero d) h z w =
+    let X = suc m * up e * down d in
+    let Y = 0 * up d * down e in
+    let l : Y < X = subst (λ (k : ℕ). k < X) (sym (nothing d e)) (mul-pos (mul-pos (zero-lt-suc m) (up-pos e)) (down-pos d)) in
+    let a = fin false (suc m) e in
+    let b = fin false 0 d in
+    let ratio : ratioOf a b ≡ nought =
+    ratio-is (suc m) e 0 d ∙ ap₂ (λ (i j : Bool). cond i b a ⊘ cond j b a) (lt-ltb Y X l) (le-ltb X Y (le-of-lt l)) ∙ zero-over d (suc m) e (zero-lt-suc m) in
+    ap₂ (λ (i : Bool) (r : Float). cond i (halfPi ⊖ r) r) (le-ltb X Y (le-of-lt l)) (ap bentOf ratio ∙ bent-nought)
+
+pub steep-upright : (x y : Float) → T (finite y) → isZero y ≡ false → isZero x ≡ true → steepOf (absOf x) (absOf y) ≡ halfPi
+unfolding absOf isZero steepOf lt
+steep-upright nan y h z w = absurd (true≢false (sym w))
+steep-upright (inf s) y h z w = absurd (true≢false (sym w))
+steep-upright (fin s (suc m) e) y h z w = absurd (true≢false (sym w))
+steep-upright (fin s zero e) nan h z w = absurd h
+steep-upright (fin s zero e) (inf t) h z w = absurd h
+steep-upright (fin s zero e) (fin t zero d) h z w = absurd (true≢false z)
+steep-upright (fin s zero e) (fin t (suc n) d) h z w =
+    let X = 0 * up e * down d in
+    let Y = suc n * up d * down e in
+    let l : X < Y = subst (λ (k : ℕ). k < Y) (sym (nothing e d)) (mul-pos (mul-pos (zero-lt-suc n) (up-pos d)) (down-pos e)) in
+    let a = fin false 0 e in
+    let b = fin false (suc n) d in
+    let ratio : ratioOf a b ≡ nought =
+    ratio-is 0 e (suc n) d ∙ ap₂ (λ (i j : Bool). cond i b a ⊘ cond j b a) (le-ltb Y X (le-of-lt l)) (lt-ltb X Y l) ∙ zero-over e (suc n) d (zero-lt-suc n) in
+    ap₂ (λ (i : Bool) (r : Float). cond i (halfPi ⊖ r) r) (lt-ltb X Y l) (ap bentOf ratio ∙ bent-nought) ∙ quarter-less
