@@ -2,15 +2,15 @@
 -- Assumes nothing.
 use mathlib.Core.Path.{_≡_, refl, sym, ap, ap₂, _∙_, subst}
 use mathlib.Core.Logic.{inl, inr}
-use mathlib.Core.Bool.{Bool, true, false, not, _&&_, _||_, Bool·beq, cond, true≢false}
+use mathlib.Core.Bool.{Bool, true, false, not, _&&_, _||_, cond, true≢false}
 use Prim.Native.Nat.{ℕ, zero, suc, _+_, _-_, _*_, _^_, _≤_, _<_, zero-le}
-use native.Mathlib.Nat.{mul-assoc, mul-comm, mul-left-comm, mul-right-comm, mul-one, one-mul, zero-mul, mul-pos, zero-lt-suc, sub-le, le-of-eq, le-of-lt, le-trans}
-use native.Mathlib.Nat.{le-refl, le-add-right, ne-of-gt, eq-zero-or-pos, zero-add, mul-le-mul, mul-le-mul-left, mul-le-mul-right, lt-of-lt-of-le, lt-of-le-of-lt, mul-lt-mul-of-pos-right, lt-of-mul-lt-mul-right}
+use native.Mathlib.Nat.{mul-assoc, mul-left-comm, mul-right-comm, mul-one, one-mul, zero-mul, mul-pos, zero-lt-suc, sub-le, le-of-eq, le-of-lt, le-trans}
+use native.Mathlib.Nat.{le-refl, le-add-right, ne-of-gt, eq-zero-or-pos, zero-add, mul-le-mul, mul-le-mul-left, mul-le-mul-right, lt-of-lt-of-le, lt-of-le-of-lt}
 use native.Mathlib.Omega.{arith}
 use borrow.Author.Tests.{le-ltb, lt-ltb, ne-eqb}
-use lib.IntN.{ℤ, pos, negsuc}
-use lib.Dec.{T, ltb, eqb, lit≤, lit<, ltb→lt, nltb→le, eqb→eq}
-use lib.Ieee.{Float, nan, inf, fin, binary32, up, down, unlike, round, sum, add, sub, mul, div, neg, lt, eq, fits, isNan, ofBits}
+use lib.IntN.{ℤ, negsuc}
+use lib.Dec.{T, ltb, eqb, lit≤, lit<, nltb→le}
+use lib.Ieee.{Float, nan, inf, fin, binary32, up, down, unlike, round, sum, sub, mul, div, neg, lt, eq, fits, isNan, ofBits}
 use lib.Ieee.Fits.{up-pos, down-pos, div-fits}
 use lib.Ieee.Positive.{first-pos}
 use lib.Ieee.Scale.{finite}
@@ -96,14 +96,15 @@ product-most (fin false p g) m e F l =
 second-less : (a b c : ℕ) → a ≤ b → sum binary32 true a false b c ≡ round binary32 false (b - a) c
 unfolding sum
 second-less a b c h =
-    go (ltb a b) (ltb→lt a b) (nltb→le a b)
+    go (ltb a b) (nltb→le a b)
   where
     level : b ≤ a → a - b ≡ b - a
     level k = omega (arith, h, k)
 
-    go : (t : Bool) → (T t → a < b) → (T (not t) → b ≤ a) → cond t (round binary32 false (b - a) c) (round binary32 (ltb b a) (a - b) c) ≡ round binary32 false (b - a) c
-    go true p q = refl
-    go false p q = ap₂ (λ (i : Bool) (n : ℕ). round binary32 i n c) (le-ltb b a h) (level (q tt))
+    go : (t : Bool) → (T (not t) → b ≤ a)
+        → cond t (round binary32 false (b - a) c) (round binary32 (ltb b a) (a - b) c) ≡ round binary32 false (b - a) c
+    go true q = refl
+    go false q = ap₂ (λ (i : Bool) (n : ℕ). round binary32 i n c) (le-ltb b a h) (level (q tt))
 
 module _ (p : ℕ) (g : ℤ) (q : ℕ) (h : ℤ) (o : ℕ) (k : ℤ) where
   room : (a : ℕ) → (o * up k * (down g * down h) - a) * down k ≤ o * up k * (down g * down h * down k)

@@ -1,7 +1,7 @@
--- A value of the format is rounded to itself, so a fraction that does not lie above it, or below it, is rounded to a float that does not either.
--- Assumes nothing.
+-- A value of the format is rounded to itself, so a fraction that does not lie above it, or below it, is rounded to a float that does not either; what is left of
+-- a value after a smaller one is taken is bounded by it. Assumes nothing.
 use mathlib.Core.Path.{_≡_, refl, sym, ap, _∙_, subst}
-use mathlib.Core.Bool.{Bool, true, false, not, _&&_, _||_, cond, true≢false}
+use mathlib.Core.Bool.{Bool, true, false, _&&_, _||_, cond, true≢false}
 use Prim.Native.Nat.{ℕ, zero, suc, _+_, _-_, _*_, _^_, _≤_, _<_}
 use native.Mathlib.Nat.{le-of-lt, le-of-eq, le-trans, sub-le, mul-assoc, mul-comm, mul-pos, mul-right-comm, mul-le-mul-right, eq-of-mul-eq-mul-right}
 use borrow.Author.Tests.{le-ltb}
