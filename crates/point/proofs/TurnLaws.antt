@@ -17,7 +17,7 @@ use lib.Ieee.Fits.{down-pos}
 use lib.Ieee.Positive.{num, den, den-pos, through}
 use lib.Ieee.Scale.{finite}
 use Rattle.rounding.proofs.Basics.{le-or-lt}
-use Rattle.rounding.proofs.Bounds.{AtMost, AtLeast, round-at-most, round-at-least}
+use Rattle.rounding.proofs.Bounds.{AtMost, AtLeast, round-at-most, round-at-least, at-most-wider}
 use Rattle.rounding.proofs.Differences.{lt-values, le-values, minus-values}
 use Rattle.rounding.proofs.Values.{cross}
 use Rattle.leaves.specs.Single.{_⊖_, zero32}
@@ -29,7 +29,7 @@ use Rattle.point.proofs.Digits.{nought, zero-is}
 use Rattle.point.proofs.Grids.{minus-at, round-at, on-grid, grid-more, grid-most}
 use Rattle.point.proofs.TurnSizes.{half-turn-value, full-turn-value, error-value, pi-fits, half-fits, quarter-turn-value, turn-symmetric}
 use Rattle.point.proofs.Turns.{aroundOf, foldedOf, fromPi, Where, short, wide, long, where-of, around-short, around-long, folded-short, folded-wide, folded-third}
-use Rattle.point.proofs.Turns.{folded-fourth, beyond-is, beyond-value, rest-value, rest-is, error-less, either-error, half-at}
+use Rattle.point.proofs.Turns.{folded-fourth, beyond-is, beyond-value, rest-value, rest-is, error-less, either-error, half-at, full-at, not-over}
 
 -- ---- how far a turn lies from π
 -- π less a turn up to π/2 is π/2 or more
@@ -160,3 +160,114 @@ beside t (short m e is h) = subst Beside (sym is) (short-beside m e h)
 beside t (wide m e n is v h k) = subst Beside (sym is) (wide-beside m e n (subst (λ (x : Float). HasValue x false n 8388608) is v) h k)
 beside t (long n v h k) =
     elim (le-or-lt ((n - 13176795) * 2) 13176795) [ inl l ↦ third-beside t n v h k l | inr l ↦ fourth-beside t n v h k l ]
+
+-- ---- from 0 to π
+from-nought : (x : Float) (a c : ℕ) → 0 < c → HasValue x false a c → a * 8388608 ≤ 26353590 * c → T (le zero32 x && le x pi)
+from-nought x a c C v h =
+    subst T
+    (sym (ap₂ (λ (s t : Bool). s && t)
+    (ap (λ (z : Float). le z x) zero-is
+    ∙ le-values nought x 0 1 a c (zero-lt-suc 0) C (refl, refl) v
+    ∙ le-leb (0 * c) (a * 1) (subst (λ (z : ℕ). z ≤ a * 1) (sym (zero-mul c)) zero-le))
+    (le-values x pi a c 26353590 8388608 C (zero-lt-suc 8388607) v half-turn-value ∙ le-leb (a * 8388608) (26353590 * c) h)))
+    tt
+
+pub around-most : (t : Float) → Where t → T (le zero32 (aroundOf t) && le (aroundOf t) pi)
+around-most t (short m e is h) =
+    let k = more (m * up e * 8388608) (down e) h in
+    subst (λ (x : Float). T (le zero32 x && le x pi)) (sym (ap aroundOf is ∙ around-short m e k))
+    (from-nought (fin false m e) (m * up e) (down e) (down-pos e) (refl, refl) k)
+  where
+    more : (X D : ℕ) → X ≤ 13176795 * D → X ≤ 26353590 * D
+    more X D h = omega arith
+around-most t (wide m e n is v h k) =
+    let l = wide-short m e n (subst (λ (x : Float). HasValue x false n 8388608) is v) k in
+    subst (λ (x : Float). T (le zero32 x && le x pi)) (sym (ap aroundOf is ∙ around-short m e l))
+    (from-nought (fin false m e) (m * up e) (down e) (down-pos e) (refl, refl) l)
+around-most t (long n v h k) =
+    subst (λ (x : Float). T (le zero32 x && le x pi)) (sym (around-long t n v h k))
+    (from-nought (round binary32 false (26353590 - n) 4194304) (26353590 - n) 4194304 (zero-lt-suc 4194303) (rest-value n h) (under n h))
+  where
+    under : (n : ℕ) → 13176795 < n → (26353590 - n) * 8388608 ≤ 110534967951360
+    under n h = omega arith
+
+-- ---- the rest is exact above π
+-- a / G and b / G are c / G together
+sums : (x y z : Float) (a b c G : ℕ) → 0 < G → HasValue x false a G → HasValue y false b G → HasValue z false c G → a + b ≡ c → Sums x y z
+sums x y z a b c G P u v w h =
+    let X = num x in
+    let Y = num y in
+    let Z = num z in
+    let dx = den x in
+    let dy = den y in
+    let dz = den z in
+    eq-of-mul-eq-mul-right G P ((X * dy + Y * dx) * dz) (Z * (dx * dy))
+    (ap (λ (k : ℕ). k * G) (add-mul (X * dy) (Y * dx) dz)
+    ∙ add-mul (X * dy * dz) (Y * dx * dz) G
+    ∙ ap₂ (λ (k l : ℕ). k + l) (first X dy dz G a dx (cross x false a G u)) (second Y dx dz G b dy (cross y false b G v))
+    ∙ sym (add-mul a b (dx * dy * dz))
+    ∙ ap (λ (k : ℕ). k * (dx * dy * dz)) h
+    ∙ sym (third Z dx dy G c dz (cross z false c G w)))
+  where
+    first : (X dy dz G a dx : ℕ) → X * G ≡ a * dx → X * dy * dz * G ≡ a * (dx * dy * dz)
+    first X dy dz G a dx h = simp (mul-assoc, mul-comm, mul-left-comm) (simp (mul-assoc, mul-comm, mul-left-comm) at (ap (λ (k : ℕ). k * (dy * dz)) h))
+
+    second : (Y dx dz G b dy : ℕ) → Y * G ≡ b * dy → Y * dx * dz * G ≡ b * (dx * dy * dz)
+    second Y dx dz G b dy h = simp (mul-assoc, mul-comm, mul-left-comm) (simp (mul-assoc, mul-comm, mul-left-comm) at (ap (λ (k : ℕ). k * (dx * dz)) h))
+
+    third : (Z dx dy G c dz : ℕ) → Z * G ≡ c * dz → Z * (dx * dy) * G ≡ c * (dx * dy * dz)
+    third Z dx dy G c dz h = simp (mul-assoc, mul-comm, mul-left-comm) (simp (mul-assoc, mul-comm, mul-left-comm) at (ap (λ (k : ℕ). k * (dx * dy)) h))
+
+pub rest-sums : (t : Float) → Where t → T (lt pi t) → Sums (twoPi ⊖ t) t twoPi
+rest-sums t (short m e is h) l = absurd (subst T (ap (lt pi) is ∙ not-over pi 26353590 m e half-turn-value (more (m * up e * 8388608) (down e) h)) l)
+  where
+    more : (X D : ℕ) → X ≤ 13176795 * D → X ≤ 26353590 * D
+    more X D h = omega arith
+rest-sums t (wide m e n is v h k) l =
+    absurd (subst T (ap (lt pi) is ∙ not-over pi 26353590 m e half-turn-value (wide-short m e n (subst (λ (x : Float). HasValue x false n 8388608) is v) k)) l)
+rest-sums t (long n v h k) l =
+    sums (twoPi ⊖ t) t twoPi (26353590 - n) n 26353590 4194304 (zero-lt-suc 4194303)
+    (subst (λ (x : Float). HasValue x false (26353590 - n) 4194304) (sym (rest-is t n v k)) (rest-value n h)) v full-at (back n k)
+  where
+    back : (n : ℕ) → n ≤ 26353590 → 26353590 - n + n ≡ 26353590
+    back n h = omega arith
+
+-- ---- turns from π/2 to 5 count as changed
+least-changed : (x : Float) → AtLeast x 13176795 8388608 → lt maxAngleError x ≡ true
+least-changed nan a = absurd a
+least-changed (inf s) a = absurd a
+least-changed (fin true n d) a = absurd (true≢false (a .0))
+least-changed (fin false n d) a =
+    lt-values maxAngleError (fin false n d) 8589935 8589934592 (n * up d) (down d) (zero-lt-suc 8589934591) (down-pos d) error-value (refl, refl)
+    ∙ lt-ltb (8589935 * down d) (n * up d * 8589934592) (more (n * up d) (down d) (down-pos d) (a .1))
+  where
+    more : (X D : ℕ) → 0 < D → 13176795 * D ≤ X * 8388608 → 8589935 * D < X * 8589934592
+    more X D P h = omega arith
+
+long-changed : (t : Float) (n : ℕ) → HasValue t false n 4194304 → 13176795 < n → n ≤ 26353590 → AtMost t 5 1 → lt maxAngleError (aroundOf t) ≡ true
+long-changed nan n v h k a = absurd a
+long-changed (inf s) n v h k a = absurd a
+long-changed (fin s m e) n v h k a =
+    ap (lt maxAngleError) (around-long (fin s m e) n v h k)
+    ∙ error-under (round binary32 false (26353590 - n) 4194304) (26353590 - n) (rest-value n h)
+    (enough n (grid-most (m * up e) (down e) n 4194304 20971520 (down-pos e) (v .1) (most (m * up e) (down e) (a .1))))
+  where
+    most : (N D : ℕ) → N * 1 ≤ 5 * D → N * 4194304 ≤ 20971520 * D
+    most N D h = omega arith
+
+    enough : (n : ℕ) → n ≤ 20971520 → 4195 ≤ 26353590 - n
+    enough n h = omega arith
+
+pub turned-back : (t : Float) → T (fits binary32 t) → AtLeast t 13176795 8388608 → AtMost t 5 1 → lt maxAngleError (aroundOf t) ≡ true
+turned-back t F l a = go (where-of t F (at-most-wider t 5 1 52707180 8388608 (zero-lt-suc 0) (lit≤ tt) a))
+  where
+    same : (m : ℕ) (e : ℤ) → t ≡ fin false m e → m * up e * 8388608 ≤ 26353590 * down e → lt maxAngleError (aroundOf t) ≡ true
+    same m e is h = ap (lt maxAngleError) (ap aroundOf is ∙ around-short m e h ∙ sym is) ∙ least-changed t l
+
+    more : (X D : ℕ) → X ≤ 13176795 * D → X ≤ 26353590 * D
+    more X D h = omega arith
+
+    go : Where t → lt maxAngleError (aroundOf t) ≡ true
+    go (short m e is h) = same m e is (more (m * up e * 8388608) (down e) h)
+    go (wide m e n is v h k) = same m e is (wide-short m e n (subst (λ (x : Float). HasValue x false n 8388608) is v) k)
+    go (long n v h k) = long-changed t n v h k a

@@ -107,7 +107,7 @@ pub half-at : HasValue pi false 13176795 4194304
 unfolding ofBits
 half-at = (refl, refl)
 
-full-at : HasValue twoPi false 26353590 4194304
+pub full-at : HasValue twoPi false 26353590 4194304
 unfolding ofBits
 full-at = (refl, refl)
 
@@ -171,7 +171,7 @@ where-of (fin false m e) F a =
     under N D h = omega arith
 
 -- ---- the folded difference in each place
-not-over : (c : Float) (n : ℕ) (m : ℕ) (e : ℤ) → HasValue c false n 8388608 → m * up e * 8388608 ≤ n * down e → lt c (fin false m e) ≡ false
+pub not-over : (c : Float) (n : ℕ) (m : ℕ) (e : ℤ) → HasValue c false n 8388608 → m * up e * 8388608 ≤ n * down e → lt c (fin false m e) ≡ false
 not-over c n m e v h =
     lt-values c (fin false m e) n 8388608 (m * up e) (down e) (zero-lt-suc 8388607) (down-pos e) v (refl, refl) ∙ le-ltb (n * down e) (m * up e * 8388608) h
 
