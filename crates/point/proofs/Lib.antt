@@ -8,3 +8,4 @@ pub mod TurnSizes
 pub mod Grids
 pub mod Turns
 pub mod TurnLaws
+pub mod Reversals

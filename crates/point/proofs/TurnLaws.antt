@@ -27,53 +27,26 @@ use Rattle.point.specs.Angle.{pi, halfPi, twoPi, maxAngleError, turnOf}
 use Rattle.point.specs.Turning.{Sums}
 use Rattle.point.proofs.Digits.{nought, zero-is}
 use Rattle.point.proofs.Grids.{minus-at, round-at, on-grid, grid-more, grid-most}
-use Rattle.point.proofs.TurnSizes.{half-turn-value, full-turn-value, error-value, pi-fits, half-fits, quarter-turn-value, turn-symmetric}
+use Rattle.point.proofs.TurnSizes.{half-turn-value, full-turn-value, error-value, pi-fits, half-fits, quarter-turn-value, turn-symmetric, half-less-least, half-less-abs}
 use Rattle.point.proofs.Turns.{aroundOf, foldedOf, fromPi, Where, short, wide, long, where-of, around-short, around-long, folded-short, folded-wide, folded-third}
 use Rattle.point.proofs.Turns.{folded-fourth, beyond-is, beyond-value, rest-value, rest-is, error-less, either-error, half-at, full-at, not-over}
 
 -- ---- how far a turn lies from π
 -- π less a turn up to π/2 is π/2 or more
-short-far : (m : ℕ) (e : ℤ) → m * up e * 8388608 ≤ 13176795 * down e → le (fromPi (fin false m e)) maxAngleError ≡ false
-short-far m e h =
-    let N = m * up e in
-    let D = down e in
-    let t = fin false m e in
-    let Q = 26353590 * D - N * 8388608 in
-    let C : 0 < 8388608 * D = mul-pos (zero-lt-suc 8388607) (down-pos e) in
-    let is : fromPi t ≡ round binary32 false Q (8388608 * D) =
-    turn-symmetric pi t
-    ∙ ap absOf (minus-values binary32 pi t 26353590 8388608 N D (zero-lt-suc 8388607) (down-pos e) half-turn-value (refl, refl) (below (N * 8388608) D h))
-    ∙ abs-round binary32 false Q (8388608 * D) in
-    subst (λ (x : Float). le x maxAngleError ≡ false) (sym is)
-    (far (round binary32 false Q (8388608 * D))
-    (round-at-least binary32 halfPi Q (8388608 * D) 13176795 8388608 half-fits quarter-turn-value C (zero-lt-suc 8388607) (least (N * 8388608) D h)
-    (bounded (round binary32 false Q (8388608 * D))
-    (round-at-most binary32 pi Q (8388608 * D) 26353590 8388608 pi-fits half-turn-value C (zero-lt-suc 8388607) (most (N * 8388608) D)))))
+far : (x : Float) → AtLeast x 13176795 8388608 → le x maxAngleError ≡ false
+far nan a = absurd a
+far (inf s) a = absurd a
+far (fin true n d) a = absurd (true≢false (a .0))
+far (fin false n d) a =
+    le-values (fin false n d) maxAngleError (n * up d) (down d) 8589935 8589934592 (down-pos d) (zero-lt-suc 8589934591) (refl, refl) error-value
+    ∙ lt-leb (n * up d * 8589934592) (8589935 * down d) (more (n * up d) (down d) (down-pos d) (a .1))
   where
-    below : (X D : ℕ) → X ≤ 13176795 * D → X ≤ 26353590 * D
-    below X D h = omega arith
-
-    least : (X D : ℕ) → X ≤ 13176795 * D → 13176795 * (8388608 * D) ≤ (26353590 * D - X) * 8388608
-    least X D h = omega arith
-
-    most : (X D : ℕ) → (26353590 * D - X) * 8388608 ≤ 26353590 * (8388608 * D)
-    most X D = omega arith
-
-    bounded : (x : Float) → AtMost x 26353590 8388608 → T (finite x)
-    bounded nan h = h
-    bounded (inf s) h = h
-    bounded (fin s m e) h = tt
-
     more : (X D : ℕ) → 0 < D → 13176795 * D ≤ X * 8388608 → 8589935 * D < X * 8589934592
     more X D P h = omega arith
 
-    far : (x : Float) → AtLeast x 13176795 8388608 → le x maxAngleError ≡ false
-    far nan a = absurd a
-    far (inf s) a = absurd a
-    far (fin true n d) a = absurd (true≢false (a .0))
-    far (fin false n d) a =
-        le-values (fin false n d) maxAngleError (n * up d) (down d) 8589935 8589934592 (down-pos d) (zero-lt-suc 8589934591) (refl, refl) error-value
-        ∙ lt-leb (n * up d * 8589934592) (8589935 * down d) (more (n * up d) (down d) (down-pos d) (a .1))
+short-far : (m : ℕ) (e : ℤ) → m * up e * 8388608 ≤ 13176795 * down e → le (fromPi (fin false m e)) maxAngleError ≡ false
+short-far m e h =
+    ap (λ (x : Float). le x maxAngleError) (turn-symmetric pi (fin false m e) ∙ half-less-abs m e h) ∙ far (pi ⊖ fin false m e) (half-less-least m e h)
 
 wide-from : (t : Float) (n : ℕ) → HasValue t false n 8388608 → n ≤ 26353590 → fromPi t ≡ round binary32 false (26353590 - n) 8388608
 wide-from t n v k =

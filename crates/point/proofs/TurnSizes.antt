@@ -16,8 +16,8 @@ use lib.Ieee.Fits.{down-pos, round-fits}
 use lib.Ieee.Scale.{finite, round-same}
 use Rattle.rounding.specs.Sums.{sumSign, sumSize}
 use Rattle.rounding.proofs.Basics.{le-or-lt}
-use Rattle.rounding.proofs.Bounds.{AtMost, round-at-most, round-kept}
-use Rattle.rounding.proofs.Differences.{le-values}
+use Rattle.rounding.proofs.Bounds.{AtMost, AtLeast, round-at-most, round-at-least, round-kept, at-most-finite}
+use Rattle.rounding.proofs.Differences.{le-values, minus-values}
 use Rattle.rounding.proofs.Signed.{sum-rounds, size-swap}
 use Rattle.leaves.specs.Single.{_⊖_, f32}
 use Rattle.leaves.specs.Small.{absOf}
@@ -178,3 +178,48 @@ turn-fits (fin s m e) nan h k = absurd k
 turn-fits (fin s m e) (inf t) h k = absurd k
 turn-fits (fin s m e) (fin t n d) h k =
     subst (λ (x : Float). T (fits binary32 x)) (sym (turn-is s m e t n d)) (round-fits binary32 false (apartOf s m e t n d) (down d * down e))
+
+-- ---- π less what is at most π/2 lies from π/2 to π
+module _ (m : ℕ) (e : ℤ) (h : m * up e * 8388608 ≤ 13176795 * down e) where
+  left : ℕ
+  left = 26353590 * down e - m * up e * 8388608
+
+  scaled : 0 < 8388608 * down e
+  scaled = mul-pos (zero-lt-suc 8388607) (down-pos e)
+
+  left-is : pi ⊖ fin false m e ≡ round binary32 false left (8388608 * down e)
+  unfolding left
+  left-is =
+      minus-values binary32 pi (fin false m e) 26353590 8388608 (m * up e) (down e) (zero-lt-suc 8388607) (down-pos e) half-turn-value (refl, refl)
+      (below (m * up e * 8388608) (down e) h)
+    where
+      below : (X D : ℕ) → X ≤ 13176795 * D → X ≤ 26353590 * D
+      below X D h = omega arith
+
+  left-most : AtMost (round binary32 false left (8388608 * down e)) 26353590 8388608
+  unfolding left
+  left-most =
+      round-at-most binary32 pi (26353590 * down e - m * up e * 8388608) (8388608 * down e) 26353590 8388608 pi-fits half-turn-value scaled (zero-lt-suc 8388607)
+      (most (m * up e * 8388608) (down e))
+    where
+      most : (X D : ℕ) → (26353590 * D - X) * 8388608 ≤ 26353590 * (8388608 * D)
+      most X D = omega arith
+
+  left-least : AtLeast (round binary32 false left (8388608 * down e)) 13176795 8388608
+  unfolding left
+  left-least =
+      round-at-least binary32 halfPi (26353590 * down e - m * up e * 8388608) (8388608 * down e) 13176795 8388608 half-fits quarter-turn-value scaled
+      (zero-lt-suc 8388607) (least (m * up e * 8388608) (down e) h)
+      (at-most-finite (round binary32 false (26353590 * down e - m * up e * 8388608) (8388608 * down e)) 26353590 8388608 left-most)
+    where
+      least : (X D : ℕ) → X ≤ 13176795 * D → 13176795 * (8388608 * D) ≤ (26353590 * D - X) * 8388608
+      least X D h = omega arith
+
+  pub half-less-most : AtMost (pi ⊖ fin false m e) 26353590 8388608
+  half-less-most = subst (λ (x : Float). AtMost x 26353590 8388608) (sym left-is) left-most
+
+  pub half-less-least : AtLeast (pi ⊖ fin false m e) 13176795 8388608
+  half-less-least = subst (λ (x : Float). AtLeast x 13176795 8388608) (sym left-is) left-least
+
+  pub half-less-abs : absOf (pi ⊖ fin false m e) ≡ pi ⊖ fin false m e
+  half-less-abs = ap absOf left-is ∙ abs-round binary32 false left (8388608 * down e) ∙ sym left-is

@@ -17,7 +17,7 @@ use lib.Ieee.Fits.{down-pos}
 use lib.Ieee.Positive.{num, den, den-pos, through}
 use lib.Ieee.Scale.{finite, round-same}
 use Rattle.rounding.proofs.Basics.{le-or-lt, less-back}
-use Rattle.rounding.proofs.Bounds.{AtMost, AtLeast, round-at-most, round-at-least}
+use Rattle.rounding.proofs.Bounds.{AtMost, AtLeast, round-at-most, round-at-least, at-most-finite}
 use Rattle.rounding.proofs.Differences.{lt-values, le-values, minus-values}
 use Rattle.leaves.specs.Single.{_⊖_}
 use Rattle.leaves.specs.Small.{absOf}
@@ -73,7 +73,7 @@ rest-least m e h =
     minus-values binary32 twoPi (fin false m e) 52707180 8388608 N D (zero-lt-suc 8388607) (down-pos e) full-turn-value (refl, refl) (below (N * 8388608) D h) in
     subst (λ (x : Float). AtLeast x 26353590 8388608) (sym is)
     (round-at-least binary32 pi P (8388608 * D) 26353590 8388608 pi-fits half-turn-value C (zero-lt-suc 8388607) (least (N * 8388608) D h)
-    (at-most-finite (round binary32 false P (8388608 * D))
+    (at-most-finite (round binary32 false P (8388608 * D)) 52707180 8388608
     (round-at-most binary32 twoPi P (8388608 * D) 52707180 8388608 full-fits full-turn-value C (zero-lt-suc 8388607) (most (N * 8388608) D))))
   where
     below : (X D : ℕ) → X ≤ 26353590 * D → X ≤ 52707180 * D
@@ -84,11 +84,6 @@ rest-least m e h =
 
     most : (X D : ℕ) → (52707180 * D - X) * 8388608 ≤ 52707180 * (8388608 * D)
     most X D = omega arith
-
-    at-most-finite : (x : Float) → AtMost x 52707180 8388608 → T (finite x)
-    at-most-finite nan h = h
-    at-most-finite (inf s) h = h
-    at-most-finite (fin s m e) h = tt
 
 not-below : (x : Float) (m : ℕ) (e : ℤ) → AtLeast x 26353590 8388608 → m * up e * 8388608 ≤ 26353590 * down e → lt x (fin false m e) ≡ false
 unfolding lt

@@ -31,6 +31,11 @@ AtLeast nan n d = ⊥
 AtLeast (inf s) n d = ⊥
 AtLeast (fin s m e) n d = (s ≡ false) × (n * down e ≤ m * up e * d)
 
+pub at-most-finite : (x : Float) (n d : ℕ) → AtMost x n d → T (finite x)
+at-most-finite nan n d h = h
+at-most-finite (inf s) n d h = h
+at-most-finite (fin s m e) n d h = tt
+
 -- ---- a value of the format is rounded to itself
 one-sign : (x : Float) (s t : Bool) (a c b d : ℕ) → HasValue x s a c → HasValue x t b d → HasValue x t a c
 one-sign nan s t a c b d v w = v
