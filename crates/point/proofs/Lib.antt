@@ -9,3 +9,4 @@ pub mod Grids
 pub mod Turns
 pub mod TurnLaws
 pub mod Reversals
+pub mod Turning

@@ -6,7 +6,7 @@ use Prim.Native.Nat.{ℕ, zero, suc, _+_, _-_, _*_, _≤_, _<_, zero-le}
 use native.Mathlib.Nat.{mul-comm, mul-pos, zero-mul, zero-lt-suc, le-trans, le-of-eq, le-of-lt, add-comm, add-zero, mul-right-comm, mul-assoc, mul-le-mul-right, add-mul}
 use native.Mathlib.Nat.{eq-zero-or-pos}
 use native.Mathlib.Omega.{arith}
-use mathlib.Core.Logic.{inl, inr}
+use mathlib.Core.Logic.{_⊎_, inl, inr}
 use borrow.Author.Tests.{le-ltb, lt-ltb}
 use lib.Count.{trailingZeros}
 use lib.IntN.{ℤ, pos, negsuc}
@@ -19,14 +19,14 @@ use Rattle.rounding.specs.Sums.{sumSign, sumSize}
 use Rattle.rounding.proofs.Basics.{le-or-lt}
 use Rattle.rounding.proofs.Bounds.{AtMost, AtLeast, round-at-most, round-at-least, at-most-wider, minus-at-most, round-neg, round-kept, at-most-finite}
 use Rattle.rounding.proofs.Differences.{minus-values}
-use Rattle.rounding.proofs.Signed.{sum-rounds, size-swap}
+use Rattle.rounding.proofs.Signed.{sum-rounds, size-swap, sign-swap}
 use Rattle.leaves.specs.Single.{_⊕_, _⊖_, _⊗_, f32, zero32}
 use Rattle.leaves.specs.Small.{absOf, isZero}
 use Rattle.leaves.proofs.Signs.{abs-round}
 use Rattle.point.specs.Angle.{pi, halfPi, twoPi, maxAngleError, approxAtan2Of, turnOf, fullDiffOf}
 use Rattle.point.proofs.Digits.{nought, zero-is}
 use Rattle.point.proofs.Steep.{steepOf, atan-parts, steep-most, steep-flat, steep-upright}
-use Rattle.point.proofs.TurnSizes.{half-turn-value, quarter-turn-value, pi-fits, half-fits, turn-symmetric, turn-fits, half-less-most, half-less-least}
+use Rattle.point.proofs.TurnSizes.{half-turn-value, quarter-turn-value, pi-fits, half-fits, turn-symmetric, turn-fits, half-less-most, half-less-least, none-rounds, size-none}
 use Rattle.point.proofs.Turns.{aroundOf}
 use Rattle.point.proofs.TurnLaws.{turned-back}
 
@@ -50,7 +50,7 @@ neg-sides (inf false) = refl
 neg-sides (fin true m e) = none-under (m * up e) (down e)
 neg-sides (fin false m e) = alike (m * up e) (down e)
 
-neg-sizes : (x : Float) → absOf (neg x) ≡ absOf x
+pub neg-sizes : (x : Float) → absOf (neg x) ≡ absOf x
 unfolding absOf neg
 neg-sizes nan = refl
 neg-sizes (inf s) = refl
@@ -231,3 +231,117 @@ across-changed x y x' y' F G h p q =
         ∙ ap₂ (λ (a b : Float). angleBy (lt x' zero32) (lt y' zero32) (steepOf a b)) (p .sizes) (q .sizes)
         ∙ ap₂ (λ (a b : Bool). angleBy a b S) (p .sides) (q .sides)
         ∙ ap (λ (z : Float). angleBy (lt z x) (lt z y) S) zero-is
+
+-- ---- the two differences of a pair are across from each other
+neg-neg : (x : Float) → neg (neg x) ≡ x
+unfolding neg
+neg-neg nan = refl
+neg-neg (inf true) = refl
+neg-neg (inf false) = refl
+neg-neg (fin true m e) = refl
+neg-neg (fin false m e) = refl
+
+neg-round : (s : Bool) (a c : ℕ) → round binary32 (not s) a c ≡ neg (round binary32 s a c)
+neg-round true a c = sym (round-neg binary32 a c)
+neg-round false a c = sym (neg-neg (round binary32 true a c)) ∙ ap neg (round-neg binary32 a c)
+
+size-zero : (x : Float) → isZero x ≡ isZero (absOf x)
+unfolding absOf isZero
+size-zero nan = refl
+size-zero (inf s) = refl
+size-zero (fin s zero e) = refl
+size-zero (fin s (suc m) e) = refl
+
+zero-of-size : (x : Float) → absOf x ≡ nought → isZero x ≡ true
+unfolding isZero
+zero-of-size x h = size-zero x ∙ ap isZero h
+
+nothing : (s : Bool) (a c : ℕ) → 0 < c → a ≡ 0 → isZero (round binary32 s a c) ≡ true
+nothing s a c C h = zero-of-size (round binary32 s a c) (abs-round binary32 s a c ∙ ap (λ (z : ℕ). round binary32 false z c) h ∙ none-rounds c C)
+
+module _ (s : Bool) (m : ℕ) (e : ℤ) (t : Bool) (n : ℕ) (d : ℤ) where
+  A : ℕ
+  A = m * up e * down d
+
+  B : ℕ
+  B = n * up d * down e
+
+  D : ℕ
+  D = down e * down d
+
+  sign : Bool
+  sign = sumSign s A (not t) B
+
+  gone : ℕ
+  gone = sumSize s A (not t) B
+
+  there-is : fin s m e ⊖ fin t n d ≡ round binary32 sign gone D
+  unfolding sub add neg A B D sign gone
+  there-is = sum-rounds binary32 s (m * up e * down d) (not t) (n * up d * down e) (down e * down d)
+
+  back-is : fin t n d ⊖ fin s m e ≡ round binary32 (sumSign t B (not s) A) gone D
+  unfolding sub add neg A B D gone
+  back-is =
+      sum-rounds binary32 t (n * up d * down e) (not s) (m * up e * down d) (down d * down e)
+      ∙ ap₂ (λ (a c : ℕ). round binary32 (sumSign t (n * up d * down e) (not s) (m * up e * down d)) a c)
+      (size-swap s (m * up e * down d) t (n * up d * down e)) (mul-comm (down d) (down e))
+
+  some-sides : (A ≡ B → ⊥) ⊎ (s ≡ not t) → lt (fin t n d ⊖ fin s m e) nought ≡ lt nought (fin s m e ⊖ fin t n d)
+  unfolding sign
+  some-sides h =
+      ap (λ (x : Float). lt x nought)
+      (back-is ∙ ap (λ (i : Bool). round binary32 i gone D) (sign-swap s A t B h) ∙ neg-round sign gone D ∙ ap neg (sym there-is))
+      ∙ neg-sides (fin s m e ⊖ fin t n d)
+
+  none-sides : A ≡ B → s ≡ t → lt (fin t n d ⊖ fin s m e) nought ≡ lt nought (fin s m e ⊖ fin t n d)
+  unfolding D gone
+  none-sides h k =
+      let P : 0 < down e * down d = mul-pos (down-pos e) (down-pos d) in
+      ap (λ (x : Float). lt x nought) back-is
+      ∙ zero-under (round binary32 (sumSign t B (not s) A) gone D) (nothing (sumSign t B (not s) A) gone D P none)
+      ∙ sym (ap (lt nought) there-is ∙ zero-over (round binary32 sign gone D) (nothing sign gone D P none))
+    where
+      none : sumSize s A (not t) B ≡ 0
+      none = ap₂ (λ (i : Bool) (b : ℕ). sumSize s A (not i) b) (sym k) (sym h) ∙ size-none s A
+
+  finite-sides : lt (fin t n d ⊖ fin s m e) nought ≡ lt nought (fin s m e ⊖ fin t n d)
+  finite-sides =
+      elim (le-or-lt A B) [
+        | inl h ↦ elim (le-or-lt B A) [ inl k ↦ level s t refl refl (same A B h k) | inr k ↦ some-sides (inl (less A B k)) ]
+        | inr h ↦ some-sides (inl (more A B h))
+      ]
+    where
+      same : (a b : ℕ) → a ≤ b → b ≤ a → a ≡ b
+      same a b h k = omega arith
+
+      less : (a b : ℕ) → a < b → a ≡ b → ⊥
+      less a b h k = omega arith
+
+      more : (a b : ℕ) → b < a → a ≡ b → ⊥
+      more a b h k = omega arith
+
+      level : (i j : Bool) → s ≡ i → t ≡ j → A ≡ B → lt (fin t n d ⊖ fin s m e) nought ≡ lt nought (fin s m e ⊖ fin t n d)
+      level true true p q h = none-sides h (p ∙ sym q)
+      level false false p q h = none-sides h (p ∙ sym q)
+      level true false p q h = some-sides (inr (p ∙ ap not (sym q)))
+      level false true p q h = some-sides (inr (p ∙ ap not (sym q)))
+
+back-sides : (a b : Float) → lt (b ⊖ a) nought ≡ lt nought (a ⊖ b)
+unfolding sub add neg lt
+back-sides nan nan = refl
+back-sides nan (inf t) = refl
+back-sides nan (fin t n d) = refl
+back-sides (inf s) nan = refl
+back-sides (inf true) (inf true) = refl
+back-sides (inf true) (inf false) = refl
+back-sides (inf false) (inf true) = refl
+back-sides (inf false) (inf false) = refl
+back-sides (inf true) (fin t n d) = refl
+back-sides (inf false) (fin t n d) = refl
+back-sides (fin s m e) nan = refl
+back-sides (fin s m e) (inf true) = refl
+back-sides (fin s m e) (inf false) = refl
+back-sides (fin s m e) (fin t n d) = finite-sides s m e t n d
+
+pub sub-across : (a b : Float) → Across (a ⊖ b) (b ⊖ a)
+sub-across a b = record { sizes = turn-symmetric a b; sides = subst (λ (z : Float). lt (b ⊖ a) z ≡ lt z (a ⊖ b)) (sym zero-is) (back-sides a b) }

@@ -88,7 +88,7 @@ turn-symmetric (fin s m e) (fin t n d) =
     ∙ sym (turn-is t n d s m e)
 
 -- ---- equal angles
-size-none : (s : Bool) (a : ℕ) → sumSize s a (not s) a ≡ 0
+pub size-none : (s : Bool) (a : ℕ) → sumSize s a (not s) a ≡ 0
 unfolding sumSize
 size-none s a = go s
   where
@@ -104,7 +104,7 @@ nought-fits : T (fits binary32 nought)
 unfolding fits
 nought-fits = tt
 
-none-rounds : (c : ℕ) → 0 < c → round binary32 false 0 c ≡ nought
+pub none-rounds : (c : ℕ) → 0 < c → round binary32 false 0 c ≡ nought
 none-rounds c C = round-kept binary32 nought 0 c nought-fits C (refl, none c)
   where
     none : (c : ℕ) → 0 * 1 * c ≡ 0 * 1

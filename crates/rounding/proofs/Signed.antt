@@ -1,8 +1,9 @@
 -- Whole numbers with signs: how far two of them lie apart, and their sum as `sum` has it. Assumes nothing.
 use mathlib.Core.Path.{_≡_, refl, sym, ap, ap₂, _∙_}
-use mathlib.Core.Bool.{Bool, true, false, not, _&&_, Bool·beq, cond}
+use mathlib.Core.Bool.{Bool, true, false, not, _&&_, Bool·beq, cond, true≢false}
 use Prim.Native.Nat.{ℕ, zero, suc, _+_, _-_, _*_, _≤_, _<_}
-use native.Mathlib.Nat.{add-comm, add-mul, mul-sub, mul-comm, zero-mul, mul-lt-mul-of-pos-right, mul-le-mul-right, not-suc-le-zero}
+use native.Mathlib.Nat.{add-comm, add-mul, mul-sub, mul-comm, zero-mul, mul-lt-mul-of-pos-right, mul-le-mul-right, not-suc-le-zero, le-of-lt}
+use mathlib.Core.Logic.{_⊎_, inl, inr}
 use native.Mathlib.Omega.{arith}
 use lib.Dec.{T, ltb, ltb→lt, nltb→le}
 use borrow.Author.Tests.{lt-ltb, le-ltb}
@@ -196,6 +197,29 @@ size-swap true a false b = add-comm b a
 size-swap false a true b = add-comm b a
 size-swap true a true b = either a b
 size-swap false a false b = either a b
+
+-- and, where that size is not 0, unlike signs
+pub sign-swap : (s : Bool) (a : ℕ) (t : Bool) (b : ℕ) → (a ≡ b → ⊥) ⊎ (s ≡ not t) → sumSign t b (not s) a ≡ not (sumSign s a (not t) b)
+unfolding sumSign
+sign-swap true a false b h = refl
+sign-swap false a true b h = refl
+sign-swap true a true b (inl h) =
+    by-order a b
+    (λ l. ap₂ (λ (x y : Bool). cond x false y) (le-ltb b a (le-of-lt l)) (lt-ltb a b l) ∙ sym (ap (λ (x : Bool). not (cond x false (ltb b a))) (lt-ltb a b l)))
+    (λ l. ap (λ (x : Bool). cond x false (ltb a b)) (lt-ltb b a (more a b h l))
+    ∙ sym (ap₂ (λ (x y : Bool). not (cond x false y)) (le-ltb a b l) (lt-ltb b a (more a b h l))))
+  where
+    more : (a b : ℕ) → (a ≡ b → ⊥) → b ≤ a → b < a
+    more a b h l = omega (arith, h)
+sign-swap true a true b (inr h) = absurd (true≢false h)
+sign-swap false a false b (inl h) =
+    by-order a b
+    (λ l. ap (λ (x : Bool). cond x true false) (le-ltb b a (le-of-lt l)) ∙ sym (ap (λ (x : Bool). not (cond x true false)) (lt-ltb a b l)))
+    (λ l. ap (λ (x : Bool). cond x true false) (lt-ltb b a (more a b h l)) ∙ sym (ap (λ (x : Bool). not (cond x true false)) (le-ltb a b l)))
+  where
+    more : (a b : ℕ) → (a ≡ b → ⊥) → b ≤ a → b < a
+    more a b h l = omega (arith, h)
+sign-swap false a false b (inr h) = absurd (true≢false (sym h))
 
 pub sumSize-lt : (s : Bool) (a : ℕ) (t : Bool) (b c : ℕ) → a < c → b < c → sumSize s a t b < c + c
 unfolding sumSize
