@@ -1,14 +1,14 @@
 -- Floats on a grid: what is large enough is a whole number of 2 ^ -k, such floats compare as their numbers do, and differences of them are rounded from
 -- whole numbers, exactly where those have 24 digits. Assumes nothing.
 use mathlib.Core.Path.{_≡_, refl, sym, ap, ap₂, _∙_, subst}
-use mathlib.Core.Bool.{Bool, true, false}
+use mathlib.Core.Bool.{true, false}
 use Prim.Native.Nat.{ℕ, suc, _+_, _-_, _*_, _^_, _≤_, _<_}
 use native.Mathlib.Nat.{mul-assoc, mul-comm, mul-one, mul-sub, mul-pos, pow-suc, le-trans, le-of-eq, lt-of-lt-of-le, mul-le-mul-right, mul-lt-mul-of-pos-right}
 use native.Mathlib.Nat.{lt-of-mul-lt-mul-right, le-of-mul-le-mul-right}
 use native.Mathlib.Omega.{arith}
 use borrow.Author.Tests.{le-ltb, lt-ltb}
 use lib.IntN.{ℤ, pos, negsuc}
-use lib.Dec.{T, ltb}
+use lib.Dec.{T}
 use lib.Pow.{pow-add, pow-pos, pow-mono}
 use lib.Ieee.{Float, fin, binary32, up, down, round, lt, fits}
 use lib.Ieee.Exact.{HasValue, round-exact}

@@ -1,32 +1,29 @@
 -- A direction and its reverse: the same sizes on the other sides. The two angles are a turn from π/2 to 5 apart, so the knife's comparison says changed.
 -- Assumes nothing.
 use mathlib.Core.Path.{_≡_, refl, sym, ap, ap₂, _∙_, subst}
-use mathlib.Core.Bool.{Bool, true, false, not, _&&_, _||_, Bool·beq, cond, true≢false}
+use mathlib.Core.Bool.{Bool, true, false, not, _&&_, cond, true≢false}
 use Prim.Native.Nat.{ℕ, zero, suc, _+_, _-_, _*_, _≤_, _<_, zero-le}
-use native.Mathlib.Nat.{mul-comm, mul-pos, zero-mul, zero-lt-suc, le-trans, le-of-eq, le-of-lt, add-comm, add-zero, mul-right-comm, mul-assoc, mul-le-mul-right, add-mul}
-use native.Mathlib.Nat.{eq-zero-or-pos}
+use native.Mathlib.Nat.{mul-comm, mul-pos, zero-mul, zero-lt-suc, le-trans, le-of-eq, add-comm, add-zero, mul-right-comm, mul-assoc, mul-le-mul-right}
 use native.Mathlib.Omega.{arith}
 use mathlib.Core.Logic.{_⊎_, inl, inr}
 use borrow.Author.Tests.{le-ltb, lt-ltb}
 use lib.Count.{trailingZeros}
-use lib.IntN.{ℤ, pos, negsuc}
-use lib.Dec.{T, ltb, lit≤}
-use lib.Ieee.{Float, nan, inf, fin, binary32, up, down, unlike, size, span, climb, odd, units, round, sum, add, sub, mul, neg, lt, le, fits, ofFields, ofBits}
-use lib.Ieee.Exact.{HasValue}
-use lib.Ieee.Fits.{down-pos, up-pos, sub-fits, round-fits}
+use lib.IntN.{ℤ, pos}
+use lib.Dec.{T, ltb}
+use lib.Ieee.{Float, nan, inf, fin, binary32, up, down, size, span, climb, odd, units, round, sum, add, sub, neg, lt, fits, ofFields, ofBits}
+use lib.Ieee.Fits.{down-pos, up-pos, round-fits}
 use lib.Ieee.Scale.{finite}
 use Rattle.rounding.specs.Sums.{sumSign, sumSize}
 use Rattle.rounding.proofs.Basics.{le-or-lt}
-use Rattle.rounding.proofs.Bounds.{AtMost, AtLeast, round-at-most, round-at-least, at-most-wider, minus-at-most, round-neg, round-kept, at-most-finite}
-use Rattle.rounding.proofs.Differences.{minus-values}
+use Rattle.rounding.proofs.Bounds.{AtMost, AtLeast, round-at-most, round-at-least, round-neg, at-most-finite}
 use Rattle.rounding.proofs.Signed.{sum-rounds, size-swap, sign-swap}
-use Rattle.leaves.specs.Single.{_⊕_, _⊖_, _⊗_, f32, zero32}
+use Rattle.leaves.specs.Single.{_⊖_, zero32}
 use Rattle.leaves.specs.Small.{absOf, isZero}
 use Rattle.leaves.proofs.Signs.{abs-round}
-use Rattle.point.specs.Angle.{pi, halfPi, twoPi, maxAngleError, approxAtan2Of, turnOf, fullDiffOf}
+use Rattle.point.specs.Angle.{pi, halfPi, maxAngleError, approxAtan2Of, turnOf, fullDiffOf}
 use Rattle.point.proofs.Digits.{nought, zero-is}
 use Rattle.point.proofs.Steep.{steepOf, atan-parts, steep-most, steep-flat, steep-upright}
-use Rattle.point.proofs.TurnSizes.{half-turn-value, quarter-turn-value, pi-fits, half-fits, turn-symmetric, turn-fits, half-less-most, half-less-least, none-rounds, size-none}
+use Rattle.point.proofs.TurnSizes.{quarter-turn-value, half-fits, turn-symmetric, half-less-most, half-less-least, none-rounds, size-none}
 use Rattle.point.proofs.Turns.{aroundOf}
 use Rattle.point.proofs.TurnLaws.{turned-back}
 

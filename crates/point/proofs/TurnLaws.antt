@@ -1,35 +1,33 @@
 -- The laws of the two differences, turn by turn: the one around the full turn is from 0 to π, its rest is exact above π, and it says changed where the folded
 -- one does and where the turn lies within 0.001 of π. Assumes nothing.
 use mathlib.Core.Path.{_≡_, refl, sym, ap, ap₂, _∙_, subst}
-use mathlib.Core.Bool.{Bool, true, false, _&&_, _||_, cond, true≢false}
-use Prim.Native.Nat.{ℕ, zero, suc, _+_, _-_, _*_, _^_, _≤_, _<_, zero-le}
-use native.Mathlib.Nat.{mul-assoc, mul-comm, mul-left-comm, mul-right-comm, mul-pos, zero-mul, zero-lt-suc, le-trans, le-of-eq, le-of-lt, mul-le-mul-right, add-mul}
+use mathlib.Core.Bool.{Bool, true, false, _&&_, _||_, true≢false}
+use Prim.Native.Nat.{ℕ, _+_, _-_, _*_, _≤_, _<_, zero-le}
+use native.Mathlib.Nat.{mul-assoc, mul-comm, mul-left-comm, zero-mul, zero-lt-suc, le-trans, le-of-eq, mul-le-mul-right, add-mul}
 use native.Mathlib.Nat.{eq-of-mul-eq-mul-right}
 use native.Mathlib.Omega.{arith}
 use mathlib.Core.Logic.{inl, inr}
-use borrow.Author.Tests.{le-ltb, lt-ltb, le-leb, lt-leb, leb-true, ltb-true}
-use lib.IntN.{ℤ, pos, negsuc}
-use lib.Dec.{T, leb, ltb, lit≤}
-use lib.Ieee.{Float, nan, inf, fin, binary32, up, down, round, lt, le, fits, ofBits}
-use lib.Ieee.Bits.{is-true}
+use borrow.Author.Tests.{lt-ltb, le-leb, lt-leb}
+use lib.IntN.{ℤ}
+use lib.Dec.{T, lit≤}
+use lib.Ieee.{Float, nan, inf, fin, binary32, up, down, round, lt, le, fits}
 use lib.Ieee.Exact.{HasValue}
 use lib.Ieee.Fits.{down-pos}
-use lib.Ieee.Positive.{num, den, den-pos, through}
-use lib.Ieee.Scale.{finite}
+use lib.Ieee.Positive.{num, den}
 use Rattle.rounding.proofs.Basics.{le-or-lt}
-use Rattle.rounding.proofs.Bounds.{AtMost, AtLeast, round-at-most, round-at-least, at-most-wider}
-use Rattle.rounding.proofs.Differences.{lt-values, le-values, minus-values}
+use Rattle.rounding.proofs.Bounds.{AtMost, AtLeast, at-most-wider}
+use Rattle.rounding.proofs.Differences.{lt-values, le-values}
 use Rattle.rounding.proofs.Values.{cross}
 use Rattle.leaves.specs.Single.{_⊖_, zero32}
 use Rattle.leaves.specs.Small.{absOf}
 use Rattle.leaves.proofs.Signs.{abs-round}
-use Rattle.point.specs.Angle.{pi, halfPi, twoPi, maxAngleError, turnOf}
+use Rattle.point.specs.Angle.{pi, twoPi, maxAngleError}
 use Rattle.point.specs.Turning.{Sums}
 use Rattle.point.proofs.Digits.{nought, zero-is}
-use Rattle.point.proofs.Grids.{minus-at, round-at, on-grid, grid-more, grid-most}
-use Rattle.point.proofs.TurnSizes.{half-turn-value, full-turn-value, error-value, pi-fits, half-fits, quarter-turn-value, turn-symmetric, half-less-least, half-less-abs}
+use Rattle.point.proofs.Grids.{minus-at, round-at, grid-most}
+use Rattle.point.proofs.TurnSizes.{half-turn-value, error-value, turn-symmetric, half-less-least, half-less-abs}
 use Rattle.point.proofs.Turns.{aroundOf, foldedOf, fromPi, Where, short, wide, long, where-of, around-short, around-long, folded-short, folded-wide, folded-third}
-use Rattle.point.proofs.Turns.{folded-fourth, beyond-is, beyond-value, rest-value, rest-is, error-less, either-error, half-at, full-at, not-over}
+use Rattle.point.proofs.Turns.{folded-fourth, beyond-is, beyond-value, rest-value, rest-is, error-less, either-error, full-at, not-over}
 
 -- ---- how far a turn lies from π
 -- π less a turn up to π/2 is π/2 or more
@@ -189,7 +187,7 @@ sums x y z a b c G P u v w h =
     second Y dx dz G b dy h = simp (mul-assoc, mul-comm, mul-left-comm) (simp (mul-assoc, mul-comm, mul-left-comm) at (ap (λ (k : ℕ). k * (dx * dz)) h))
 
     third : (Z dx dy G c dz : ℕ) → Z * G ≡ c * dz → Z * (dx * dy) * G ≡ c * (dx * dy * dz)
-    third Z dx dy G c dz h = simp (mul-assoc, mul-comm, mul-left-comm) (simp (mul-assoc, mul-comm, mul-left-comm) at (ap (λ (k : ℕ). k * (dx * dy)) h))
+    third Z dx dy G c dz h = simp (mul-assoc, mul-left-comm) (simp (mul-assoc, mul-comm, mul-left-comm) at (ap (λ (k : ℕ). k * (dx * dy)) h))
 
 pub rest-sums : (t : Float) → Where t → T (lt pi t) → Sums (twoPi ⊖ t) t twoPi
 rest-sums t (short m e is h) l = absurd (subst T (ap (lt pi) is ∙ not-over pi 26353590 m e half-turn-value (more (m * up e * 8388608) (down e) h)) l)

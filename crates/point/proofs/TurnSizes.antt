@@ -1,25 +1,23 @@
 -- The turn between two angles is the size of their difference, rounded once: it is the same in either direction, nought between equal angles, and at most 2π
 -- between angles within ±π. Assumes nothing.
 use mathlib.Core.Path.{_≡_, refl, sym, ap, ap₂, _∙_, subst}
-use mathlib.Core.Bool.{Bool, true, false, not, _&&_, Bool·beq, cond, true≢false}
-use Prim.Native.Nat.{ℕ, zero, suc, _+_, _-_, _*_, _^_, _≤_, _<_}
-use native.Mathlib.Nat.{mul-assoc, mul-comm, mul-left-comm, mul-right-comm, mul-pos, zero-mul, zero-lt-suc, le-refl, le-trans, le-of-eq, mul-le-mul-right, add-comm, add-mul}
+use mathlib.Core.Bool.{Bool, true, false, not, Bool·beq, cond}
+use Prim.Native.Nat.{ℕ, _+_, _-_, _*_, _≤_, _<_}
+use native.Mathlib.Nat.{mul-assoc, mul-comm, mul-right-comm, mul-pos, zero-mul, zero-lt-suc, le-refl, le-trans, le-of-eq, mul-le-mul-right}
 use native.Mathlib.Omega.{arith}
-use mathlib.Core.Logic.{inl, inr}
-use borrow.Author.Tests.{le-ltb, lt-ltb, leb-true}
-use lib.IntN.{ℤ, pos, negsuc}
-use lib.Dec.{T, leb, ltb, eqb}
-use lib.Ieee.{Float, nan, inf, fin, Format, binary32, up, down, round, add, sub, neg, le, fits, ofBits}
+use borrow.Author.Tests.{leb-true}
+use lib.IntN.{ℤ}
+use lib.Dec.{T, ltb}
+use lib.Ieee.{Float, nan, inf, fin, binary32, up, down, round, add, sub, neg, le, fits, ofBits}
 use lib.Ieee.Bits.{is-true}
 use lib.Ieee.Exact.{HasValue}
 use lib.Ieee.Fits.{down-pos, round-fits}
-use lib.Ieee.Scale.{finite, round-same}
+use lib.Ieee.Scale.{finite}
 use Rattle.rounding.specs.Sums.{sumSign, sumSize}
-use Rattle.rounding.proofs.Basics.{le-or-lt}
 use Rattle.rounding.proofs.Bounds.{AtMost, AtLeast, round-at-most, round-at-least, round-kept, at-most-finite}
 use Rattle.rounding.proofs.Differences.{le-values, minus-values}
 use Rattle.rounding.proofs.Signed.{sum-rounds, size-swap}
-use Rattle.leaves.specs.Single.{_⊖_, f32}
+use Rattle.leaves.specs.Single.{_⊖_}
 use Rattle.leaves.specs.Small.{absOf}
 use Rattle.leaves.proofs.Signs.{abs-round}
 use Rattle.point.specs.Angle.{pi, halfPi, twoPi, maxAngleError, turnOf}

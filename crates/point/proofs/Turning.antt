@@ -1,16 +1,14 @@
 -- What the comparison of angles promises holds. Assumes nothing.
 use mathlib.Core.Path.{_≡_, refl, sym, ap, ap₂, _∙_, subst}
-use mathlib.Core.Bool.{Bool, true, false, _&&_, _||_, cond, true≢false}
+use mathlib.Core.Bool.{Bool, true, false, _&&_, cond, true≢false}
 use Prim.Native.Nat.{ℕ, zero, suc, _*_, _≤_}
 use native.Mathlib.Nat.{zero-lt-suc, zero-mul, mul-pos}
-use native.Mathlib.Omega.{arith}
 use borrow.Author.Tests.{le-leb}
 use lib.Count.{trailingZeros}
-use lib.IntN.{ℤ, pos}
-use lib.Dec.{T, leb, lit≤}
-use lib.Ieee.{Float, nan, inf, fin, binary32, up, down, unlike, size, span, climb, odd, units, round, sum, add, sub, mul, div, neg, lt, eq, le, fits, isNan}
+use lib.IntN.{pos}
+use lib.Dec.{T, lit≤}
+use lib.Ieee.{Float, nan, inf, fin, binary32, up, down, size, span, climb, odd, units, round, sum, add, sub, mul, div, neg, lt, eq, le, isNan}
 use lib.Ieee.{ofFields, ofBits, toBits}
-use lib.Ieee.Bits.{is-true}
 use lib.Ieee.Fits.{and-l, and-r, down-pos}
 use lib.Ieee.Scale.{finite}
 use Rattle.rounding.specs.Roots.{rootIn, root, rooted}
@@ -23,14 +21,14 @@ use Rattle.leaves.specs.Sqrt.{sqrt32, sqrtOf}
 use Rattle.point.specs.declared.Point.{Point}
 use Rattle.point.specs.declared.Angle.{Angle}
 use Rattle.point.specs.declared.Angle.the-variants.{Missing, Known}
-use Rattle.point.specs.declared.Setting.the-variants.{Screen, Knife}
+use Rattle.point.specs.declared.Setting.the-variants.{Knife}
 use Rattle.point.specs.Point.{pointAt, minusOf, lenOf}
-use Rattle.point.specs.Angle.{pi, halfPi, twoPi, maxAngleError, approxAtan2Of, angleOf, turnOf, diffOf, fullDiffOf, differenceOf, changedOf}
+use Rattle.point.specs.Angle.{pi, twoPi, approxAtan2Of, angleOf, turnOf, diffOf, fullDiffOf, differenceOf, changedOf}
 use Rattle.point.specs.Turning.{finiteOf, knownOf, angled, reverseOf, underLeft, Turning}
 use Rattle.point.proofs.Digits.{nought, zero-is}
 use Rattle.point.proofs.Steep.{steepOf, atan-parts, steep-most}
 use Rattle.point.proofs.TurnSizes.{half-turn-value, full-turn-value, turn-symmetric, turn-none, turn-at-most, turn-fits, angled-finite, half-less-most, none-rounds}
-use Rattle.point.proofs.Turns.{aroundOf, foldedOf, Where, where-of, around-short}
+use Rattle.point.proofs.Turns.{aroundOf, Where, where-of, around-short}
 use Rattle.point.proofs.TurnLaws.{beside, around-most, rest-sums}
 use Rattle.point.proofs.Reversals.{Across, neg-sizes, neg-across, sub-across, across-changed}
 

@@ -2,29 +2,25 @@
 -- there is exact. Assumes nothing.
 use mathlib.Core.Path.{_≡_, refl, sym, ap, ap₂, _∙_, subst}
 use mathlib.Core.Bool.{Bool, true, false, _||_, cond, or-true, true≢false}
-use Prim.Native.Nat.{ℕ, zero, suc, _+_, _-_, _*_, _^_, _≤_, _<_}
-use native.Mathlib.Nat.{mul-assoc, mul-comm, mul-left-comm, mul-one, mul-sub, mul-pos, zero-lt-suc, le-trans, le-of-eq, le-of-lt, lt-of-le-of-lt, lt-of-lt-of-le}
-use native.Mathlib.Nat.{pow-suc, mul-le-mul-right, mul-lt-mul-of-pos-right, lt-of-mul-lt-mul-right, le-of-mul-le-mul-right}
+use Prim.Native.Nat.{ℕ, _-_, _*_, _≤_, _<_}
+use native.Mathlib.Nat.{mul-pos, zero-lt-suc, le-of-lt}
 use native.Mathlib.Omega.{arith}
 use mathlib.Core.Logic.{inl, inr}
-use borrow.Author.Tests.{le-ltb, lt-ltb, le-leb, lt-leb}
-use lib.IntN.{ℤ, pos, negsuc}
+use borrow.Author.Tests.{le-ltb, lt-ltb, le-leb}
+use lib.IntN.{ℤ}
 use lib.Dec.{T, leb, ltb, lit≤}
-use lib.Pow.{pow-add, pow-pos, pow-mono}
 use lib.Ieee.{Float, nan, inf, fin, binary32, up, down, round, lt, le, fits, ofBits}
-use lib.Ieee.Exact.{HasValue, round-exact}
+use lib.Ieee.Exact.{HasValue}
 use lib.Ieee.Fits.{down-pos}
-use lib.Ieee.Positive.{num, den, den-pos, through}
-use lib.Ieee.Scale.{finite, round-same}
-use Rattle.rounding.proofs.Basics.{le-or-lt, less-back}
+use lib.Ieee.Positive.{through}
+use Rattle.rounding.proofs.Basics.{le-or-lt}
 use Rattle.rounding.proofs.Bounds.{AtMost, AtLeast, round-at-most, round-at-least, at-most-finite}
 use Rattle.rounding.proofs.Differences.{lt-values, le-values, minus-values}
 use Rattle.leaves.specs.Single.{_⊖_}
 use Rattle.leaves.specs.Small.{absOf}
-use Rattle.leaves.proofs.Signs.{abs-round}
-use Rattle.point.specs.Angle.{pi, halfPi, twoPi, maxAngleError, turnOf}
+use Rattle.point.specs.Angle.{pi, halfPi, twoPi, maxAngleError}
 use Rattle.point.proofs.Grids.{on-grid, less-at, not-less-at, minus-at, round-at, grid-more, grid-most}
-use Rattle.point.proofs.TurnSizes.{half-turn-value, quarter-turn-value, full-turn-value, error-value, pi-fits, half-fits, full-fits, turn-symmetric}
+use Rattle.point.proofs.TurnSizes.{half-turn-value, quarter-turn-value, full-turn-value, error-value, pi-fits, full-fits}
 
 -- ---- the two differences, of a turn
 abbrev pub foldedOf : Float → Float

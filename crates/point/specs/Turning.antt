@@ -1,4 +1,4 @@
--- RULES, Angles 7 to 12: what the comparison of angles promises, apart from its arithmetic. `turning` (point/proofs/Turning) proves it. Assumes nothing.
+-- RULES, Angles 7 to 9: what the comparison of angles promises, apart from its arithmetic. `turning` (point/proofs/Turning) proves it. Assumes nothing.
 use mathlib.Core.Path.{_≡_}
 use mathlib.Core.Bool.{Bool, true, false, _&&_, _||_}
 use Prim.Native.Nat.{_+_, _*_}
