@@ -5,6 +5,7 @@ pub mod Drawings
 pub mod Words
 pub mod Accepted
 pub mod Demand3
+pub mod Corners
 pub mod Layouts
 pub mod DrawingAnswers
 pub mod FlattenAnswers
