@@ -56,6 +56,9 @@ uint32_t kermezhul_build(KERMEZHUL_DRAWING);
 
 /* Flattens the drawing as it is, closed or not. setting: 0 for the screen, any other number for the knife. Nothing of the drawing is changed.
  *
+ * The settings differ in two things. After a line without length the knife keeps the direction before it, and the screen forgets it: a corner at a doubled
+ * point is then lost. For the knife a reversal of direction is a corner, for the screen it is none: a line out and the same line back then lose their far end.
+ *
  * The work tables: the quad table, as above, and the spline table of six columns, whose capacity is its shortest column. words, out_x, out_y and out_end take
  * one entry for each point; out_end is 1 at a contour's last point.
  *

@@ -1,4 +1,5 @@
-/* Draws a belt end (a straight that runs into a half round), flattens it in the knife setting and prints its points. `examples/run` builds and runs it. */
+/* Draws a belt end (a straight that runs into a half round) and a slit (a line out and the same line back), flattens them and prints their points.
+ * In the knife setting the slit's far end is one of them, in the screen setting it is lost. `examples/run` builds and runs it. */
 #include "../bindings/kermezhul.h"
 #include <stdio.h>
 
@@ -7,11 +8,28 @@
 #define SPLINES 16
 #define LENGTH 256
 
-int main(void) {
-    static float x[POINTS], y[POINTS], weight[POINTS];
-    static uint8_t commands[POINTS];
-    size_t points, used, opening;
+static float x[POINTS], y[POINTS], weight[POINTS];
+static uint8_t commands[POINTS];
+static size_t points, used, opening;
 #define DRAWING x, POINTS, y, POINTS, weight, POINTS, commands, POINTS, &points, &used, &opening
+
+static void show(const char *name, uint32_t setting) {
+    static float quad_rows[KERMEZHUL_QUAD_ROW * QUADS];
+    static uint32_t partial_splines[QUADS];
+    static float curvature[SPLINES], p0x[SPLINES], p0y[SPLINES], p2x[SPLINES], p2y[SPLINES];
+    static uint8_t contour[SPLINES];
+    static uint32_t words[LENGTH];
+    static float out_x[LENGTH], out_y[LENGTH];
+    static uint8_t end[LENGTH];
+    size_t splines, quads, length;
+    uint32_t answer = kermezhul_flatten(setting, points, used, opening, x, POINTS, y, POINTS, weight, POINTS, commands, POINTS, quad_rows,
+        KERMEZHUL_QUAD_ROW * QUADS, partial_splines, QUADS, curvature, SPLINES, p0x, SPLINES, p0y, SPLINES, p2x, SPLINES, p2y, SPLINES, contour, SPLINES,
+        words, LENGTH, out_x, LENGTH, out_y, LENGTH, end, LENGTH, &splines, &quads, &length);
+    printf("%s: answer %u, %zu splines, %zu quads, %zu points\n", name, answer, splines, quads, length);
+    for (size_t i = 0; i < length; i++) printf("%9.4f %9.4f%s\n", out_x[i], out_y[i], end[i] == 1 ? "  end" : "");
+}
+
+int main(void) {
     uint32_t answer = kermezhul_fresh(DRAWING);
     if (answer == 0) answer = kermezhul_line_to(DRAWING, 100, 0);
     if (answer == 0) answer = kermezhul_cubic_to(DRAWING, 111.05f, 0, 120, 8.95f, 120, 20);
@@ -22,19 +40,21 @@ int main(void) {
         printf("refused: %u\n", answer);
         return 1;
     }
+    show("belt end, knife setting", 1);
 
-    static float quad_rows[KERMEZHUL_QUAD_ROW * QUADS];
-    static uint32_t partial_splines[QUADS];
-    static float curvature[SPLINES], p0x[SPLINES], p0y[SPLINES], p2x[SPLINES], p2y[SPLINES];
-    static uint8_t contour[SPLINES];
-    static uint32_t words[LENGTH];
-    static float out_x[LENGTH], out_y[LENGTH];
-    static uint8_t end[LENGTH];
-    size_t splines, quads, length;
-    answer = kermezhul_flatten(1, points, used, opening, x, POINTS, y, POINTS, weight, POINTS, commands, POINTS, quad_rows, KERMEZHUL_QUAD_ROW * QUADS,
-        partial_splines, QUADS, curvature, SPLINES, p0x, SPLINES, p0y, SPLINES, p2x, SPLINES, p2y, SPLINES, contour, SPLINES, words, LENGTH, out_x, LENGTH,
-        out_y, LENGTH, end, LENGTH, &splines, &quads, &length);
-    printf("answer %u: %zu splines, %zu quads, %zu points\n", answer, splines, quads, length);
-    for (size_t i = 0; i < length; i++) printf("%9.4f %9.4f%s\n", out_x[i], out_y[i], end[i] == 1 ? "  end" : "");
+    answer = kermezhul_fresh(DRAWING);
+    if (answer == 0) answer = kermezhul_line_to(DRAWING, 10, 0);
+    if (answer == 0) answer = kermezhul_line_to(DRAWING, 10, 5);
+    if (answer == 0) answer = kermezhul_line_to(DRAWING, 5, 5);
+    if (answer == 0) answer = kermezhul_line_to(DRAWING, 10, 5);
+    if (answer == 0) answer = kermezhul_line_to(DRAWING, 10, 10);
+    if (answer == 0) answer = kermezhul_line_to(DRAWING, 0, 10);
+    if (answer == 0) answer = kermezhul_build(DRAWING);
+    if (answer != 0) {
+        printf("refused: %u\n", answer);
+        return 1;
+    }
+    show("slit, screen setting", 0);
+    show("slit, knife setting", 1);
     return 0;
 }

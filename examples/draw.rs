@@ -1,21 +1,15 @@
-//! Draws a belt end (a straight that runs into a half round), flattens it in the knife setting and prints its points.
+//! Draws a belt end (a straight that runs into a half round) and a slit (a line out and the same line back), flattens them and prints their points.
+//! In the knife setting the slit's far end is one of them, in the screen setting it is lost.
 //!
 //! `examples/run` builds and runs it.
 
 use kermezhul::{flatten, Call, Columns, Drawn, Output, Quads, Setting, Splines, QUAD_ROW};
 
-fn main() {
+fn show(calls: &[Call], settings: &[(&str, Setting)]) {
     let (mut x, mut y, mut weight, mut commands) = ([0.0; 64], [0.0; 64], [0.0; 64], [0; 64]);
     let mut columns = Columns { x: &mut x, y: &mut y, weight: &mut weight, commands: &mut commands };
     let (mut answer, mut state) = columns.fresh();
-    let calls = [
-        Call::Line(100.0, 0.0),
-        Call::Cubic([111.05, 0.0, 120.0, 8.95, 120.0, 20.0]),
-        Call::Cubic([120.0, 31.05, 111.05, 40.0, 100.0, 40.0]),
-        Call::Line(0.0, 40.0),
-        Call::Build,
-    ];
-    for call in calls {
+    for &call in calls {
         if answer == 0 {
             (answer, state) = columns.draw(state, call);
         }
@@ -39,9 +33,33 @@ fn main() {
     let [out_x, out_y] = &mut out;
     let mut output = Output { words: &mut words, x: out_x, y: out_y, end: &mut end };
     let drawn = Drawn { x: &x, y: &y, weight: &weight, commands: &commands };
-    let f = flatten(Setting::Knife, state, drawn, &mut quads, &mut splines, &mut output);
-    println!("answer {}: {} splines, {} quads, {} points", f.answer, f.splines, f.quads, f.points);
-    for i in 0..f.points {
-        println!("{:9.4} {:9.4}{}", output.x[i], output.y[i], if output.end[i] == 1 { "  end" } else { "" });
+    for &(name, setting) in settings {
+        let f = flatten(setting, state, drawn, &mut quads, &mut splines, &mut output);
+        println!("{name}: answer {}, {} splines, {} quads, {} points", f.answer, f.splines, f.quads, f.points);
+        for i in 0..f.points {
+            println!("{:9.4} {:9.4}{}", output.x[i], output.y[i], if output.end[i] == 1 { "  end" } else { "" });
+        }
     }
+}
+
+fn main() {
+    let belt_end = [
+        Call::Line(100.0, 0.0),
+        Call::Cubic([111.05, 0.0, 120.0, 8.95, 120.0, 20.0]),
+        Call::Cubic([120.0, 31.05, 111.05, 40.0, 100.0, 40.0]),
+        Call::Line(0.0, 40.0),
+        Call::Build,
+    ];
+    show(&belt_end, &[("belt end, knife setting", Setting::Knife)]);
+
+    let slit = [
+        Call::Line(10.0, 0.0),
+        Call::Line(10.0, 5.0),
+        Call::Line(5.0, 5.0),
+        Call::Line(10.0, 5.0),
+        Call::Line(10.0, 10.0),
+        Call::Line(0.0, 10.0),
+        Call::Build,
+    ];
+    show(&slit, &[("slit, screen setting", Setting::Screen), ("slit, knife setting", Setting::Knife)]);
 }

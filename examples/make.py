@@ -1,14 +1,20 @@
 #!/usr/bin/env python3
-"""Makes the listings of this folder, what the program writes for them, and the pictures: examples/make.py
+"""Makes the listings of this folder, what the programs write for them, and the pictures.
+
+  python3 examples/make.py                     makes all of it; needs a C compiler and the built library, for draw.out
+  python3 examples/make.py --pictures FOLDER   draws the pictures alone, by the outputs that are here, and puts them into FOLDER
 
 For each drawing below NAME.txt is its listing, NAME.out the program's output (by ../flatten) and NAME.svg a picture of both: the drawing as
 it is meant in brown, exact but for rational curves, which are drawn as 200 short lines, and over it the flattened points, joined as the knife
-joins them, a ring around the last point of a contour. Python's own library is all that it needs; any browser shows the pictures.
+joins them, a ring around the last point of a contour. The program has the screen setting alone, so the slit's picture has a second side, whose
+points are those of draw.out: what draw.c prints, which flattens in the knife setting by the library. Any browser shows the pictures.
 """
 import math
 import os
 import struct
 import subprocess
+import sys
+import tempfile
 
 HERE = os.path.dirname(os.path.abspath(__file__))
 HALF = math.sqrt(0.5)  # the weight of a quarter circle
@@ -45,6 +51,8 @@ DRAWINGS = {
         ("move", 40, 0), ("line", 240, 0), ("cubic", 290, 30, 300, 120, 270, 200), ("rcubic", 250, 260, 190, 330, 130, 340, 1.5, 0.75),
         ("cubic", 60, 345, 10, 290, 6, 220), ("quad", 0, 120, 30, 60), ("line", 40, 0),
     ],
+    # a square with a slit from its right side to its middle: a line out and the same line back
+    "slit": [("move", 0, 0), ("line", 10, 0), ("line", 10, 5), ("line", 5, 5), ("line", 10, 5), ("line", 10, 10), ("line", 0, 10)],
 }
 
 
@@ -99,12 +107,20 @@ def path(drawing):
     return "".join(d) + (" Z" if opened else "")
 
 
-def picture(name, drawing, found):
-    xs = [p[0] for p in found] + [v[i] for _, *v in drawing for i in range(0, len(v) // 2 * 2, 2) if i < 6]
-    ys = [p[1] for p in found] + [v[i + 1] for _, *v in drawing for i in range(0, len(v) // 2 * 2, 2) if i < 6]
-    left, top, right, bottom = min(xs), min(ys), max(xs), max(ys)
-    wide = max(right - left, bottom - top)
-    m, dot = wide * 0.06, wide * 0.006
+def knife(text, name):
+    """The points that draw.c prints under this heading."""
+    rows = text[text.index(f"{name}:"):].split("\n")[1:]
+    rows = [row.split() for row in rows[: next(i for i, row in enumerate(rows) if not row.startswith(" "))]]
+    return [(float(row[0]), float(row[1]), row[2:] == ["end"]) for row in rows]
+
+
+def extent(drawing, found):
+    at = [(x, y) for x, y, _ in found] + [(v[i], v[i + 1]) for _, *v in drawing for i in range(0, min(len(v) // 2 * 2, 6), 2)]
+    return min(x for x, _ in at), min(y for _, y in at), max(x for x, _ in at), max(y for _, y in at)
+
+
+def side(drawing, found, dot):
+    """The drawing and its points, where the dots have the radius dot."""
     runs, run = [], []
     for x, y, end in found:
         run.append(f"{x:.4f},{y:.4f}")
@@ -112,9 +128,6 @@ def picture(name, drawing, found):
             runs.append(run)
             run = []
     out = [
-        f'<svg xmlns="http://www.w3.org/2000/svg" viewBox="{left - m:.3f} {top - m:.3f} {right - left + 2 * m:.3f} {bottom - top + 3 * m:.3f}" width="720">',
-        f"<title>{name}</title>",
-        '<rect x="-10000" y="-10000" width="20000" height="20000" fill="#faf6ef"/>',
         f'<path d="{path(drawing)}" fill="#e8d3b5" fill-rule="evenodd" stroke="#b98a52" stroke-width="{2.4 * dot:.3f}" stroke-linejoin="round"/>',
     ]
     for run in runs:
@@ -123,25 +136,91 @@ def picture(name, drawing, found):
         out.append(f'<circle cx="{x:.4f}" cy="{y:.4f}" r="{dot:.3f}" fill="#1d3557"/>')
         if end:
             out.append(f'<circle cx="{x:.4f}" cy="{y:.4f}" r="{2.2 * dot:.3f}" fill="none" stroke="#c1121f" stroke-width="{0.6 * dot:.3f}"/>')
-    text = f"{name}: {len(found)} points, {len(runs)} contour{'s' if len(runs) != 1 else ''}"
-    out.append(f'<text x="{left:.3f}" y="{bottom + 1.6 * m:.3f}" font-family="sans-serif" font-size="{wide * 0.035:.3f}" fill="#1d3557">{text}</text>')
-    out.append("</svg>")
-    return "\n".join(out) + "\n"
+    return out
+
+
+def label(x, y, size, text):
+    return f'<text x="{x:.3f}" y="{y:.3f}" font-family="sans-serif" font-size="{size:.3f}" fill="#1d3557">{text}</text>'
+
+
+def sheet(name, left, top, wide, high, shapes):
+    head = [
+        f'<svg xmlns="http://www.w3.org/2000/svg" viewBox="{left:.3f} {top:.3f} {wide:.3f} {high:.3f}" width="720">',
+        f"<title>{name}</title>",
+        '<rect x="-10000" y="-10000" width="20000" height="20000" fill="#faf6ef"/>',
+    ]
+    return "\n".join([*head, *shapes, "</svg>"]) + "\n"
+
+
+def picture(name, drawing, found):
+    left, top, right, bottom = extent(drawing, found)
+    wide = max(right - left, bottom - top)
+    m, contours = wide * 0.06, sum(end for _, _, end in found)
+    text = f"{name}: {len(found)} points, {contours} contour{'s' if contours != 1 else ''}"
+    shapes = [*side(drawing, found, wide * 0.006), label(left, bottom + 1.6 * m, wide * 0.035, text)]
+    return sheet(name, left - m, top - m, right - left + 2 * m, bottom - top + 3 * m, shapes)
+
+
+def two_sides(name, drawing, sides):
+    """The drawing once for each list of points, side by side, with two lines of text under each."""
+    left, top, right, bottom = extent(drawing, [p for found, _ in sides for p in found])
+    wide = right - left
+    m, step, shapes = wide * 0.09, wide * 1.25, []
+    for i, (found, lines) in enumerate(sides):
+        shapes.append(f'<g transform="translate({i * step:.3f} 0)">')
+        shapes += side(drawing, found, wide * 0.013)
+        shapes += [label(left, bottom + (1.2 + 0.8 * k) * m, wide * 0.055, text) for k, text in enumerate(lines)]
+        shapes.append("</g>")
+    return sheet(name, left - m, top - m, (len(sides) - 1) * step + wide + 2 * m, bottom - top + 3.6 * m, shapes)
+
+
+def read(name):
+    with open(os.path.join(HERE, name), encoding="ascii", newline="") as f:
+        return f.read()
+
+
+def write(folder, name, text):
+    with open(os.path.join(folder, name), "w", encoding="utf8", newline="") as f:
+        f.write(text)
+
+
+def drawn(name, drawing):
+    found = points(read(name + ".out"))
+    if name != "slit":
+        return picture(name, drawing, found)
+    kept = knife(read("draw.out"), "slit, knife setting")
+    return two_sides(name, drawing, [
+        (found, ["before, and still in the screen setting:", f"{len(found)} points; the slit's far end is lost"]),
+        (kept, ["after, in the knife setting:", f"{len(kept)} points; the slit's far end is kept"]),
+    ])
+
+
+def outputs():
+    for name, drawing in DRAWINGS.items():
+        write(HERE, name + ".txt", listing(drawing))
+        stem = os.path.join(HERE, name)
+        output = subprocess.run([os.path.join(HERE, "..", "flatten"), stem + ".txt"], check=True, stdout=subprocess.PIPE, text=True).stdout
+        assert output.startswith("answer=0\n"), (name, output[:40])
+        write(HERE, name + ".out", output)
+        print(name, output.split("\n")[2])
+    library = os.path.join(HERE, "..", "target", "staticlib", "libabi.a")
+    if not os.path.exists(library):
+        subprocess.run([os.path.join(HERE, "..", "bindings", "build")], check=True, stdout=subprocess.DEVNULL)
+    with tempfile.TemporaryDirectory() as made:
+        program = os.path.join(made, "draw")
+        subprocess.run([os.environ.get("CC", "cc"), "-O2", "-o", program, os.path.join(HERE, "draw.c"), library], check=True)
+        write(HERE, "draw.out", subprocess.run([program], check=True, stdout=subprocess.PIPE, text=True).stdout)
 
 
 def main():
+    args = sys.argv[1:]
+    if args and (args[0] != "--pictures" or len(args) != 2):
+        sys.exit(__doc__)
+    if not args:
+        outputs()
+    folder = args[1] if args else HERE
     for name, drawing in DRAWINGS.items():
-        text = listing(drawing)
-        stem = os.path.join(HERE, name)
-        with open(stem + ".txt", "w", encoding="ascii", newline="") as f:
-            f.write(text)
-        output = subprocess.run([os.path.join(HERE, "..", "flatten"), stem + ".txt"], check=True, stdout=subprocess.PIPE, text=True).stdout
-        assert output.startswith("answer=0\n"), (name, output[:40])
-        with open(stem + ".out", "w", encoding="ascii", newline="") as f:
-            f.write(output)
-        with open(stem + ".svg", "w", encoding="utf8", newline="") as f:
-            f.write(picture(name, drawing, points(output)))
-        print(name, output.split("\n")[2])
+        write(folder, name + ".svg", drawn(name, drawing))
 
 
 main()

@@ -174,10 +174,13 @@ impl Columns<'_> {
     }
 }
 
-/// In the knife setting the direction before a line without length is remembered; in the screen setting it is forgotten.
+/// What counts as a corner. The settings differ in nothing else.
 #[derive(Clone, Copy, Debug, PartialEq, Eq)]
 pub enum Setting {
+    /// A line without length forgets the direction before it, so that a corner at a doubled point is lost. A reversal of direction is no corner, so that a
+    /// line out and the same line back lose their far end.
     Screen,
+    /// A line without length keeps the direction before it. A reversal of direction is a corner: a line out and the same line back keep their far end.
     Knife,
 }
 
