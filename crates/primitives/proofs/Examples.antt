@@ -15,7 +15,7 @@ use Rattle.answer.specs.declared.Answer.the-variants.{Done, SumTooLarge}
 use Rattle.point.specs.declared.Point.{Point}
 use Rattle.point.specs.declared.Angle.the-variants.{Missing, Known}
 use Rattle.point.specs.Point.{pointAt, plain, appliedOf, minusOf, lenOf}
-use Rattle.point.specs.Angle.{halfPi, approxAtan2Of, angleOf, diffOf, changedOf}
+use Rattle.point.specs.Angle.{halfPi, approxAtan2Of, angleOf, diffOf, fullDiffOf, differenceOf, changedOf}
 use Rattle.point.specs.Curve.{curvatureOf}
 use Rattle.point.specs.declared.Setting.the-variants.{Screen, Knife}
 use Rattle.primitives.specs.declared.Capacities.{Capacities}
@@ -98,5 +98,5 @@ knife-keeps = refl
 pub sum-refused :
     planOf Screen room (stateOf Done 1 1 false Missing) (ended (P 10 0) limit32) (Quad (plain (P 10 0)) (plain (P 15 0)) (plain (P 20 0)))
     ≡ Keep (stateOf SumTooLarge 1 1 false Missing)
-unfolding planOf planQuadOf planLegsOf planCurveOf refusedOf quadRowOf crossOf legOf ownCurvatureOf straightOf curveOf farOf opensOf sumBefore splineEditOf appliedOf minusOf lenOf approxAtan2Of angleOf diffOf changedOf curvatureOf negativeOf absOf lessOf minOf maxOf fmaOf sqrtOf rootIn root rooted trailingZeros size span climb odd units round neg sum add sub mul div lt eq le ofInt isNan ofFields ofBits toBits
+unfolding planOf planQuadOf planLegsOf planCurveOf refusedOf quadRowOf crossOf legOf ownCurvatureOf straightOf curveOf farOf opensOf sumBefore splineEditOf appliedOf minusOf lenOf approxAtan2Of angleOf diffOf fullDiffOf differenceOf changedOf curvatureOf negativeOf absOf lessOf minOf maxOf fmaOf sqrtOf rootIn root rooted trailingZeros size span climb odd units round neg sum add sub mul div lt eq le ofInt isNan ofFields ofBits toBits
 sum-refused = refl

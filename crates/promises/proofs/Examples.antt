@@ -11,7 +11,7 @@ use Rattle.leaves.specs.Sixth.{sixthRootOf}
 use Rattle.leaves.specs.Small.{negativeOf, absOf, lessOf, minOf, maxOf, clampOf, ceilOf}
 use Rattle.leaves.specs.Sqrt.{sqrtOf}
 use Rattle.leaves.specs.Whole.{wholeUpOf}
-use Rattle.point.specs.Angle.{approxAtan2Of, angleOf, diffOf, changedOf}
+use Rattle.point.specs.Angle.{approxAtan2Of, angleOf, diffOf, fullDiffOf, differenceOf, changedOf}
 use Rattle.point.specs.Curve.{lerpOf, curvatureOf, invCurvatureOf, quadAtOf, cubicAtOf, evalCubicOf, evalQuadOf}
 use Rattle.point.specs.Point.{rationalOf, appliedOf, minusOf, sameOf, lenOf}
 use Rattle.command.specs.Packing.{packOf, unpackOf}
@@ -37,7 +37,7 @@ use Rattle.promises.specs.Room.{emptyColumns, emptyQuads, emptySplines, 
 
 pub promised-hold : map (λ (e : Example). e .given) promised ≡ map (λ (e : Example). e .claimed) promised
 unfolding rootIn root rooted bitsOf floatOf fmaOf piecesOf cutTo sixthRootOf negativeOf absOf lessOf minOf maxOf clampOf ceilOf sqrtOf wholeUpOf
-    approxAtan2Of angleOf diffOf changedOf lerpOf curvatureOf invCurvatureOf quadAtOf cubicAtOf evalCubicOf evalQuadOf rationalOf appliedOf minusOf
+    approxAtan2Of angleOf diffOf fullDiffOf differenceOf changedOf lerpOf curvatureOf invCurvatureOf quadAtOf cubicAtOf evalCubicOf evalQuadOf rationalOf appliedOf minusOf
     sameOf lenOf packOf unpackOf unclosedOf storedPointOf lastCommandOf putPoint putCommand evenOf usableOf storedOkOf knownOf totalUsesOf drawableOf
     coordinateOkOf weightOkOf every coordinatesOf weightsOf appended closed moved writesOf putPoints putCommands written stateAfter roomOf answerOf
     drawOf freshOf replayOf bendOf cubicErrorOf cubicPiecesOf cubicPointOf controlOf quadsFrom cutOf cubicQuadsOf refusedOf markedOf planLineOf

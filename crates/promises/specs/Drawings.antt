@@ -1,9 +1,11 @@
--- Examples in addition to P1 to P12: the splines of a second contour are numbered on, and a gap at 0.0625 and to either side of it. Assumes nothing.
+-- Examples in addition to P1 to P12: the splines of a second contour are numbered on, a gap at 0.0625 and to either side of it, a slit, and directions to
+-- either side of the negative x axis. Assumes nothing.
 use Prim.Native.Nat.{ℕ}
 use mathlib.Core.List.{List, [], _∷_}
 use lib.Ieee.{Float}
 use Rattle.leaves.specs.Single.{f32, whole32, zero32}
 use Rattle.point.specs.Point.{pointAt, plain}
+use Rattle.store.specs.declared.Call.{Call}
 use Rattle.store.specs.declared.Call.the-variants.{Move, Line, Build}
 use Rattle.point.specs.declared.Setting.the-variants.{Screen, Knife}
 use Rattle.primitives.specs.declared.Primitive.{Primitive}
@@ -12,7 +14,7 @@ use Rattle.tables.specs.Tables.{capacitiesOf, quadRowAt}
 use Rattle.tables.specs.Run.{World, world, runOf, startState}
 use Rattle.walk.specs.Walk.{walkOf, wordsOf}
 use Rattle.promises.specs.Room.{emptyQuads, emptySplines}
-use Rattle.promises.specs.Examples.{Example, example, P, wordsAfter}
+use Rattle.promises.specs.Examples.{Example, example, P, wordsAfter, pointsAfter}
 
 -- a line along the x axis
 abbrev pub along : Float → Float → Primitive
@@ -28,6 +30,14 @@ wordsAlong ps =
 abbrev pub gapTo : Float → List Primitive
 gapTo start = along zero32 (whole32 10) ∷ along start (whole32 20) ∷ []
 
+-- an outline with a slit from (10,5) to (5,5) and back
+abbrev pub slit : List Call
+slit = Line (P 10 0) ∷ Line (P 10 5) ∷ Line (P 5 5) ∷ Line (P 10 5) ∷ Line (P 10 10) ∷ Line (P 0 10) ∷ Build ∷ []
+
+-- to (-10, 2^-10) and on to (-20, 0): the angles are just under π and just over -π
+abbrev pub wrap : List Call
+wrap = Line (pointAt (f32 0xc120_0000) (f32 0x3a80_0000)) ∷ Line (pointAt (f32 0xc1a0_0000) zero32) ∷ Build ∷ []
+
 abbrev pub drawings : List Example
 drawings =
     -- two triangles: a Move does not reset the running number of splines
@@ -36,6 +46,17 @@ drawings =
     -- a Move alone between two lines along one axis: two contours, each flagged
     ∷ example (wordsAfter Knife (Line (P 10 0) ∷ Move (P 10 0) ∷ Line (P 20 0) ∷ []))
     (0 ∷ 0x7F800000 ∷ 0xFFC00000 ∷ 0x7F800001 ∷ 0xFFC00001 ∷ [])
+    -- the slit's far end (5,5) is kept by the knife, and on the screen it is not
+    ∷ example (wordsAfter Knife slit)
+    (0 ∷ 0x7F800000 ∷ 0xFF800000 ∷ 0xFF800001 ∷ 0xFF800002 ∷ 0xFF800003 ∷ 0xFF800004 ∷ 0xFF800005 ∷ 0xFFC00006 ∷ [])
+    ∷ example (pointsAfter Knife slit)
+    (0x00000000 ∷ 0x41200000 ∷ 0x41200000 ∷ 0x40A00000 ∷ 0x41200000 ∷ 0x41200000 ∷ 0x00000000 ∷ 0x00000000
+    ∷ 0x00000000 ∷ 0x00000000 ∷ 0x40A00000 ∷ 0x40A00000 ∷ 0x40A00000 ∷ 0x41200000 ∷ 0x41200000 ∷ 0x00000000 ∷ [])
+    ∷ example (wordsAfter Screen slit)
+    (0 ∷ 0x7F800000 ∷ 0xFF800000 ∷ 0xFF800001 ∷ 0xFF800002 ∷ 0xFF800003 ∷ 0xFF800004 ∷ 0xFFC00005 ∷ [])
+    -- across ±π the turn is over π, and 2π less it is no change; the way back to the start is
+    ∷ example (wordsAfter Knife wrap) (0 ∷ 0x7F800000 ∷ 0xFF800000 ∷ 0xFFC00001 ∷ [])
+    ∷ example (pointsAfter Knife wrap) (0x00000000 ∷ 0xC1A00000 ∷ 0x00000000 ∷ 0x00000000 ∷ 0x00000000 ∷ 0x00000000 ∷ [])
     -- a line that starts exactly 0.0625 from the last end opens a spline, and no Start is written
     ∷ example (wordsAlong (gapTo (f32 0x4121_0000))) (0x7F800000 ∷ 0xFF800000 ∷ 0xFFC00001 ∷ [])
     -- one f32 nearer it joins the spline, one f32 further a Start is written

@@ -105,12 +105,17 @@ promised =
     -- P5 "(0,0) (10,0) (4,0), built: 7F800000 FFC00000, both points (0,0)."
     ∷ example (wordsAfter Screen back) (0 ∷ 0x7F800000 ∷ 0xFFC00000 ∷ [])
     ∷ example (pointsAfter Screen back) (0 ∷ 0 ∷ 0 ∷ 0 ∷ [])
+    -- "P5 in the knife setting must keep (10,0)."
+    ∷ example (wordsAfter Knife back) (0 ∷ 0x7F800000 ∷ 0xFF800000 ∷ 0xFFC00001 ∷ [])
+    ∷ example (pointsAfter Knife back) (0x00000000 ∷ 0x41200000 ∷ 0x00000000 ∷ 0x00000000 ∷ 0x00000000 ∷ 0x00000000 ∷ [])
     -- P6 "quad (5,0) (10,0) from the origin, built"
     ∷ example (wordsAfter Screen onward) (0 ∷ 0x7F800000 ∷ 0x3F800000 ∷ 0xFFC00000 ∷ [])
     -- and its row: three x, three y, three weights, x0, dx_recip, k0, dk, the reciprocal, the sum; spline 0
     ∷ example (rowAfter Screen onward)
     (0x00000000 ∷ 0x40A00000 ∷ 0x41200000 ∷ 0x00000000 ∷ 0x00000000 ∷ 0x00000000 ∷ 0x3F800000 ∷ 0x3F800000 ∷ 0x3F800000
     ∷ 0x3D1603C0 ∷ 0x3F800000 ∷ 0x00000000 ∷ 0x3F800000 ∷ 0x3F000000 ∷ 0x40000000 ∷ 0 ∷ [])
+    -- P6 in the knife setting: the closing line goes back, and the quad's end stays
+    ∷ example (wordsAfter Knife onward) (0 ∷ 0x7F800000 ∷ 0x3F800000 ∷ 0xFF800000 ∷ 0xFFC00001 ∷ [])
     -- P7 "quad (0,0) (0,0) from the origin: no words."
     ∷ example (wordsAfter Screen (Quad (P 0 0) (P 0 0) ∷ [])) (0 ∷ [])
     -- P8 "move (1,1), move (2,2): one point."
