@@ -573,7 +573,18 @@ pub fn slits() -> Vec<Vec<Call>> {
             }
         }
     }
-    // smaller and larger ones; from π to -π a turn is 2π exactly
+    // turns, across ±π too, and returns so close to 0.001 that the last digits count: π - |π - turn| has too few
+    for i in -60..=60 {
+        let y = (0.1 * (1.0 + i as f64 * 1e-5)) as f32;
+        for y in [y, -y] {
+            add(vec![Line(p(100.0, 0.0)), Line(p(200.0, y))]);
+            add(vec![Line(p(100.0, y)), Line(p(200.0, y))]);
+            add(vec![Line(p(-100.0, 0.0)), Line(p(-200.0, y))]);
+            add(vec![Line(p(100.0, 0.0)), Line(p(0.0, y))]);
+            add(vec![Line(p(y, 100.0)), Quad(p(y, 150.0), p(y, 200.0))]);
+        }
+    }
+    // smaller and larger turns across ±π; from π to -π a turn is 2π exactly
     for y in [1e-30f32, 1e-10, 1e-6, 1e-4, 0.001, 0.0049, 0.0051, 0.01, 0.1, 1.0, 9.0] {
         for y in [y, -y] {
             add(vec![Line(p(-10.0, y)), Line(p(-20.0, 0.0))]);
