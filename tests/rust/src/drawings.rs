@@ -492,7 +492,8 @@ pub fn by_rule() -> Vec<Vec<Call>> {
     out
 }
 
-/// Slits, which go out and come back, and turns across ±π: what the knife compares around the full turn. The first are REQUESTS' Slit and Wrap, P5 and P6 again.
+/// Slits, which go out and come back, and turns across ±π: what the knife compares around the full turn.
+/// The first are the examples Slit and Wrap, and P5 and P6 again.
 pub fn slits() -> Vec<Vec<Call>> {
     use Call::*;
     let mut out: Vec<Vec<Call>> = Vec::new();

@@ -171,7 +171,8 @@ pub fn fixed() -> String {
             knives += 1;
         }
     }
-    println!("{} drawings for flatten_cases, {screens} in the screen setting and {knives} in the knife setting, {slits} of them slits and turns across ±π", screens + knives);
+    println!("{} drawings for flatten_cases, {screens} in the screen setting and {knives} in the knife setting", screens + knives);
+    println!("{slits:6} drawings  slits and turns across ±π");
     for (name, often) in cover::NAMES.iter().zip(seen_often) {
         println!("{often:6} drawings  {name}");
     }

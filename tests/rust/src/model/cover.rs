@@ -2,7 +2,7 @@
 
 use std::cell::RefCell;
 
-pub const NAMES: [&str; 30] = [
+pub const NAMES: [&str; 31] = [
     "splines opened by a contour mark",
     "splines opened by an angle",
     "splines opened by a gap",
@@ -33,6 +33,7 @@ pub const NAMES: [&str; 30] = [
     "reversals that the knife keeps and the screen does not",
     "turns of the knife where 2π less the turn is the smaller one",
     "  of them no change",
+    "turns that are a change for the screen and none for the knife",
 ];
 
 pub const MARK: usize = 0;
@@ -65,13 +66,14 @@ pub const NOT_FINITE: usize = 26;
 pub const SLIT: usize = 27;
 pub const AROUND: usize = 28;
 pub const ACROSS: usize = 29;
+pub const SCREEN_ONLY: usize = 30;
 
-thread_local!(static COUNTS: RefCell<[u64; 30]> = const { RefCell::new([0; 30]) });
+thread_local!(static COUNTS: RefCell<[u64; 31]> = const { RefCell::new([0; 31]) });
 
 pub fn count(i: usize) {
     COUNTS.with(|c| c.borrow_mut()[i] += 1);
 }
 
-pub fn counts() -> [u64; 30] {
+pub fn counts() -> [u64; 31] {
     COUNTS.with(|c| *c.borrow())
 }

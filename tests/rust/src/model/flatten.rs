@@ -166,8 +166,10 @@ fn changed(setting: Setting, before: Option<f32>, now: Option<f32>) -> bool {
         }
         Setting::Knife => {
             let d = around(turn);
-            if over(d) != over(folded(turn)) {
-                count(cover::SLIT);
+            match (over(d), over(folded(turn))) {
+                (true, false) => count(cover::SLIT),
+                (false, true) => count(cover::SCREEN_ONLY),
+                _ => {}
             }
             if d < turn {
                 count(cover::AROUND);
