@@ -110,8 +110,8 @@ fn changes(text: &mut String, rng: &mut Rng, opens: Opens) {
     }
 }
 
-/// Pairs of angles next to where a difference of directions decides: turns of 0, 0.001, π/2, π, 2π and 0.001 less than these, a few f32 to each side;
-/// any angles; and numbers that are no angles.
+/// Pairs of angles next to where a difference of directions decides: turns of 0.001, π/2, π and 2π, and 0.001 beside the last two, with two f32 on either
+/// side; returns, turns across ±π and any angles; and numbers that are none.
 fn angle_pairs(rng: &mut Rng) -> Vec<(f32, f32)> {
     let pi = std::f32::consts::PI;
     let beside = |v: f32, by: i32| f32::from_bits((v.to_bits() as i32 + by) as u32);
