@@ -1,6 +1,7 @@
 //! Copies the original Rust to OUT_DIR, unchanged, and adds to `path.rs` a child module that reaches its private items.
 //! Parts of that module are cut out of the Rust's own text, so that nothing is imitated: the loop of `PathData::segments` over the
-//! commands, and how `push_cubic` counts its pieces. `path_knife.rs` is the same text with one statement of `push_line` changed.
+//! commands, how `push_cubic` counts its pieces, and how two angles are compared. `path_knife.rs` is the same text with two places changed: one statement of
+//! `push_line`, and the difference of two angles.
 
 use std::{env, fs, path::PathBuf};
 
@@ -12,6 +13,40 @@ fn between<'a>(text: &'a str, from: &str, start: &str, end: &str) -> &'a str {
     let b = text[a..].find(end).unwrap_or_else(|| panic!("path.rs has no `{end}`")) + a;
     &text[a..b]
 }
+
+/// A text of the Rust's in which `old` stands once, between `from` and `to`, with `new` in its place.
+fn changed(text: &str, from: &str, to: &str, old: &str, new: &str) -> String {
+    assert_eq!(text.matches(old).count(), 1, "path.rs must have this once, after `{from}`:\n{old}");
+    assert!(between(text, from, "{", to).contains(old), "not between `{from}` and `{to}`:\n{old}");
+    text.replace(old, new)
+}
+
+/// How the Rust works out the difference of two angles: a reversal is folded to 0.
+const FOLDED: &str = "
+                let mut diff = (a1 - a0).abs();
+
+                if diff > f32::consts::PI {
+                    diff -= f32::consts::PI;
+                }
+
+                if diff > f32::consts::FRAC_PI_2 {
+                    diff = f32::consts::PI - diff;
+                }
+
+                diff
+";
+
+/// The knife's, around the full turn.
+const FULL: &str = "
+                let turn = (a1 - a0).abs();
+                let rest = f32::from_bits(0x40C9_0FDB) - turn;
+
+                if rest < turn {
+                    rest
+                } else {
+                    turn
+                }
+";
 
 fn main() {
     let here = PathBuf::from(env::var("CARGO_MANIFEST_DIR").unwrap());
@@ -41,14 +76,13 @@ fn main() {
     let with_probe = |text: &str| {
         let commands = between(text, "pub fn segments(&mut self)", "if self.segments.is_none() {", "self.segments = Some(");
         let pieces = between(text, "pub fn push_cubic(", "{", "let incr = ");
-        let probe = probe.replace("/*COMMANDS*/", commands).replace("/*PIECES*/", pieces);
+        let difference = between(text, "fn diff(a0: f32, a1: f32) -> f32", "{", "\n            }");
+        let probe = probe.replace("/*COMMANDS*/", commands).replace("/*PIECES*/", pieces).replace("/*DIFFERENCE*/", difference);
         format!("{text}\n{probe}")
     };
     fs::write(out.join("path.rs"), with_probe(&path)).unwrap();
 
-    let statement = "self.last_angle = angle;";
-    assert_eq!(path.matches(statement).count(), 1, "`{statement}` must occur once, in push_line");
-    assert!(between(&path, "pub fn push_line(", "{", "pub fn push_quad(").contains(statement));
-    let knife = path.replace(statement, "self.last_angle = angle.or(self.last_angle);");
+    let knife = changed(&path, "pub fn push_line(", "pub fn push_quad(", "self.last_angle = angle;", "self.last_angle = angle.or(self.last_angle);");
+    let knife = changed(&knife, "fn diff(a0: f32, a1: f32) -> f32", "let angle_changed = ", FOLDED, FULL);
     fs::write(out.join("path_knife.rs"), with_probe(&knife)).unwrap();
 }

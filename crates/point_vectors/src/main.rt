@@ -61,14 +61,26 @@ fn angle_read() -> Angle {
     Angle::Known(a)
 }
 
-fn changed() -> Check {
+fn changed(setting: Setting) -> Check {
     let a0 = angle_read();
     let a1 = angle_read();
-    against(if point::changed(Setting::Screen, a0, a1) {
+    against(if point::changed(setting, a0, a1) {
         1
     } else {
         0
     })
+}
+
+fn diff() -> Check {
+    let a0 = float();
+    let a1 = float();
+    against_float(point::diff(a0, a1))
+}
+
+fn full_diff() -> Check {
+    let a0 = float();
+    let a1 = float();
+    against_float(point::full_diff(a0, a1))
 }
 
 fn curvature() -> Check {
@@ -141,13 +153,16 @@ fn pack() -> Check {
 fn one(function: u8) -> Check {
     match function {
         0 => angle(),
-        1 => changed(),
+        1 => changed(Setting::Screen),
         2 => curvature(),
         3 => inv_curvature(),
         4 => eval_cubic(),
         5 => eval_quad(),
         6 => unpack(),
-        _ => pack(),
+        7 => pack(),
+        8 => changed(Setting::Knife),
+        9 => diff(),
+        _ => full_diff(),
     }
 }
 
@@ -202,6 +217,9 @@ fn main() {
     run(b"eval_quad", 5, 512);
     run(b"unpack", 6, 534);
     run(b"pack", 7, 87);
+    run(b"changed for the knife", 8, 1280);
+    run(b"diff", 9, 783);
+    run(b"full_diff", 10, 783);
     if is_at_end() {
         io::write_all(STDOUT_FILENO, b"end of the list\n");
     }

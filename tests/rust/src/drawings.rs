@@ -6,7 +6,7 @@ use crate::{
     seen::Store,
 };
 
-pub const KINDS: [&str; 14] = [
+pub const KINDS: [&str; 15] = [
     "whole numbers",
     "numbers to 100",
     "huge numbers",
@@ -21,12 +21,18 @@ pub const KINDS: [&str; 14] = [
     "long drawings",
     "rounded shapes",
     "steps about a tenth of 0.0625",
+    "slits and turns across ±π",
 ];
 
 /// A random kind: those with very many points come an eighth as often as the others.
 pub fn kind(rng: &mut Rng) -> usize {
+    kind_below(rng, KINDS.len())
+}
+
+/// One of the first kinds.
+pub fn kind_below(rng: &mut Rng, kinds: usize) -> usize {
     loop {
-        let k = rng.below(KINDS.len() as u64) as usize;
+        let k = rng.below(kinds as u64) as usize;
         if !(k == 2 || k == 8 || k == 11) || rng.one_in(8) {
             return k;
         }
@@ -40,6 +46,7 @@ pub fn random(rng: &mut Rng, k: usize) -> Vec<Call> {
         8 => falls_short(rng),
         10 => smooth(rng),
         12 => rounded(rng),
+        14 => out_and_back(rng),
         _ => mixed(rng, k),
     }
 }
@@ -311,22 +318,72 @@ fn rounded(rng: &mut Rng) -> Vec<Call> {
     calls
 }
 
+/// Lines and straight curves that often come back the way they went, or nearly so, or go on across ±π.
+fn out_and_back(rng: &mut Rng) -> Vec<Call> {
+    use std::f64::consts::{FRAC_PI_4, PI};
+    let mut at = if rng.one_in(2) { p(0.0, 0.0) } else { p(coordinate(rng, 1), coordinate(rng, 1)) };
+    let mut calls = vec![Call::Move(at)];
+    let mut trail = vec![at];
+    let mut angle = if rng.one_in(2) { FRAC_PI_4 * rng.below(8) as f64 } else { rng.between(0.0, 7.0) };
+    let part = |a: P, b: P, t: f32| p(a.x + t * (b.x - a.x), a.y + t * (b.y - a.y));
+    for _ in 0..2 + rng.below(14) {
+        let from = trail[trail.len().saturating_sub(2)];
+        let next = match rng.below(10) {
+            0..=2 => from,
+            3 => part(at, from, rng.between(0.0, 1.0) as f32),
+            4 => at,
+            _ => {
+                angle = match rng.below(8) {
+                    0 | 1 => angle + PI + rng.between(-0.0015, 0.0015),
+                    2 => angle + rng.between(-0.0015, 0.0015),
+                    3 | 4 => PI + rng.between(-0.0008, 0.0008),
+                    5 => FRAC_PI_4 * rng.below(8) as f64,
+                    _ => rng.between(0.0, 7.0),
+                };
+                let len = rng.between(0.1, 60.0);
+                p((at.x as f64 + len * angle.cos()) as f32, (at.y as f64 + len * angle.sin()) as f32)
+            }
+        };
+        calls.push(match rng.below(6) {
+            0 => Call::Quad(part(at, next, 0.5), next),
+            1 => Call::Cubic(part(at, next, 0.3), part(at, next, 0.7), next),
+            2 if rng.one_in(4) => Call::Move(next),
+            _ => Call::Line(next),
+        });
+        trail.push(next);
+        at = next;
+    }
+    if !rng.one_in(5) {
+        calls.push(Call::Build);
+    }
+    calls
+}
+
 /// Straight quads of length 1 in a row: the sum 65,536 is accepted, one quad more gives answer 8. Too long for the fixed lists.
 pub fn long_rows() -> Vec<Vec<Call>> {
     let row = |n: u16| (0..n).map(|i| Call::Quad(p(i as f32 + 0.5, 0.0), p(i as f32 + 1.0, 0.0))).collect();
     vec![row(32_768), row(32_769)]
 }
 
-/// Drawings made for one rule each.
+/// A drawing as it is, and built.
+fn add_both(out: &mut Vec<Vec<Call>>, calls: Vec<Call>) {
+    let built = [&calls[..], &[Call::Build]].concat();
+    out.push(calls);
+    out.push(built);
+}
+
+/// Drawings made for one rule each, and the slits.
 pub fn directed() -> Vec<Vec<Call>> {
+    let mut out = by_rule();
+    out.extend(slits());
+    out
+}
+
+/// Drawings made for one rule each.
+pub fn by_rule() -> Vec<Vec<Call>> {
     use Call::*;
     let mut out: Vec<Vec<Call>> = Vec::new();
-    let mut add = |calls: Vec<Call>| {
-        let mut built = calls.clone();
-        built.push(Build);
-        out.push(calls);
-        out.push(built);
-    };
+    let mut add = |calls: Vec<Call>| add_both(&mut out, calls);
 
     // P1 to P8
     add(vec![]);
@@ -432,6 +489,112 @@ pub fn directed() -> Vec<Vec<Call>> {
     // drawing on after a build, and moves everywhere
     add(vec![Line(p(3.0, 0.0)), Build, Build, Line(p(3.0, 4.0)), Build, Move(p(1.0, 1.0)), Build, Line(p(2.0, 1.0)), Move(p(0.0, 0.0)), Move(p(5.0, 5.0))]);
     add(vec![Line(p(3.0, 0.0)), Line(p(0.0, -0.0)), Move(p(1.0, 1.0)), Line(p(2.0, 2.0)), Line(p(1.0, 1.0)), Move(p(3.0, 3.0)), Quad(p(4.0, 3.0), p(4.0, 4.0))]);
+    out
+}
+
+/// Slits, which go out and come back, and turns across ±π: what the knife compares around the full turn.
+/// The first are the examples Slit and Wrap, and P5 and P6 again.
+pub fn slits() -> Vec<Vec<Call>> {
+    use Call::*;
+    let mut out: Vec<Vec<Call>> = Vec::new();
+    let mut add = |calls: Vec<Call>| add_both(&mut out, calls);
+    add([(10.0, 0.0), (10.0, 5.0), (5.0, 5.0), (10.0, 5.0), (10.0, 10.0), (0.0, 10.0)].map(|(x, y)| Line(p(x, y))).to_vec());
+    add(vec![Line(p(-10.0, f32::from_bits(0x3a80_0000))), Line(p(-20.0, 0.0))]);
+    add(vec![Line(p(10.0, 0.0)), Line(p(4.0, 0.0))]);
+    add(vec![Quad(p(5.0, 0.0), p(10.0, 0.0))]);
+
+    let slanted = [(3.0f32, 4.0f32), (-7.0, 2.0), (0.3, -0.9), (-0.001, -1.0), (-1.0, 0.0001), (-1.0, -0.0001)];
+    let straight = [(1.0f32, 0.0f32), (0.0, 1.0), (-1.0, 0.0), (0.0, -1.0), (1.0, 1.0), (-1.0, 1.0), (1.0, -1.0), (-1.0, -1.0)];
+    for (x, y) in straight.into_iter().chain(slanted) {
+        for r in [0.1f32, 1.0, 10.0, 777.7, 3500.0] {
+            let on = |t: f32, u: f32| p(r * (t * x - u * y), r * (t * y + u * x));
+            let at = |t: f32| on(t, 0.0);
+            // all the way back, part of it, and beyond
+            for back in [0.0, 0.4, 0.99, -0.7] {
+                add(vec![Line(at(1.0)), Line(at(back))]);
+                add(vec![Line(at(1.0)), Line(at(back)), Line(on(back, 1.0))]);
+            }
+            add(vec![Line(at(1.0)), Line(at(0.25)), Line(at(0.75)), Line(at(0.5))]);
+            // a doubled point at the far end: lines, quads that are dropped or are lines, and a leg without an angle
+            add(vec![Line(at(1.0)), Line(at(1.0)), Line(at(0.0))]);
+            add(vec![Line(at(1.0)), Line(at(1.0)), Line(at(1.0)), Line(at(0.5)), Line(at(0.25))]);
+            add(vec![Line(at(1.0)), Quad(at(1.0), at(1.0)), Line(at(0.5))]);
+            add(vec![Line(at(1.0)), Quad(at(1.0), at(0.5))]);
+            add(vec![Line(at(1.0)), Quad(at(0.5), at(0.5))]);
+            add(vec![Line(at(1.0)), Line(at(1.0 + f32::EPSILON)), Line(at(0.5))]);
+            // out and back by curves
+            add(vec![Quad(at(0.5), at(1.0)), Quad(at(0.5), at(0.0))]);
+            add(vec![Line(at(1.0)), Quad(at(0.75), at(0.5)), Line(at(0.25))]);
+            add(vec![Quad(at(0.5), at(1.0)), Line(at(0.5))]);
+            add(vec![RatQuad(at(0.5), at(1.0), 2.0), RatQuad(at(0.5), at(0.0), 0.5)]);
+            add(vec![Cubic(at(0.3), at(0.7), at(1.0)), Cubic(at(0.7), at(0.3), at(0.0))]);
+            add(vec![Cubic(at(0.3), at(0.7), at(1.0)), Line(at(0.5))]);
+            add(vec![Line(at(1.0)), Cubic(at(0.7), at(0.3), at(0.0))]);
+            // curves that fold back along their own line, the cubics by several pieces
+            add(vec![Quad(at(1.0), at(0.0)), Line(at(2.0))]);
+            add(vec![Quad(at(1.0), at(0.3)), Quad(at(-0.5), at(0.2))]);
+            add(vec![Cubic(at(2.0), at(-1.0), at(0.5))]);
+            add(vec![Cubic(at(1.0), at(1.0), at(0.0)), Cubic(at(1.0), at(-1.0), at(0.0))]);
+            add(vec![RatCubic(at(2.0), at(-1.0), at(0.5), 3.0, 0.5), Line(at(1.0))]);
+            // rounds that are left the way they came, and entered the way the line went
+            add(vec![Quad(at(1.0), on(1.0, 1.0)), Line(at(1.0))]);
+            add(vec![Line(at(1.0)), Quad(at(0.0), on(0.0, 1.0))]);
+            add(vec![Cubic(at(0.5), on(1.0, 0.5), on(1.0, 1.0)), Cubic(on(1.0, 0.5), at(0.5), at(0.0))]);
+            // a slit in an outline: from a side, from a corner, with a doubled end, and in a contour of its own
+            let side = [Line(at(2.0)), Line(on(2.0, 1.0))];
+            let rest = [Line(on(2.0, 2.0)), Line(on(0.0, 2.0))];
+            for slit in [&[on(1.0, 1.0), on(2.0, 1.0)][..], &[on(1.0, 0.5), on(1.0, 0.5), on(2.0, 1.0)], &[on(1.0, 1.0), on(1.5, 1.0), on(2.0, 1.0)]] {
+                let slit: Vec<Call> = slit.iter().map(|q| Line(*q)).collect();
+                add([&side[..], &slit, &rest].concat());
+                add([&side[..1], &slit, &rest].concat());
+                add([&side[..], &rest, &[Move(on(0.5, 0.5)), Line(on(1.5, 0.5)), Line(on(0.5, 0.5))]].concat());
+            }
+        }
+    }
+
+    let go = |q: P, r: f64, a: f64| p((q.x as f64 + r * a.cos()) as f32, (q.y as f64 + r * a.sin()) as f32);
+    let pi = std::f64::consts::PI;
+    let o = p(0.0, 0.0);
+    for i in -40..=40 {
+        let off = 0.001 * (1.0 + i as f64 * 1e-3);
+        // returns that are off by about 0.001, to either side
+        for base in [0.0, pi / 4.0, 1.0, pi / 2.0, 3.1, pi, -2.5] {
+            for off in [off, -off] {
+                let far = go(o, 100.0, base);
+                add(vec![Line(far), Line(go(far, 90.0, base + pi + off))]);
+            }
+        }
+        // turns of about 0.001 across ±π, up and down
+        for part in [0.0, 0.1, 0.5, 1.0] {
+            for sign in [1.0, -1.0] {
+                let mid = go(o, 100.0, sign * (pi - part * off));
+                let end = go(mid, 90.0, -sign * (pi - (1.0 - part) * off));
+                add(vec![Line(mid), Line(end)]);
+                add(vec![Quad(go(o, 50.0, sign * (pi - part * off)), mid), Line(end)]);
+            }
+        }
+    }
+    // turns, across ±π too, and returns so close to 0.001 that the last digits count: π - |π - turn| has too few
+    for i in -60..=60 {
+        let y = (0.1 * (1.0 + i as f64 * 1e-5)) as f32;
+        for y in [y, -y] {
+            add(vec![Line(p(100.0, 0.0)), Line(p(200.0, y))]);
+            add(vec![Line(p(100.0, y)), Line(p(200.0, y))]);
+            add(vec![Line(p(-100.0, 0.0)), Line(p(-200.0, y))]);
+            add(vec![Line(p(100.0, 0.0)), Line(p(0.0, y))]);
+            add(vec![Line(p(y, 100.0)), Quad(p(y, 150.0), p(y, 200.0))]);
+        }
+    }
+    // smaller and larger turns across ±π; from π to -π a turn is 2π exactly
+    for y in [1e-30f32, 1e-10, 1e-6, 1e-4, 0.001, 0.0049, 0.0051, 0.01, 0.1, 1.0, 9.0] {
+        for y in [y, -y] {
+            add(vec![Line(p(-10.0, y)), Line(p(-20.0, 0.0))]);
+            add(vec![Line(p(-10.0, y)), Line(p(-10.0, y)), Line(p(-20.0, 0.0))]);
+            add(vec![Line(p(-10.0, 0.0)), Line(p(-20.0, -y)), Line(p(-30.0, 0.0))]);
+            add(vec![Quad(p(-5.0, 0.5 * y), p(-10.0, y)), Quad(p(-15.0, 0.5 * y), p(-20.0, 0.0))]);
+            add(vec![Cubic(p(-5.0, 0.0), p(-10.0, y), p(-20.0, y)), Cubic(p(-30.0, y), p(-35.0, 0.0), p(-40.0, 0.0))]);
+        }
+    }
     out
 }
 

@@ -12,7 +12,7 @@ macro_rules! original {
         pub mod $name {
             use super::*;
             use crate::$path::{probe, PathBuilder};
-            pub use crate::$path::probe::{cubic_at, curvature_of, inv_curvature_of, opens, packed, quad_at, unpacked, Repeated};
+            pub use crate::$path::probe::{cubic_at, curvature_of, difference, inv_curvature_of, opens, packed, quad_at, unpacked, Repeated};
 
             fn at(p: P) -> Point {
                 Point::new(p.x, p.y)
@@ -84,4 +84,4 @@ macro_rules! original {
 }
 
 original!(screen, path, "The original as it is.");
-original!(knife, path_knife, "The original with the one statement of the knife setting.");
+original!(knife, path_knife, "The original with the knife setting's statement of `push_line` and its difference of angles.");

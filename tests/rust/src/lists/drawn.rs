@@ -4,7 +4,7 @@ use super::row;
 use crate::{
     against::{compare_drawing, drawn, Counts, Room},
     call::{p, Call, P},
-    drawings::{directed, kind, random},
+    drawings::{by_rule, kind, kind_below, random, slits},
     model::{cover, flatten::{exact_pieces, pieces_of}, QUAD_ROW},
     original::{knife, screen},
     rng::Rng,
@@ -86,8 +86,9 @@ fn fits(calls: &[Call], l: &Limits) -> bool {
     if pieces_of(st, &c, exact_pieces).iter().zip(&pieces).any(|(a, b)| *a != *b as u64) || pieces.iter().sum::<usize>() > l.quads {
         return false;
     }
-    let [a, b] = [screen::flatten(calls), knife::flatten(calls)];
-    [a, b].iter().all(|s| s.words.len() <= l.words && s.tables.partial_splines.len() <= l.quads && s.tables.curvature.len() <= 60)
+    // the knife may have more words of a small drawing
+    let fitting = |s: Seen, l: &Limits| s.words.len() <= l.words && s.tables.partial_splines.len() <= l.quads && s.tables.curvature.len() <= 60;
+    fitting(screen::flatten(calls), l) && fitting(knife::flatten(calls), &LARGE)
 }
 
 /// Any number of random drawings within the large limits, in both settings alternately.
@@ -118,26 +119,29 @@ pub fn fixed() -> String {
     let mut rng = Rng(2026);
     let mut consider = |calls: Vec<Call>, always: bool, l: &Limits, often: u64| {
         if !fits(&calls, l) {
-            return;
+            return false;
         }
         let before = cover::counts();
         compare_drawing(&calls, true, &mut room, &mut n).expect("the model agrees");
         let after = cover::counts();
         let decided: Vec<usize> = (0..after.len()).filter(|i| after[*i] > before[*i]).collect();
-        if always || decided.iter().any(|i| seen_often[*i] < often) {
+        // the knife's difference of angles chooses none here: its drawings come last
+        if always || decided.iter().any(|i| *i < cover::SLIT && seen_often[*i] < often) {
             for i in decided {
                 seen_often[i] += 1;
             }
             chosen.push(calls);
+            return true;
         }
+        false
     };
-    let directed = directed();
+    let directed = by_rule();
     for (i, calls) in directed.iter().enumerate() {
         // the first are the examples; then one in 67, which is odd, so that built ones and others alternate
         consider(calls.clone(), i < 14 || i % 67 == 0, &SMALL, 8);
     }
     for i in 0..6000 {
-        let k = kind(&mut rng);
+        let k = kind_below(&mut rng, 14);
         let calls = random(&mut rng, k);
         consider(calls, i % 20 == 0, &SMALL, 12);
     }
@@ -145,24 +149,30 @@ pub fn fixed() -> String {
         consider(calls.clone(), false, &LARGE, 3);
     }
     for _ in 0..20_000 {
-        let k = kind(&mut rng);
+        let k = kind_below(&mut rng, 14);
         let calls = random(&mut rng, k);
         consider(calls, false, &LARGE, 3);
     }
+    // the first slits are examples; 151 is odd too. They are listed in the knife setting alone
+    let slits = slits().into_iter().enumerate().filter(|(i, calls)| consider(calls.clone(), *i < 8 || i % 151 == 0, &SMALL, 0)).count();
 
     let mut text = String::new();
     let (mut screens, mut knives) = (0, 0);
-    for calls in &chosen {
+    for (i, calls) in chosen.iter().enumerate() {
         let store = screen::store(calls);
         let [a, b] = [screen::flatten(calls), knife::flatten(calls)];
-        drawing(&mut text, 0, calls, &store, &a);
-        screens += 1;
-        if a.words != b.words {
+        let slit = i + slits >= chosen.len();
+        if !slit {
+            drawing(&mut text, 0, calls, &store, &a);
+            screens += 1;
+        }
+        if slit || a.words != b.words {
             drawing(&mut text, 1, calls, &store, &b);
             knives += 1;
         }
     }
     println!("{} drawings for flatten_cases, {screens} in the screen setting and {knives} in the knife setting", screens + knives);
+    println!("{slits:6} drawings  slits and turns across ±π");
     for (name, often) in cover::NAMES.iter().zip(seen_often) {
         println!("{often:6} drawings  {name}");
     }

@@ -1,7 +1,11 @@
 //! Points, curves and commands, for `point_vectors`: inputs of every kind, and what the original gives for them.
 
 use super::{bits, row};
-use crate::{math::Point, original::screen, rng::Rng};
+use crate::{
+    math::Point,
+    original::{knife, screen},
+    rng::Rng,
+};
 
 /// x, y and weight.
 type Weighted = [f32; 3];
@@ -77,28 +81,69 @@ fn angles(text: &mut String, rng: &mut Rng) {
     }
 }
 
-fn change(text: &mut String, a0: Option<f32>, a1: Option<f32>) {
+/// Whether a primitive opens a spline by its angle.
+type Opens = fn(Option<f32>, Option<f32>) -> bool;
+
+fn change(text: &mut String, opens: Opens, a0: Option<f32>, a1: Option<f32>) {
     let words = |a: Option<f32>| a.map_or([0, 0], |a| [1, bits(a)]);
     let ([k0, b0], [k1, b1]) = (words(a0), words(a1));
-    row(text, &[k0, b0, k1, b1, screen::opens(a0, a1) as u32]);
+    row(text, &[k0, b0, k1, b1, opens(a0, a1) as u32]);
 }
 
-fn changes(text: &mut String, rng: &mut Rng) {
+fn changes(text: &mut String, rng: &mut Rng, opens: Opens) {
+    let mut change = |a0, a1| change(text, opens, a0, a1);
     let pi = std::f32::consts::PI;
     let turns = [0.0, 0.000_999, 0.001, 0.001_001, 1.0, pi / 2.0, pi - 0.001, pi, pi + 0.0005, pi + 0.002, 1.5 * pi, 2.0 * pi - 0.002, 2.0 * pi];
     for from in [-pi, -pi / 2.0, -0.0, 0.0, 0.5, pi / 2.0, pi] {
         for turn in turns {
-            change(text, Some(from), Some(from + turn));
-            change(text, Some(from + turn), Some(from));
+            change(Some(from), Some(from + turn));
+            change(Some(from + turn), Some(from));
         }
-        change(text, Some(from), None);
-        change(text, None, Some(from));
+        change(Some(from), None);
+        change(None, Some(from));
     }
-    change(text, None, None);
+    change(None, None);
     for _ in 0..300 {
         let a0 = (rng.next() >> 40) as f32 / 16_777_216.0 * 2.0 * pi - pi;
         let turn = rng.pick(&turns) + float(rng, -12, -9);
-        change(text, Some(a0), Some(a0 + turn));
+        change(Some(a0), Some(a0 + turn));
+    }
+}
+
+/// Pairs of angles next to where a difference of directions decides: turns of 0.001, π/2, π and 2π, and 0.001 beside the last two, with two f32 on either
+/// side; returns, turns across ±π and any angles; and numbers that are none.
+fn angle_pairs(rng: &mut Rng) -> Vec<(f32, f32)> {
+    let pi = std::f32::consts::PI;
+    let beside = |v: f32, by: i32| f32::from_bits((v.to_bits() as i32 + by) as u32);
+    let mut pairs = vec![];
+    for turn in [0.001, pi / 2.0, pi - 0.001, pi, pi + 0.001, 1.5 * pi, 2.0 * pi - 0.001, 2.0 * pi] {
+        for by in [-2, -1, 0, 1, 2] {
+            let t = beside(turn, by);
+            pairs.extend([(0.0, t), (-0.0, -t), (pi, pi - t), (-pi, t - pi), (-0.5 * t, 0.5 * t)]);
+        }
+    }
+    pairs.extend([(0.0, 0.0), (0.0, -0.0), (pi, pi), (-pi, pi), (pi, -pi), (beside(pi, -1), -pi), (-beside(pi, -1), pi)]);
+    for a in SIZES.map(f32::from_bits) {
+        pairs.extend([(a, 1.0), (-1.0, a), (a, -a), (a, a)]);
+    }
+    for _ in 0..120 {
+        let a0 = rng.between(-std::f64::consts::PI, std::f64::consts::PI) as f32;
+        let opposite = if a0 > 0.0 { a0 - pi } else { a0 + pi };
+        let any = rng.between(-std::f64::consts::PI, std::f64::consts::PI) as f32;
+        pairs.extend([(a0, any), (a0, opposite), (opposite, a0 + float(rng, -12, -9)), (pi - float(rng, -14, -10).abs(), float(rng, -14, -10).abs() - pi)]);
+    }
+    pairs
+}
+
+fn differences(text: &mut String, pairs: &[(f32, f32)], difference: fn(f32, f32) -> f32) {
+    for (a0, a1) in pairs {
+        row(text, &[bits(*a0), bits(*a1), bits(difference(*a0, *a1))]);
+    }
+}
+
+fn changes_between(text: &mut String, pairs: &[(f32, f32)], opens: Opens) {
+    for (a0, a1) in pairs {
+        change(text, opens, Some(*a0), Some(*a1));
     }
 }
 
@@ -182,12 +227,19 @@ pub fn fixed() -> String {
     let mut rng = Rng(4);
     let mut text = String::new();
     angles(&mut text, &mut rng);
-    changes(&mut text, &mut rng);
+    let mut again = rng.clone();
+    changes(&mut text, &mut rng, screen::opens);
     numbers(&mut text, &mut rng, screen::curvature_of);
     numbers(&mut text, &mut rng, screen::inv_curvature_of);
     cubics(&mut text, &mut rng);
     quads(&mut text, &mut rng);
     unpacks(&mut text);
     packs(&mut text);
+    // the knife's changes are of the same angles as the screen's, and of more
+    changes(&mut text, &mut again, knife::opens);
+    let pairs = angle_pairs(&mut Rng(9));
+    changes_between(&mut text, &pairs, knife::opens);
+    differences(&mut text, &pairs, screen::difference);
+    differences(&mut text, &pairs, knife::difference);
     text
 }

@@ -2,7 +2,7 @@
 
 use std::cell::RefCell;
 
-pub const NAMES: [&str; 27] = [
+pub const NAMES: [&str; 31] = [
     "splines opened by a contour mark",
     "splines opened by an angle",
     "splines opened by a gap",
@@ -28,8 +28,12 @@ pub const NAMES: [&str; 27] = [
     "splines of two or more quads",
     "  of them with a quad that gets no step",
     "splines with a whole sum above 0",
-    "reversals taken as no change",
+    "reversals that the screen takes as no change",
     "NaN or infinity in a table or an output",
+    "reversals that the knife keeps and the screen does not",
+    "turns of the knife where 2π less the turn is the smaller one",
+    "  of them no change",
+    "turns that are a change for the screen and none for the knife",
 ];
 
 pub const MARK: usize = 0;
@@ -59,13 +63,17 @@ pub const STEPLESS: usize = 23;
 pub const WHOLE: usize = 24;
 pub const REVERSAL: usize = 25;
 pub const NOT_FINITE: usize = 26;
+pub const SLIT: usize = 27;
+pub const AROUND: usize = 28;
+pub const ACROSS: usize = 29;
+pub const SCREEN_ONLY: usize = 30;
 
-thread_local!(static COUNTS: RefCell<[u64; 27]> = const { RefCell::new([0; 27]) });
+thread_local!(static COUNTS: RefCell<[u64; 31]> = const { RefCell::new([0; 31]) });
 
 pub fn count(i: usize) {
     COUNTS.with(|c| c.borrow_mut()[i] += 1);
 }
 
-pub fn counts() -> [u64; 27] {
+pub fn counts() -> [u64; 31] {
     COUNTS.with(|c| *c.borrow())
 }

@@ -138,19 +138,48 @@ fn angle(d: P) -> Option<f32> {
     Some(if d.y < 0.0 { -r } else { r })
 }
 
-fn changed(before: Option<f32>, now: Option<f32>) -> bool {
-    let (Some(a0), Some(a1)) = (before, now) else { return false };
-    let mut d = (a1 - a0).abs();
-    if d > 3.0 && d < 3.3 {
-        count(cover::REVERSAL);
-    }
-    if d > PI {
-        d -= PI;
-    }
+/// Where a reversal is no turn.
+fn folded(turn: f32) -> f32 {
+    let d = if turn > PI { turn - PI } else { turn };
     if d > FRAC_PI_2 {
-        d = PI - d;
+        PI - d
+    } else {
+        d
     }
-    d > 0.001
+}
+
+/// "The absolute difference, or 2π less it when that is smaller."
+fn around(turn: f32) -> f32 {
+    turn.min(2.0 * PI - turn)
+}
+
+fn changed(setting: Setting, before: Option<f32>, now: Option<f32>) -> bool {
+    let (Some(a0), Some(a1)) = (before, now) else { return false };
+    let turn = (a1 - a0).abs();
+    let over = |d: f32| d > 0.001;
+    match setting {
+        Setting::Screen => {
+            if turn > 3.0 && turn < 3.3 && !over(folded(turn)) {
+                count(cover::REVERSAL);
+            }
+            over(folded(turn))
+        }
+        Setting::Knife => {
+            let d = around(turn);
+            match (over(d), over(folded(turn))) {
+                (true, false) => count(cover::SLIT),
+                (false, true) => count(cover::SCREEN_ONLY),
+                _ => {}
+            }
+            if d < turn {
+                count(cover::AROUND);
+                if !over(d) {
+                    count(cover::ACROSS);
+                }
+            }
+            over(d)
+        }
+    }
 }
 
 fn lerp(t: f32, a: f32, b: f32) -> f32 {
@@ -267,7 +296,7 @@ impl Run {
             count(cover::MARK);
             return true;
         }
-        if changed(self.last, direction) {
+        if changed(self.setting, self.last, direction) {
             count(cover::TURN);
             return true;
         }
@@ -650,7 +679,7 @@ pub fn flatten_with(pieces: Pieces, setting: Setting, st: State, c: &Columns, q:
 #[cfg(test)]
 mod tests {
     use super::*;
-    use crate::{against::drawn, call::p, call::Call};
+    use crate::{against::drawn, call::p, call::Call, original::knife};
 
     /// P6: a quad from the origin over (5,0) to (10,0), built.
     fn example() -> (State, Columns) {
@@ -682,5 +711,47 @@ mod tests {
             assert_eq!((f.answer, f.quads), if room == 0 { (6, 0) } else { (0, 1) });
             assert!(q.rows[QUAD_ROW * room..].iter().all(|v| *v == 7.0) && q.partial_splines[room..].iter().all(|v| *v == 7));
         }
+    }
+
+    /// What the model and the original give for a built drawing in the knife setting: words, and the bits of x and y.
+    fn knife_gives(calls: &[Call], words: &[u32], x: &[u32], y: &[u32]) {
+        let built = [calls, &[Call::Build]].concat();
+        let (st, c) = drawn(&built).unwrap();
+        let (mut q, mut s, mut o) = (QuadTable::with_room(9), SplineTable::with_room(9), Output::with_room(words.len()));
+        let f = flatten(Setting::Knife, st, &c, &mut q, &mut s, &mut o);
+        assert_eq!((f.answer, f.points), (0, words.len()));
+        let bits = |column: &[f32]| column.iter().map(|v| v.to_bits()).collect::<Vec<_>>();
+        assert_eq!((&o.words[..], &bits(&o.x)[..], &bits(&o.y)[..]), (words, x, y));
+        let seen = knife::flatten(&built);
+        assert_eq!((&seen.words[..], &bits(&seen.x)[..], &bits(&seen.y)[..]), (words, x, y));
+    }
+
+    #[test]
+    fn the_knife_keeps_the_far_end_of_p5() {
+        let calls = [Call::Line(p(10.0, 0.0)), Call::Line(p(4.0, 0.0))];
+        knife_gives(&calls, &[0x7f80_0000, 0xff80_0000, 0xffc0_0001], &[0, 0x4120_0000, 0], &[0; 3]);
+    }
+
+    #[test]
+    fn the_knife_comes_back_from_p6() {
+        let calls = [Call::Quad(p(5.0, 0.0), p(10.0, 0.0))];
+        knife_gives(&calls, &[0x7f80_0000, 0x3f80_0000, 0xff80_0000, 0xffc0_0001], &[0, 0x40a0_0000, 0x4120_0000, 0], &[0; 4]);
+    }
+
+    #[test]
+    fn a_slit_in_an_outline() {
+        let calls = [(10.0, 0.0), (10.0, 5.0), (5.0, 5.0), (10.0, 5.0), (10.0, 10.0), (0.0, 10.0)].map(|(x, y)| Call::Line(p(x, y)));
+        knife_gives(
+            &calls,
+            &[0x7f80_0000, 0xff80_0000, 0xff80_0001, 0xff80_0002, 0xff80_0003, 0xff80_0004, 0xff80_0005, 0xffc0_0006],
+            &[0, 0x4120_0000, 0x4120_0000, 0x40a0_0000, 0x4120_0000, 0x4120_0000, 0, 0],
+            &[0, 0, 0x40a0_0000, 0x40a0_0000, 0x40a0_0000, 0x4120_0000, 0x4120_0000, 0],
+        );
+    }
+
+    #[test]
+    fn a_turn_across_pi_is_small() {
+        let calls = [Call::Line(p(-10.0, f32::from_bits(0x3a80_0000))), Call::Line(p(-20.0, 0.0))];
+        knife_gives(&calls, &[0x7f80_0000, 0xff80_0000, 0xffc0_0001], &[0, 0xc1a0_0000, 0], &[0; 3]);
     }
 }
