@@ -30,6 +30,10 @@ wordsAlong ps =
 abbrev pub gapTo : Float → List Primitive
 gapTo start = along zero32 (whole32 10) ∷ along start (whole32 20) ∷ []
 
+-- along the x axis in two contours
+abbrev pub twice : List Call
+twice = Line (P 10 0) ∷ Move (P 10 0) ∷ Line (P 20 0) ∷ []
+
 -- an outline with a slit from (10,5) to (5,5) and back
 abbrev pub slit : List Call
 slit = Line (P 10 0) ∷ Line (P 10 5) ∷ Line (P 5 5) ∷ Line (P 10 5) ∷ Line (P 10 10) ∷ Line (P 0 10) ∷ Build ∷ []
@@ -43,9 +47,9 @@ drawings =
     -- two triangles: a Move does not reset the running number of splines
     example (wordsAfter Screen (Line (P 10 0) ∷ Line (P 10 10) ∷ Move (P 20 0) ∷ Line (P 30 0) ∷ Line (P 30 10) ∷ Build ∷ []))
     (0 ∷ 0x7F800000 ∷ 0xFF800000 ∷ 0xFF800001 ∷ 0xFFC00002 ∷ 0x7F800003 ∷ 0xFF800003 ∷ 0xFF800004 ∷ 0xFFC00005 ∷ [])
-    -- a Move alone between two lines along one axis: two contours, each flagged
-    ∷ example (wordsAfter Knife (Line (P 10 0) ∷ Move (P 10 0) ∷ Line (P 20 0) ∷ []))
-    (0 ∷ 0x7F800000 ∷ 0xFFC00000 ∷ 0x7F800001 ∷ 0xFFC00001 ∷ [])
+    -- a Move alone between two lines along one axis: two contours, each flagged; the first is closed by a line back, which the knife keeps
+    ∷ example (wordsAfter Screen twice) (0 ∷ 0x7F800000 ∷ 0xFFC00000 ∷ 0x7F800001 ∷ 0xFFC00001 ∷ [])
+    ∷ example (wordsAfter Knife twice) (0 ∷ 0x7F800000 ∷ 0xFF800000 ∷ 0xFFC00001 ∷ 0x7F800002 ∷ 0xFFC00002 ∷ [])
     -- the slit's far end (5,5) is kept by the knife, and on the screen it is not
     ∷ example (wordsAfter Knife slit)
     (0 ∷ 0x7F800000 ∷ 0xFF800000 ∷ 0xFF800001 ∷ 0xFF800002 ∷ 0xFF800003 ∷ 0xFF800004 ∷ 0xFF800005 ∷ 0xFFC00006 ∷ [])
