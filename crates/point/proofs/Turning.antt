@@ -157,6 +157,11 @@ around-none : (a : Float) → T (angled a) → fullDiffOf a a ≡ zero32
 unfolding fullDiffOf
 around-none a h = ap aroundOf (turn-none a (angled-finite a h)) ∙ around-short 0 (pos 0) (lit≤ tt) ∙ sym zero-is
 
+no-angle : angleOf (pointAt (inf false) (inf false)) ≡ Known nan
+unfolding angleOf approxAtan2Of lenOf rootIn root rooted fmaOf negativeOf absOf lessOf minOf maxOf sqrtOf trailingZeros size span climb odd units round neg
+    sum add sub mul div lt eq le isNan ofFields ofBits toBits
+no-angle = refl
+
 reached : (angleOf underLeft ≡ Known (neg pi)) × (angleOf (pointAt (neg one32) zero32) ≡ Known pi) × (turnOf (neg pi) pi ≡ twoPi)
 unfolding angleOf approxAtan2Of lenOf rootIn root rooted fmaOf negativeOf absOf lessOf minOf maxOf sqrtOf trailingZeros size span climb odd units round neg
     sum add sub mul div lt eq le isNan ofFields ofBits toBits
@@ -167,6 +172,7 @@ unfolding fullDiffOf changedOf differenceOf diffOf minusOf
 turning =
     record {
       within = within;
+      infinite = no-angle;
       turn-most = λ a0 a1 h k. turn-under (turnOf a0 a1) (turn-at-most a0 a1 h k);
       turn-reached = reached;
       rest-exact = λ a0 a1 h k. rest-sums (turnOf a0 a1) (where-turn a0 a1 h k);

@@ -3,7 +3,7 @@ use mathlib.Core.Path.{_≡_}
 use mathlib.Core.Bool.{Bool, true, false, _&&_, _||_}
 use Prim.Native.Nat.{_+_, _*_}
 use lib.Dec.{T}
-use lib.Ieee.{Float, lt, le, neg}
+use lib.Ieee.{Float, nan, inf, lt, le, neg}
 use lib.Ieee.Scale.{finite}
 use lib.Ieee.Positive.{num, den}
 use Rattle.leaves.specs.Single.{_⊖_, f32, zero32, one32}
@@ -42,6 +42,8 @@ underLeft = pointAt (neg one32) (f32 0x8000_0001)
 pub record Turning : Type 0 where
   -- "angles lie within ±π"
   pub within : (d : Point) (a : Float) → T (finiteOf d) → angleOf d ≡ Known a → T (angled a)
+  -- "(∞,∞) has the angle NaN"
+  pub infinite : angleOf (pointAt (inf false) (inf false)) ≡ Known nan
   -- "turn reaches exactly 2π", and no more
   pub turn-most : (a0 a1 : Float) → T (angled a0) → T (angled a1) → T (le (turnOf a0 a1) twoPi)
   pub turn-reached : (angleOf underLeft ≡ Known (neg pi)) × (angleOf (pointAt (neg one32) zero32) ≡ Known pi) × (turnOf (neg pi) pi ≡ twoPi)
