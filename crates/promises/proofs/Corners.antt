@@ -26,7 +26,7 @@ use Rattle.tables.specs.Run.{World, world, startState, runOf}
 use Rattle.tables.specs.Commands.{commandPrimitivesOf, primitivesFrom, primitivesOf, tablesOf}
 use Rattle.tables.proofs.RowLaws.{quads-self}
 use Rattle.tables.proofs.Sound.{sound-start}
-use Rattle.tables.proofs.Flags.{flagAt}
+use Rattle.tables.proofs.Flags.{flagAt, flagged-start}
 use Rattle.tables.proofs.Moves.{primitives-append}
 use Rattle.walk.specs.Walk.{Item, item, startsOf, subdivisionsOf, stepSizeOf, stepsFrom, cursorAfter, splineItemsOf, walkFrom, walkOf, wordOf, wordsOf}
 use Rattle.evaluate.specs.Evaluate.{Finished, commandPointOf, itemPointOf, pointsOf}
@@ -36,7 +36,7 @@ use Rattle.promises.specs.Corners.{usedBefore, cornerOf, TwoLines, Corne
 use Rattle.promises.proofs.Flattened.{worldOf, itemsIn, finishedOf, Passed, passed}
 use Rattle.promises.proofs.Decoding.{capsOf}
 use Rattle.promises.proofs.Past.{run-past, splines-self}
-use Rattle.promises.proofs.Joints.{Joint, Wide, two-lines}
+use Rattle.promises.proofs.Joints.{Wide, Turned, two-lines}
 
 -- ---- the End of spline k in a list of items
 record EndIn (k : ℕ) (flag : Bool) (items : List Item) : Type 0 where
@@ -122,14 +122,16 @@ module _ (rows : ℕ → QuadRow) (s : SplineTable) (o : Output) (k : ℕ) (item
       ∙ reads-twice (itemPointOf rows s) (λ (p : Finished). p .point .y) (E .before) (item (End k false) 0 0) (E .after) rest zero32
 
 -- ---- a joint is a vertex
-joint-vertex : (job : Job) (k : ℕ) (p : Point) → Joint k p (worldOf job) → Vertex (finishedOf job) p
+turned-vertex : (job : Job) (p : Point) → Turned p (worldOf job) → Vertex (finishedOf job) p
 unfolding walked walkOf
-joint-vertex job k p J =
+turned-vertex job p R =
+    let k = R .spline in
+    let J = R .joint in
     let w = worldOf job in
     let rows = quadRowAt (w .quads) in
     let items = itemsIn (job .setting) w in
     let E : EndIn k false items =
-    subst (λ (b : Bool). EndIn k b items) (J .unflagged)
+    subst (λ (b : Bool). EndIn k b items) (R .unflagged)
     (subst (λ (j : ℕ). EndIn j (flagAt (w .splines) j) items) (zero-add k)
     (walk-end (job .setting) rows (w .splines) (w .state .splines) 0 0 k (before k (w .state .splines) (J .stored)))) in
     record {
@@ -232,21 +234,19 @@ module _ (job : Job) where
         back : (n : ℕ) → n + 1 - 1 ≡ n
         back n = omega arith
 
-corner-joint : (job : Job) (P : Passed job) (i : ℕ) → Corner job i → (k : ℕ) × Joint k (cornerOf job i) (worldOf job)
+corner-turned : (job : Job) (P : Passed job) (i : ℕ) → Corner job i → Turned (cornerOf job i) (worldOf job)
 unfolding tablesOf
-corner-joint job P i C =
+corner-turned job P i C =
     let c = job .columns in
     let run : (List Primitive → World) = λ l. runOf (job .setting) (capsOf job) l (start job) in
     let e = primitives-split job P i (C .lines) in
-    let J =
-    two-lines (job .setting) (capsOf job) (start job) (primitivesFrom c (take i (c .commands)) 0)
+    subst (λ (l : List Primitive). Turned (cornerOf job i) (run l)) (sym e)
+    (two-lines (job .setting) (capsOf job) (start job) (primitivesFrom c (take i (c .commands)) 0)
     (primitivesFrom c (rest job P i (C .lines)) (usedBefore job i + 1 + 1)) (storedPointOf c (usedBefore job i - 1)) (storedPointOf c (usedBefore job i))
-    (storedPointOf c (suc (usedBefore job i))) (sound-start (job .quads) (job .splines)) (run-wide job)
-    (ap (λ (l : List Primitive). isDone (run l .state .answer)) (sym e) ∙ P .done) (C .turns) in
-    (J .0, subst (λ (l : List Primitive). Joint (J .0) (cornerOf job i) (run l)) (sym e) (J .1))
+    (storedPointOf c (suc (usedBefore job i))) (λ (m : ℕ). ⊥) (sound-start (job .quads) (job .splines)) (flagged-start (job .quads) (job .splines))
+    (run-wide job) (ap (λ (l : List Primitive). isDone (run l .state .answer)) (sym e) ∙ P .done) (C .turns))
 
 pub corners-stay : CornersStay
 corners-stay job h i C =
     let P = passed job h in
-    let J = corner-joint job P i C in
-    subst (λ (f : Flattening). Vertex f (cornerOf job i)) (sym (P .result)) (joint-vertex job (J .0) (cornerOf job i) (J .1))
+    subst (λ (f : Flattening). Vertex f (cornerOf job i)) (sym (P .result)) (turned-vertex job (cornerOf job i) (corner-turned job P i C))

@@ -2,18 +2,16 @@
 -- nothing.
 use Prim.Native.Nat.{ℕ, suc, _+_, _-_, _≤_, _<_}
 use mathlib.Core.Path.{_≡_, refl, sym, ap, ap₂, _∙_, subst}
-use mathlib.Core.Logic.{_≢_}
-use mathlib.Core.Bool.{Bool, true, false, not, _&&_, _||_, cond, true≢false}
-use mathlib.Core.List.{List, [], _∷_, _++_, append-assoc}
-use native.Mathlib.Nat.{le-trans, le-of-eq, lt-of-lt-of-le, lt-of-le-of-lt}
+use mathlib.Core.Logic.{_⊎_, inl, inr, _≢_}
+use mathlib.Core.Bool.{Bool, true, false, _&&_, _||_, cond, true≢false}
+use mathlib.Core.List.{List, [], _∷_, _++_}
+use native.Mathlib.Nat.{le-trans, le-of-eq, lt-of-lt-of-le, lt-of-le-of-lt, lt-irrefl}
 use native.Mathlib.Numerals.{add-one}
 use native.Mathlib.Omega.{arith}
-use lib.Dec.{leb}
+use lib.Dec.{T, leb}
 use lib.Ieee.{Float, nan}
 use lib.ListN.{length, getD, set}
 use lib.Seq.{getD-set-same, getD-set-other, set-getD}
-use Rattle.columns.specs.Flags.{flagByteOf, isFlagOf}
-use Rattle.columns.proofs.Flags.{flag-back}
 use Rattle.answer.specs.declared.Answer.the-variants.{SplinesFull}
 use Rattle.answer.specs.Number.{isDone}
 use Rattle.point.specs.declared.Point.{Point}
@@ -32,13 +30,14 @@ use Rattle.primitives.specs.declared.SplineEdit.{SplineEdit}
 use Rattle.primitives.specs.declared.Edit.the-variants.{Keep, Extend}
 use Rattle.primitives.specs.Splines.{farOf, opensOf, lineAngleOf, sumBefore, splineEditOf}
 use Rattle.primitives.specs.Plan.{refusedOf, markedOf, planLineOf, planOf}
-use Rattle.tables.specs.Tables.{QuadTable, SplineTable, clearFlag, putSpline, splineAt}
+use Rattle.tables.specs.Tables.{QuadTable, SplineTable, putSpline, splineAt}
 use Rattle.tables.specs.Run.{World, world, applyOf, pushOf, runOf}
-use Rattle.tables.proofs.Pushes.{lastOf, splineEdit, Pushed, kept, marked, lined, bent, pushed}
-use Rattle.tables.proofs.Sound.{Sound, sound-run, last-is, pred-suc, pred-lt}
-use Rattle.tables.proofs.Flags.{flagAt}
+use Rattle.tables.proofs.Pushes.{lastOf, isMark, splineEdit, Pushed, kept, marked, lined, bent, pushed}
+use Rattle.tables.proofs.Sound.{Sound, sound-push, sound-run, last-is, pred-suc, pred-lt}
+use Rattle.tables.proofs.Flags.{flagAt, Closes, Flagged, nextOf, Met, flagged-run}
 use Rattle.tables.proofs.Runs.{run-append}
-use Rattle.tables.proofs.Moves.{run-done}
+use Rattle.tables.proofs.Moves.{run-done, run-grows}
+use Rattle.promises.proofs.Refusals.{next-is}
 
 -- ---- the rows after a spline is written
 module _ (s : SplineTable) (edit : SplineEdit) where
@@ -76,31 +75,11 @@ module _ (s : SplineTable) (edit : SplineEdit) where
         ap₂ (λ (x y : Float). pointAt x y) (getD-set-other (s .p0x) (edit .at) j (edit .row .p0 .x) nan h)
         (getD-set-other (s .p0y) (edit .at) j (edit .row .p0 .y) nan h)
 
-    flag-is : (b : Bool) → edit .clears ≡ b → flagAt (putSpline s edit) j ≡ isFlagOf (getD (clearFlag b (s .contour) (edit .at)) j 0)
-    unfolding putSpline splineAt
-    flag-is b c =
-        ap isFlagOf (getD-set-other (clearFlag (edit .clears) (s .contour) (edit .at)) (edit .at) j (flagByteOf (edit .row .contour)) 0 h)
-        ∙ ap (λ (b : Bool). isFlagOf (getD (clearFlag b (s .contour) (edit .at)) j 0)) c
-
-    flag-stays : (b : Bool) → edit .clears ≡ b → (b ≡ true → j ≢ edit .at - 1) → flagAt (putSpline s edit) j ≡ flagAt s j
-    unfolding clearFlag splineAt
-    flag-stays true c f = flag-is true c ∙ ap isFlagOf (getD-set-other (s .contour) (edit .at - 1) j (flagByteOf false) 0 (f refl))
-    flag-stays false c f = flag-is false c
-
-    flag-gone : edit .clears ≡ true → j ≡ edit .at - 1 → j < length (s .contour) → flagAt (putSpline s edit) j ≡ false
-    unfolding clearFlag
-    flag-gone c e l =
-        flag-is true c
-        ∙ ap (λ (x : ℕ). isFlagOf (getD (set (s .contour) x (flagByteOf false)) j 0)) (sym e)
-        ∙ ap isFlagOf (getD-set-same (s .contour) j (flagByteOf false) 0 l)
-        ∙ flag-back false
-
--- ---- a joint
+-- ---- a joint: spline k ends in p, and the next one begins there
 pub record Joint (k : ℕ) (p : Point) (w : World) : Type 0 where
   pub stored : suc k < w .state .splines
   pub ends : splineAt (w .splines) k .p2 ≡ p
   pub begins : splineAt (w .splines) (suc k) .p0 ≡ p
-  pub unflagged : flagAt (w .splines) k ≡ false
 
 module _ (k : ℕ) (p : Point) (w : World) (J : Joint k p w) where
   opened : (edit : SplineEdit) (q : QuadTable) → edit .at ≡ w .state .splines → edit .next .splines ≡ suc (w .state .splines)
@@ -111,10 +90,6 @@ module _ (k : ℕ) (p : Point) (w : World) (J : Joint k p w) where
         stored = grown (w .state .splines) (edit .next .splines) (J .stored) next;
         ends = end-stays s edit k (under (w .state .splines) (edit .at) (J .stored) at) ∙ J .ends;
         begins = start-stays s edit (suc k) (beside (w .state .splines) (edit .at) (J .stored) at) ∙ J .begins;
-        unflagged =
-            flag-stays s edit k (under (w .state .splines) (edit .at) (J .stored) at) (edit .clears) refl
-            (λ c. before (w .state .splines) (edit .at) (J .stored) at)
-            ∙ J .unflagged;
       }
     where
       grown : (n m : ℕ) → suc k < n → m ≡ suc n → suc k < m
@@ -126,12 +101,9 @@ module _ (k : ℕ) (p : Point) (w : World) (J : Joint k p w) where
       beside : (n at : ℕ) → suc k < n → at ≡ n → suc k ≡ at → ⊥
       beside n at h e f = omega arith
 
-      before : (n at : ℕ) → suc k < n → at ≡ n → k ≡ at - 1 → ⊥
-      before n at h e f = omega arith
-
-  joined : (edit : SplineEdit) (q : QuadTable) → edit .at ≡ w .state .splines - 1 → edit .next .splines ≡ w .state .splines → edit .clears ≡ false
+  joined : (edit : SplineEdit) (q : QuadTable) → edit .at ≡ w .state .splines - 1 → edit .next .splines ≡ w .state .splines
       → edit .row .p0 ≡ lastOf w .p0 → Joint k p (world (edit .next) q (putSpline (w .splines) edit))
-  joined edit q at next clears row =
+  joined edit q at next row =
       let s = w .splines in
       record {
         stored = lt-of-lt-of-le (J .stored) (le-of-eq (sym next));
@@ -140,8 +112,6 @@ module _ (k : ℕ) (p : Point) (w : World) (J : Joint k p w) where
             start-same s edit
             (row ∙ ap (λ (r : SplineRow). r .p0) (last-is w (some (w .state .splines) (J .stored))) ∙ ap (λ (i : ℕ). splineAt s i .p0) (sym at)) (suc k)
             ∙ J .begins;
-        unflagged =
-            flag-stays s edit k (under (w .state .splines) (edit .at) (J .stored) at) false clears (λ c. absurd (true≢false (sym c))) ∙ J .unflagged;
       }
     where
       under : (n at : ℕ) → suc k < n → at ≡ n - 1 → k ≡ at → ⊥
@@ -152,12 +122,12 @@ module _ (k : ℕ) (p : Point) (w : World) (J : Joint k p w) where
 
   joint-push : (caps : Capacities) {b : Bool} {w' : World} → Pushed caps w b w' → Joint k p w'
   unfolding refusedOf markedOf applyOf splineEditOf
-  joint-push caps (kept answer) = record { stored = J .stored; ends = J .ends; begins = J .begins; unflagged = J .unflagged }
-  joint-push caps (marked _) = record { stored = J .stored; ends = J .ends; begins = J .begins; unflagged = J .unflagged }
+  joint-push caps (kept answer) = record { stored = J .stored; ends = J .ends; begins = J .begins }
+  joint-push caps (marked _) = record { stored = J .stored; ends = J .ends; begins = J .begins }
   joint-push caps (lined true start end angle A) = opened _ _ refl (add-one (w .state .splines))
-  joint-push caps (lined false start end angle A) = joined _ _ refl refl refl refl
+  joint-push caps (lined false start end angle A) = joined _ _ refl refl refl
   joint-push caps (bent true start end angle c row A B K fit e o) = opened _ _ refl (add-one (w .state .splines))
-  joint-push caps (bent false start end angle c row A B K fit e o) = joined _ _ refl refl refl refl
+  joint-push caps (bent false start end angle c row A B K fit e o) = joined _ _ refl refl refl
 
 pub joint-run : (k : ℕ) (p : Point) (setting : Setting) (caps : Capacities) (ps : List Primitive) (w : World) → Joint k p w
     → Joint k p (runOf setting caps ps w)
@@ -281,58 +251,100 @@ module _ (setting : Setting) (caps : Capacities) (a b : WeightedPoint) (w : Worl
                 begins =
                     subst (λ (i : ℕ). splineAt (putSpline s (edit true)) i .p0 ≡ appliedOf a) (sym (pred-suc n some))
                     (start-new s (edit true) (lt-of-lt-of-le room (W .p0x)) (lt-of-lt-of-le room (W .p0y)));
-                unflagged =
-                    flag-gone s (edit true) (n - 1) (apart n some) (ap not (A .mark)) refl
-                    (lt-of-lt-of-le (pred-lt n some) (le-trans (R .room .splines) (R .room .flags)));
               }
 
--- ---- two lines in a run
-module _ (setting : Setting) (caps : Capacities) (w : World) where
-  abbrev after-run : List Primitive → World
-  after-run ps = runOf setting caps ps w
-
-  one-more : (ps : List Primitive) (x : Primitive) → isDone (after-run ps .state .answer) ≡ true
-      → after-run (ps ++ (x ∷ [])) ≡ pushOf setting caps x (after-run ps)
+-- ---- a run
+module _ (setting : Setting) (caps : Capacities) where
+  -- a run that is done took its first primitive
+  taken : (p : Primitive) (ps : List Primitive) (w : World) → isDone (runOf setting caps (p ∷ ps) w .state .answer) ≡ true
+      → (isDone (w .state .answer) ≡ true) × (isDone (pushOf setting caps p w .state .answer) ≡ true)
+      × (runOf setting caps (p ∷ ps) w ≡ runOf setting caps ps (pushOf setting caps p w))
   unfolding runOf
-  one-more ps x d =
-      run-append setting caps ps (x ∷ []) w ∙ ap (λ (t : Bool). cond t (pushOf setting caps x (after-run ps)) (after-run ps)) d
+  taken p ps w d =
+      let done = run-done setting caps [] (p ∷ ps) w d in
+      let e = next-is setting caps p ps w done in
+      (done, run-done setting caps [] ps (pushOf setting caps p w) (ap (λ (u : World). isDone (u .state .answer)) (sym e) ∙ d), e)
 
-  module _ (ps qs : List Primitive) (a b c : WeightedPoint) where
-    abbrev first : List Primitive
-    first = ps ++ (Line a b ∷ [])
+  -- at a Move there are no fewer splines than at first
+  met-late : (ps : List Primitive) (w : World) (m : ℕ) → Met setting caps ps w m → w .state .splines ≤ m
+  unfolding runOf
+  met-late [] w m h = absurd h
+  met-late (p ∷ ps) w m (inl h) = le-of-eq (h .1 .1)
+  met-late (p ∷ ps) w m (inr h) = le-trans (run-grows setting caps (p ∷ []) w) (met-late ps (nextOf setting caps p w) m h)
 
-    abbrev both : List Primitive
-    both = first ++ (Line b c ∷ [])
+  -- the last spline, where no mark waits, is not flagged after the next one is opened
+  passed-by : (E : ℕ → Type 0) (p : Primitive) (ps : List Primitive) (w : World) (k : ℕ) → isMark p ≡ false → Sound caps w → Flagged E w
+      → w .state .mark ≡ false → suc k ≡ w .state .splines → suc k < nextOf setting caps p w .state .splines
+      → flagAt (runOf setting caps (p ∷ ps) w .splines) k ≡ false
+  unfolding runOf
+  passed-by E p ps w k no-mark S F free e l = go (flagAt (runOf setting caps (p ∷ ps) w .splines) k) refl
+    where
+      more : suc k < runOf setting caps (p ∷ ps) w .state .splines
+      more = lt-of-lt-of-le l (run-grows setting caps ps (nextOf setting caps p w))
 
-    abbrev all : List Primitive
-    all = ps ++ (Line a b ∷ Line b c ∷ qs)
+      early : (k n : ℕ) → suc k < n → k < n
+      early k n h = omega arith
 
-    all-is : both ++ qs ≡ all
-    all-is = append-assoc first (Line b c ∷ []) qs ∙ append-assoc ps (Line a b ∷ []) (Line b c ∷ qs)
+      none : Closes (λ (m : ℕ). E m ⊎ Met setting caps (p ∷ ps) w m) (runOf setting caps (p ∷ ps) w .state .splines) k → ⊥
+      none (inl z) = lt-irrefl (suc k) (lt-of-lt-of-le more (le-of-eq (sym z)))
+      none (inr (inl z)) = F .free free (subst E e z)
+      none (inr (inr (inl z))) = subst T no-mark (z .1 .0)
+      none (inr (inr (inr z))) = lt-irrefl (suc k) (lt-of-lt-of-le l (met-late ps (nextOf setting caps p w) (suc k) z))
 
-    pub two-lines : Sound caps w → ((ls : List Primitive) → Wide (caps .splines) (after-run ls .splines)) → isDone (after-run all .state .answer) ≡ true
-        → changedOf setting (angleOf (minusOf (appliedOf b) (appliedOf a))) (angleOf (minusOf (appliedOf c) (appliedOf b))) ≡ true
-        → (k : ℕ) × Joint k (appliedOf b) (after-run all)
-    two-lines S W d h =
-        let v = after-run ps in
-        let v₁ = pushOf setting caps (Line a b) v in
-        let v₂ = pushOf setting caps (Line b c) v₁ in
-        let d₂ = run-done setting caps both qs w (ap (λ (l : List Primitive). isDone (after-run l .state .answer)) all-is ∙ d) in
-        let d₁ = run-done setting caps first (Line b c ∷ []) w d₂ in
-        let e₁ : after-run first ≡ v₁ = one-more ps (Line a b) (run-done setting caps ps (Line a b ∷ []) w d₁) in
-        let e₂ : after-run both ≡ v₂ = one-more first (Line b c) d₁ ∙ ap (pushOf setting caps (Line b c)) e₁ in
-        let S₁ = subst (Sound caps) e₁ (sound-run setting caps first w S) in
-        let S₂ = subst (Sound caps) e₂ (sound-run setting caps both w S) in
-        let W₁ = subst (λ (u : World). Wide (caps .splines) (u .splines)) e₁ (W first) in
-        let D₁ = ap (λ (u : World). isDone (u .state .answer)) (sym e₁) ∙ d₁ in
-        let D₂ = ap (λ (u : World). isDone (u .state .answer)) (sym e₂) ∙ d₂ in
-        let out = angleOf (minusOf (appliedOf b) (appliedOf a)) in
-        let A = subst (λ (x : Angle). After x (appliedOf b) v₁) (changed-known setting (v .state .last) out (angleOf (minusOf (appliedOf c) (appliedOf b))) h)
-        (after setting caps a b v D₁ S₁ (W ps)) in
-        let k = v₁ .state .splines - 1 in
-        let J = joint setting caps b c v₁ D₂ S₂ W₁ out A S₁ h in (
-          k,
-          subst (Joint k (appliedOf b))
-              (sym (ap after-run (sym all-is) ∙ run-append setting caps both qs w ∙ ap (runOf setting caps qs) e₂))
-              (joint-run k (appliedOf b) setting caps qs v₂ J),
-        )
+      go : (b : Bool) → flagAt (runOf setting caps (p ∷ ps) w .splines) k ≡ b → flagAt (runOf setting caps (p ∷ ps) w .splines) k ≡ false
+      go false z = z
+      go true z =
+          absurd (none (flagged-run setting caps (p ∷ ps) E w S F .closed k (early k (runOf setting caps (p ∷ ps) w .state .splines) more) z))
+
+-- ---- two lines that turn
+pub record Turned (p : Point) (w : World) : Type 0 where
+  pub spline : ℕ
+  pub joint : Joint spline p w
+  pub unflagged : flagAt (w .splines) spline ≡ false
+
+module _ (setting : Setting) (caps : Capacities) (w : World) (ps qs : List Primitive) (a b c : WeightedPoint) where
+  abbrev run : List Primitive → World
+  run l = runOf setting caps l w
+
+  abbrev out : Angle
+  out = angleOf (minusOf (appliedOf b) (appliedOf a))
+
+  -- from the second line on
+  turned-from : (E : ℕ → Type 0) (v : World) → Sound caps v → Flagged E v → Wide (caps .splines) (v .splines) → After out (appliedOf b) v
+      → isDone (runOf setting caps (Line b c ∷ qs) v .state .answer) ≡ true → changedOf setting out (angleOf (minusOf (appliedOf c) (appliedOf b))) ≡ true
+      → Turned (appliedOf b) (runOf setting caps (Line b c ∷ qs) v)
+  turned-from E v S F W A d h =
+      let N = taken setting caps (Line b c) qs v d in
+      let v' = pushOf setting caps (Line b c) v in
+      let k = v .state .splines - 1 in
+      let J = joint setting caps b c v (N .1) (sound-push caps v S (pushed setting caps v (Line b c))) W out A S h in
+      record {
+        spline = k;
+        joint = subst (Joint k (appliedOf b)) (sym (N .2)) (joint-run k (appliedOf b) setting caps qs v' J);
+        unflagged =
+            passed-by setting caps E (Line b c) qs v k refl S F (A .mark) (pred-suc (v .state .splines) (S .waits (A .mark)))
+            (subst (λ (t : Bool). suc k < cond t v' v .state .splines) (sym (N .0)) (J .stored));
+      }
+
+  pub two-lines : (E : ℕ → Type 0) → Sound caps w → Flagged E w → ((l : List Primitive) → Wide (caps .splines) (run l .splines))
+      → isDone (run (ps ++ (Line a b ∷ Line b c ∷ qs)) .state .answer) ≡ true
+      → changedOf setting out (angleOf (minusOf (appliedOf c) (appliedOf b))) ≡ true → Turned (appliedOf b) (run (ps ++ (Line a b ∷ Line b c ∷ qs)))
+  unfolding runOf
+  two-lines E S F W d h =
+      let rest = Line b c ∷ qs in
+      let first = ps ++ (Line a b ∷ []) in
+      let v = run ps in
+      let v' = pushOf setting caps (Line a b) v in
+      let X = run-append setting caps ps (Line a b ∷ rest) w in
+      let N = taken setting caps (Line a b) rest v (ap (λ (u : World). isDone (u .state .answer)) (sym X) ∙ d) in
+      let e : run first ≡ v' = run-append setting caps ps (Line a b ∷ []) w ∙ alone v (N .0) in
+      let S' = subst (Sound caps) e (sound-run setting caps first w S) in
+      let E' : (ℕ → Type 0) = λ m. E m ⊎ Met setting caps first w m in
+      let A = subst (λ (x : Angle). After x (appliedOf b) v') (changed-known setting (v .state .last) out (angleOf (minusOf (appliedOf c) (appliedOf b))) h)
+      (after setting caps a b v (N .1) S' (W ps)) in
+      subst (Turned (appliedOf b)) (sym (X ∙ N .2))
+      (turned-from E' v' S' (subst (Flagged E') e (flagged-run setting caps first E w S F))
+      (subst (λ (u : World). Wide (caps .splines) (u .splines)) e (W first)) A (ap (λ (u : World). isDone (u .state .answer)) (sym (X ∙ N .2)) ∙ d) h)
+    where
+      alone : (v : World) → isDone (v .state .answer) ≡ true → runOf setting caps (Line a b ∷ []) v ≡ pushOf setting caps (Line a b) v
+      alone v d = next-is setting caps (Line a b) [] v d
