@@ -21,6 +21,10 @@ pub mod Answering
 pub mod ListingReading
 pub mod ListingAnswers
 pub mod QuarterRound
+pub mod Joints
+pub mod Corners
+pub mod Finite
+pub mod Slits
 pub mod LayoutLaws
 pub mod LayoutRuns
 pub mod LayoutWalks

@@ -38,7 +38,7 @@ use Rattle.promises.proofs.Refusing.{refuses-answer, push-told, refuses
 
 -- ---- the run
 module _ (setting : Setting) (caps : Capacities) where
-  next-is : (p : Primitive) (ps : List Primitive) (w : World) → isDone (w .state .answer) ≡ true → runOf setting caps (p ∷ ps) w ≡ runOf setting caps ps (pushOf setting caps p w)
+  pub next-is : (p : Primitive) (ps : List Primitive) (w : World) → isDone (w .state .answer) ≡ true → runOf setting caps (p ∷ ps) w ≡ runOf setting caps ps (pushOf setting caps p w)
   unfolding runOf
   next-is p ps w h = ap (λ (b : Bool). runOf setting caps ps (cond b (pushOf setting caps p w) w)) h
 
