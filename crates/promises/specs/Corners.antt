@@ -3,7 +3,6 @@
 use Prim.Native.Nat.{ℕ, suc, _-_, _<_}
 use mathlib.Core.Path.{_≡_}
 use mathlib.Core.Bool.{true, false}
-use mathlib.Core.List.{List}
 use lib.Dec.{T}
 use lib.ListN.{take, getD}
 use Rattle.leaves.specs.Single.{zero32}
