@@ -2,15 +2,16 @@
 -- makes. Assumes nothing.
 use mathlib.Core.Path.{_≡_, refl, sym, ap, ap₂, _∙_, subst}
 use mathlib.Core.Bool.{Bool, true, false, not, _&&_, _||_, Bool·beq, cond}
-use Prim.Native.Nat.{ℕ, zero, suc, _+_, _-_, _*_, _/_, _%_, _^_, _<_, _≤_, compare}
+use Prim.Native.Nat.{ℕ, _+_, _-_, _*_, _<_, _≤_}
 use native.Mathlib.Nat.{le-add-right}
 use native.Mathlib.Omega.{arith}
 use borrow.Author.Tests.{le-leb, lt-leb, eq-eqb}
 use lib.IntN.{ℤ}
-use lib.Dec.{T, leb, ltb, eqb}
-use lib.Ieee.{Float, nan, inf, fin, Format, binary32, prec, emax, low, up, down, size, nearest, odd, units, round, top, lt, eq, ne, neg, fits, isNan, toBits}
+use lib.Dec.{T, leb, eqb}
+use lib.Ieee.{Float, nan, inf, fin, Format, binary32, up, down, round, top, lt, eq, ne, neg, fits, isNan, toBits}
 use lib.Ieee.Fits.{neg-fits}
 use lib.Ieee.Bits.{toBits-lt}
+use Rattle.rounding.proofs.Bounds.{Unsigned, round-unsigned, round-neg}
 use Rattle.leaves.specs.Small.{negativeOf, absOf, lessOf, minOf, maxOf, clampOf}
 
 -- ---- x != x is the test for a NaN
@@ -103,23 +104,18 @@ unfolding clampOf
 clamp-is x lo hi t u h k = ap₂ (λ (a b : Bool). cond a lo (cond b hi x)) (sym h) (sym k)
 
 -- ---- what is rounded has the sign it was given, so its size is what is rounded without
-abs-odd : (d : ℕ) (s : Bool) (q k l : ℕ) → absOf (odd d s q k l) ≡ odd d false q k l
-unfolding odd absOf
-abs-odd d s zero k l = refl
-abs-odd d s (suc q) k l = refl
+pub abs-neg : (x : Float) → absOf (neg x) ≡ absOf x
+unfolding absOf neg
+abs-neg nan = refl
+abs-neg (inf s) = refl
+abs-neg (fin s m e) = refl
 
-abs-units : (f : Format) (s : Bool) (q k : ℕ) → absOf (units f s q k) ≡ units f false q k
-unfolding units absOf
-abs-units f s q k = go (ltb (q * 2 ^ k) (2 ^ (low f + suc (emax f))))
-  where
-    go : (b : Bool) → absOf (cond b (odd (suc (prec f)) s q k (low f)) (inf s)) ≡ cond b (odd (suc (prec f)) false q k (low f)) (inf false)
-    go true = abs-odd (suc (prec f)) s q k (low f)
-    go false = refl
+abs-same : (x : Float) → Unsigned x → absOf x ≡ x
+unfolding absOf
+abs-same nan u = refl
+abs-same (inf s) u = ap inf (sym u)
+abs-same (fin s m e) u = ap (λ (t : Bool). fin t m e) (sym u)
 
 pub abs-round : (f : Format) (s : Bool) (a c : ℕ) → absOf (round f s a c) ≡ round f false a c
-unfolding round
-abs-round f s a c =
-    let n = a * 2 ^ low f in
-    let k = size (n / c) - prec f in
-    let u = c * 2 ^ k in
-    abs-units f s (nearest (n / u) (compare (n % u * 2) u)) k
+abs-round f false a c = abs-same (round f false a c) (round-unsigned f a c)
+abs-round f true a c = sym (abs-neg (round f true a c)) ∙ ap absOf (round-neg f a c) ∙ abs-same (round f false a c) (round-unsigned f a c)

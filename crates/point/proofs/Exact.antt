@@ -2,12 +2,12 @@
 -- of a zero. From 1/2 up to 1 the difference 1 - t is an f32 for each t. Assumes nothing.
 use mathlib.Core.Path.{_≡_, refl, sym, ap, ap₂, _∙_, subst}
 use mathlib.Core.Bool.{Bool, true, false, not, _&&_, _||_, Bool·beq, cond, or-true}
-use Prim.Native.Nat.{ℕ, zero, suc, _+_, _-_, _*_, _/_, _^_, _≤_, _<_}
+use Prim.Native.Nat.{ℕ, zero, suc, _+_, _-_, _*_, _^_, _≤_, _<_}
 use native.Mathlib.Nat.{mul-assoc, mul-comm, mul-left-comm, mul-right-comm, mul-one, one-mul, zero-mul, mul-sub, mul-pos, zero-lt-suc, ne-of-gt, sub-pos-iff-lt}
 use native.Mathlib.Nat.{mul-le-mul-left, mul-le-mul-right, mul-lt-mul-of-pos-right, lt-of-lt-of-le}
 use native.Mathlib.Nat.{lt-of-le-of-lt, lt-of-not-le, le-of-lt, eq-of-mul-eq-mul-right}
 use native.Mathlib.Omega.{arith}
-use borrow.Author.Tests.{le-ltb, lt-ltb}
+use borrow.Author.Tests.{lt-ltb}
 use lib.IntN.{ℤ, pos, negsuc}
 use lib.Dec.{T, ltb, eqb, ltb→lt, eqb→eq}
 use lib.Pow.{pow-add, pow-pos, pow-mono}
@@ -18,16 +18,13 @@ use lib.Ieee.Positive.{first-pos, above-of-le, le→cross}
 use lib.Ieee.Scale.{round-same}
 use Rattle.facts.proofs.Tests.{like}
 use Rattle.rounding.proofs.Basics.{less-back}
+use Rattle.rounding.proofs.Signed.{sum-less}
 use Rattle.leaves.specs.Single.{_⊖_, _⊗_, zero32, half32, one32}
 use Rattle.leaves.specs.Fma.{fma32, fmaOf}
 use Rattle.point.proofs.Digits.{nought, half, one, zero-is, half-is, one-is, digits-lt}
 
 -- ---- sums with unlike signs
-plus-minus : (a b c : ℕ) → b ≤ a → sum binary32 false a true b c ≡ round binary32 false (a - b) c
-unfolding sum
-plus-minus a b c h = ap (λ (t : Bool). cond t (round binary32 true (b - a) c) (round binary32 false (a - b) c)) (le-ltb a b h)
-
-larger-last : (s : Bool) (a b c : ℕ) → a < b → sum binary32 (unlike true s) a s b c ≡ round binary32 s (b - a) c
+pub larger-last : (s : Bool) (a b c : ℕ) → a < b → sum binary32 (unlike true s) a s b c ≡ round binary32 s (b - a) c
 unfolding sum
 larger-last true a b c h = ap (λ (t : Bool). cond t (round binary32 true (b - a) c) (round binary32 false (a - b) c)) (lt-ltb a b h)
 larger-last false a b c h = ap (λ (t : Bool). cond t (round binary32 false (b - a) c) (round binary32 (ltb b a) (a - b) c)) (lt-ltb a b h)
@@ -72,7 +69,7 @@ one-less m e h =
     let D = down e in
     ap₂ (λ (a b : ℕ). sum binary32 false a true b (1 * D)) (one-mul D) (mul-one N)
     ∙ ap (λ (c : ℕ). sum binary32 false D true N c) (one-mul D)
-    ∙ plus-minus D N D h
+    ∙ sum-less binary32 D N D h
 
 -- ---- a * u, where u is R / D
 times-value : (s : Bool) (o : ℕ) (g : ℤ) (u : Float) (R D : ℕ) → 0 < D → HasValue u false R D

@@ -16,14 +16,14 @@ use lib.Ieee.Scale.{finite}
 use Rattle.rounding.specs.Sums.{sumSign, sumSize}
 use Rattle.rounding.proofs.Basics.{le-or-lt}
 use Rattle.rounding.proofs.Bounds.{AtMost, AtLeast, round-at-most, round-at-least, round-neg, at-most-finite}
-use Rattle.rounding.proofs.Signed.{sum-rounds, size-swap, sign-swap}
+use Rattle.rounding.proofs.Signed.{sum-rounds, size-swap, sign-swap, size-none}
 use Rattle.leaves.specs.Single.{_⊖_, zero32}
 use Rattle.leaves.specs.Small.{absOf, isZero}
-use Rattle.leaves.proofs.Signs.{abs-round}
+use Rattle.leaves.proofs.Signs.{abs-neg, abs-round}
 use Rattle.point.specs.Angle.{pi, halfPi, maxAngleError, approxAtan2Of, turnOf, fullDiffOf}
 use Rattle.point.proofs.Digits.{nought, zero-is}
 use Rattle.point.proofs.Steep.{steepOf, atan-parts, steep-most, steep-flat, steep-upright}
-use Rattle.point.proofs.TurnSizes.{quarter-turn-value, half-fits, turn-symmetric, half-less-most, half-less-least, none-rounds, size-none}
+use Rattle.point.proofs.TurnSizes.{quarter-turn-value, half-fits, turn-symmetric, half-less-most, half-less-least, none-rounds, add-most}
 use Rattle.point.proofs.Turns.{aroundOf}
 use Rattle.point.proofs.TurnLaws.{turned-back}
 
@@ -47,14 +47,8 @@ neg-sides (inf false) = refl
 neg-sides (fin true m e) = none-under (m * up e) (down e)
 neg-sides (fin false m e) = alike (m * up e) (down e)
 
-pub neg-sizes : (x : Float) → absOf (neg x) ≡ absOf x
-unfolding absOf neg
-neg-sizes nan = refl
-neg-sizes (inf s) = refl
-neg-sizes (fin s m e) = refl
-
 pub neg-across : (x : Float) → Across x (neg x)
-neg-across x = record { sizes = neg-sizes x; sides = subst (λ (z : Float). lt (neg x) z ≡ lt z x) (sym zero-is) (neg-sides x) }
+neg-across x = record { sizes = abs-neg x; sides = subst (λ (z : Float). lt (neg x) z ≡ lt z x) (sym zero-is) (neg-sides x) }
 
 zero-under : (x : Float) → isZero x ≡ true → lt x nought ≡ false
 unfolding isZero lt
@@ -125,16 +119,10 @@ sum-least N d M e h =
     more x y z h = omega arith
 
 sum-most : (N d M e : ℕ) → N * 8388608 ≤ 26353590 * d → M * 8388608 ≤ 13176795 * e → (N * e + M * d) * 1 ≤ 5 * (d * e)
-sum-most N d M e h k =
-    let a : N * e * 8388608 ≤ 26353590 * (d * e) =
-    le-trans (le-of-eq (mul-right-comm N e 8388608)) (le-trans (mul-le-mul-right e h) (le-of-eq (mul-assoc 26353590 d e))) in
-    let b : M * d * 8388608 ≤ 13176795 * (d * e) =
-    le-trans (le-of-eq (mul-right-comm M d 8388608))
-    (le-trans (mul-le-mul-right d k) (le-of-eq (mul-assoc 13176795 e d ∙ ap (λ (x : ℕ). 13176795 * x) (mul-comm e d)))) in
-    both (N * e) (M * d) (d * e) a b
+sum-most N d M e h k = under (N * e + M * d) (d * e) (add-most N d M e 26353590 13176795 h k)
   where
-    both : (x y z : ℕ) → x * 8388608 ≤ 26353590 * z → y * 8388608 ≤ 13176795 * z → (x + y) * 1 ≤ 5 * z
-    both x y z h k = omega arith
+    under : (x z : ℕ) → x * 8388608 ≤ 39530385 * z → x * 1 ≤ 5 * z
+    under x z h = omega arith
 
 five : Float
 five = fin false 5 (pos 0)

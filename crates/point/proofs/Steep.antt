@@ -2,25 +2,28 @@
 -- Assumes nothing.
 use mathlib.Core.Path.{_≡_, refl, sym, ap, ap₂, _∙_, subst}
 use mathlib.Core.Logic.{inl, inr}
-use mathlib.Core.Bool.{Bool, true, false, not, _&&_, _||_, cond, true≢false}
+use mathlib.Core.Bool.{Bool, true, false, _&&_, _||_, cond, true≢false}
 use Prim.Native.Nat.{ℕ, zero, suc, _+_, _-_, _*_, _^_, _≤_, _<_, zero-le}
 use native.Mathlib.Nat.{mul-assoc, mul-left-comm, mul-right-comm, mul-one, one-mul, zero-mul, mul-pos, zero-lt-suc, sub-le, le-of-eq, le-of-lt, le-trans}
 use native.Mathlib.Nat.{le-refl, le-add-right, ne-of-gt, eq-zero-or-pos, zero-add, mul-le-mul, mul-le-mul-left, mul-le-mul-right, lt-of-lt-of-le, lt-of-le-of-lt}
 use native.Mathlib.Omega.{arith}
 use borrow.Author.Tests.{le-ltb, lt-ltb, ne-eqb}
 use lib.IntN.{ℤ, negsuc}
-use lib.Dec.{T, ltb, eqb, lit≤, lit<, nltb→le}
+use lib.Dec.{T, ltb, eqb, lit≤, lit<}
 use lib.Ieee.{Float, nan, inf, fin, binary32, up, down, unlike, round, sum, sub, mul, div, neg, lt, eq, fits, isNan, ofBits}
 use lib.Ieee.Fits.{up-pos, down-pos, div-fits}
 use lib.Ieee.Positive.{first-pos}
 use lib.Ieee.Scale.{finite}
 use Rattle.rounding.proofs.Basics.{le-or-lt}
 use Rattle.rounding.proofs.Bounds.{AtMost, round-kept, round-at-most, at-most-wider, minus-at-most, round-neg}
+use Rattle.rounding.proofs.Signed.{sum-less}
+use Rattle.rounding.proofs.Sums.{sum-comm}
 use Rattle.leaves.specs.Single.{_⊖_, _⊗_, _⊘_, f32, zero32}
 use Rattle.leaves.specs.Fma.{fma32, fmaOf}
 use Rattle.leaves.specs.Small.{absOf, minOf, maxOf, lessOf, negativeOf, isZero}
 use Rattle.point.specs.Angle.{pi, halfPi, approxAtan2Of}
 use Rattle.point.proofs.Digits.{nought, one}
+use Rattle.point.proofs.Exact.{larger-last}
 
 -- ---- the parts of `approxAtan2Of`, of X = |x| and Y = |y|
 unfoldable pub ratioOf : Float → Float → Float
@@ -94,17 +97,7 @@ product-most (fin false p g) m e F l =
 -- ---- x * y + z with unlike signs of x * y and z
 -- a negative product that is not larger than z: the sum is from 0 to z
 second-less : (a b c : ℕ) → a ≤ b → sum binary32 true a false b c ≡ round binary32 false (b - a) c
-unfolding sum
-second-less a b c h =
-    go (ltb a b) (nltb→le a b)
-  where
-    level : b ≤ a → a - b ≡ b - a
-    level k = omega (arith, h, k)
-
-    go : (t : Bool) → (T (not t) → b ≤ a)
-        → cond t (round binary32 false (b - a) c) (round binary32 (ltb b a) (a - b) c) ≡ round binary32 false (b - a) c
-    go true q = refl
-    go false q = ap₂ (λ (i : Bool) (n : ℕ). round binary32 i n c) (le-ltb b a h) (level (q tt))
+second-less a b c h = sum-comm binary32 true a false b c ∙ sum-less binary32 b a c h
 
 module _ (p : ℕ) (g : ℤ) (q : ℕ) (h : ℤ) (o : ℕ) (k : ℤ) where
   room : (a : ℕ) → (o * up k * (down g * down h) - a) * down k ≤ o * up k * (down g * down h * down k)
@@ -128,13 +121,13 @@ module _ (p : ℕ) (g : ℤ) (q : ℕ) (h : ℤ) (o : ℕ) (k : ℤ) where
   -- a positive one that is smaller than a negative z: the sum is negative, and up to z in size
   more-most : T (fits binary32 (fin false o k)) → p * up g * (q * up h) * down k < o * up k * (down g * down h)
       → AtMost (neg (fma32 (fin false p g) (fin false q h) (fin true o k))) (o * up k) (down k)
-  unfolding fmaOf sum
+  unfolding fmaOf
   more-most F l =
       let a = p * up g * (q * up h) * down k in
       let b = o * up k * (down g * down h) in
       let c = down g * down h * down k in
       subst (λ (x : Float). AtMost x (o * up k) (down k))
-      (sym (ap (λ (t : Bool). neg (cond t (round binary32 true (b - a) c) (round binary32 false (a - b) c))) (lt-ltb a b l) ∙ round-neg binary32 (b - a) c))
+      (sym (ap neg (larger-last true a b c l) ∙ round-neg binary32 (b - a) c))
       (round-at-most binary32 (fin false o k) (b - a) c (o * up k) (down k) F (refl, refl) dens (down-pos k) (room a))
 
 -- ---- the three fused steps, for s from 0 to 1

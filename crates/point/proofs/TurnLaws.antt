@@ -7,7 +7,7 @@ use native.Mathlib.Nat.{mul-assoc, mul-comm, mul-left-comm, zero-mul, zero-lt-su
 use native.Mathlib.Nat.{eq-of-mul-eq-mul-right}
 use native.Mathlib.Omega.{arith}
 use mathlib.Core.Logic.{inl, inr}
-use borrow.Author.Tests.{lt-ltb, le-leb, lt-leb}
+use borrow.Author.Tests.{le-leb}
 use lib.IntN.{ℤ}
 use lib.Dec.{T, lit≤}
 use lib.Ieee.{Float, nan, inf, fin, binary32, up, down, round, lt, le, fits}
@@ -16,7 +16,7 @@ use lib.Ieee.Fits.{down-pos}
 use lib.Ieee.Positive.{num, den}
 use Rattle.rounding.proofs.Basics.{le-or-lt}
 use Rattle.rounding.proofs.Bounds.{AtMost, AtLeast, at-most-wider}
-use Rattle.rounding.proofs.Differences.{lt-values, le-values}
+use Rattle.rounding.proofs.Differences.{le-values}
 use Rattle.rounding.proofs.Values.{cross}
 use Rattle.leaves.specs.Single.{_⊖_, zero32}
 use Rattle.leaves.specs.Small.{absOf}
@@ -25,22 +25,20 @@ use Rattle.point.specs.Angle.{pi, twoPi, maxAngleError}
 use Rattle.point.specs.Turning.{Sums}
 use Rattle.point.proofs.Digits.{nought, zero-is}
 use Rattle.point.proofs.Grids.{minus-at, round-at, grid-most}
-use Rattle.point.proofs.TurnSizes.{half-turn-value, error-value, turn-symmetric, half-less-least, half-less-abs}
+use Rattle.point.proofs.TurnSizes.{half-turn-value, turn-symmetric, half-less-least, half-less-abs, quarter-half}
 use Rattle.point.proofs.Turns.{aroundOf, foldedOf, fromPi, Where, short, wide, long, where-of, around-short, around-long, folded-short, folded-wide, folded-third}
-use Rattle.point.proofs.Turns.{folded-fourth, beyond-is, beyond-value, rest-value, rest-is, error-less, either-error, full-at, not-over}
+use Rattle.point.proofs.Turns.{folded-fourth, beyond-is, beyond-value, rest-value, rest-is, error-less, over-error, either-error, full-at, not-over}
 
 -- ---- how far a turn lies from π
 -- π less a turn up to π/2 is π/2 or more
+least-over : (X D : ℕ) → 0 < D → 13176795 * D ≤ X * 8388608 → 8589935 * D < X * 8589934592
+least-over X D P h = omega arith
+
 far : (x : Float) → AtLeast x 13176795 8388608 → le x maxAngleError ≡ false
 far nan a = absurd a
 far (inf s) a = absurd a
 far (fin true n d) a = absurd (true≢false (a .0))
-far (fin false n d) a =
-    le-values (fin false n d) maxAngleError (n * up d) (down d) 8589935 8589934592 (down-pos d) (zero-lt-suc 8589934591) (refl, refl) error-value
-    ∙ lt-leb (n * up d * 8589934592) (8589935 * down d) (more (n * up d) (down d) (down-pos d) (a .1))
-  where
-    more : (X D : ℕ) → 0 < D → 13176795 * D ≤ X * 8388608 → 8589935 * D < X * 8589934592
-    more X D P h = omega arith
+far (fin false n d) a = over-error (fin false n d) (n * up d) (down d) (down-pos d) (refl, refl) (least-over (n * up d) (down d) (down-pos d) (a .1))
 
 short-far : (m : ℕ) (e : ℤ) → m * up e * 8388608 ≤ 13176795 * down e → le (fromPi (fin false m e)) maxAngleError ≡ false
 short-far m e h =
@@ -52,23 +50,6 @@ wide-from t n v k =
 
 long-from : (t : Float) (n : ℕ) → HasValue t false n 4194304 → 13176795 < n → fromPi t ≡ round binary32 false (n - 13176795) 4194304
 long-from t n v h = ap absOf (beyond-is t n v h) ∙ abs-round binary32 false (n - 13176795) 4194304
-
--- ---- parts of 2 ^ 22 against 0.001
-error-under : (x : Float) (n : ℕ) → HasValue x false n 4194304 → 4195 ≤ n → lt maxAngleError x ≡ true
-error-under x n p h =
-    lt-values maxAngleError x 8589935 8589934592 n 4194304 (zero-lt-suc 8589934591) (zero-lt-suc 4194303) error-value p
-    ∙ lt-ltb 36028798730240 (n * 8589934592) (more n h)
-  where
-    more : (n : ℕ) → 4195 ≤ n → 36028798730240 < n * 8589934592
-    more n h = omega arith
-
-over-error : (x : Float) (n : ℕ) → HasValue x false n 4194304 → 4195 ≤ n → le x maxAngleError ≡ false
-over-error x n p h =
-    le-values x maxAngleError n 4194304 8589935 8589934592 (zero-lt-suc 4194303) (zero-lt-suc 8589934591) p error-value
-    ∙ lt-leb (n * 8589934592) 36028798730240 (more n h)
-  where
-    more : (n : ℕ) → 4195 ≤ n → 36028798730240 < n * 8589934592
-    more n h = omega arith
 
 -- ---- beside the folded difference
 abbrev Beside : Float → Type 0
@@ -82,10 +63,7 @@ short-beside : (m : ℕ) (e : ℤ) → m * up e * 8388608 ≤ 13176795 * down e 
 short-beside m e h =
     let t = fin false m e in
     or-none (lt maxAngleError (aroundOf t)) (lt maxAngleError (foldedOf t)) (le (fromPi t) maxAngleError)
-    (ap (lt maxAngleError) (around-short m e (more (m * up e * 8388608) (down e) h) ∙ sym (folded-short m e h))) (short-far m e h)
-  where
-    more : (X D : ℕ) → X ≤ 13176795 * D → X ≤ 26353590 * D
-    more X D h = omega arith
+    (ap (lt maxAngleError) (around-short m e (quarter-half (m * up e * 8388608) (down e) h) ∙ sym (folded-short m e h))) (short-far m e h)
 
 wide-short : (m : ℕ) (e : ℤ) (n : ℕ) → HasValue (fin false m e) false n 8388608 → n ≤ 26353590 → m * up e * 8388608 ≤ 26353590 * down e
 wide-short m e n v k = le-trans (le-of-eq (v .1)) (mul-le-mul-right (down e) k)
@@ -95,11 +73,11 @@ wide-beside m e n v h k =
     let t = fin false m e in
     let x = round binary32 false (26353590 - n) 8388608 in
     ap (lt maxAngleError) (around-short m e (wide-short m e n v k))
-    ∙ error-less t n v (enough n h)
+    ∙ error-less t n 8388608 (zero-lt-suc 8388607) v (enough n h)
     ∙ sym (either-error x (26353590 - n) 8388608 (zero-lt-suc 8388607) (round-at 23 (26353590 - n) (lit≤ tt) (few n h)))
     ∙ sym (ap₂ (λ (a b : Float). lt maxAngleError a || le b maxAngleError) (folded-wide t n v h k) (wide-from t n v k))
   where
-    enough : (n : ℕ) → 13176795 < n → 8389 ≤ n
+    enough : (n : ℕ) → 13176795 < n → 72057597460480 < n * 8589934592
     enough n h = omega arith
 
     few : (n : ℕ) → 13176795 < n → 26353590 - n < 16777216
@@ -109,11 +87,11 @@ third-beside : (t : Float) (n : ℕ) → HasValue t false n 4194304 → 13176795
 third-beside t n v h k l =
     let x = round binary32 false (n - 13176795) 4194304 in
     ap (lt maxAngleError) (around-long t n v h k)
-    ∙ error-under (round binary32 false (26353590 - n) 4194304) (26353590 - n) (rest-value n h) (enough n l)
+    ∙ error-less (round binary32 false (26353590 - n) 4194304) (26353590 - n) 4194304 (zero-lt-suc 4194303) (rest-value n h) (enough n l)
     ∙ sym (either-error x (n - 13176795) 4194304 (zero-lt-suc 4194303) (beyond-value n k))
     ∙ sym (ap₂ (λ (a b : Float). lt maxAngleError a || le b maxAngleError) (folded-third t n v h k l) (long-from t n v h))
   where
-    enough : (n : ℕ) → (n - 13176795) * 2 ≤ 13176795 → 4195 ≤ 26353590 - n
+    enough : (n : ℕ) → (n - 13176795) * 2 ≤ 13176795 → 36028798730240 < (26353590 - n) * 8589934592
     enough n h = omega arith
 
 fourth-beside : (t : Float) (n : ℕ) → HasValue t false n 4194304 → 13176795 < n → n ≤ 26353590 → 13176795 < (n - 13176795) * 2 → Beside t
@@ -121,9 +99,9 @@ fourth-beside t n v h k l =
     or-none (lt maxAngleError (aroundOf t)) (lt maxAngleError (foldedOf t)) (le (fromPi t) maxAngleError)
     (ap (lt maxAngleError) (around-long t n v h k ∙ sym (folded-fourth t n v h k l)))
     (ap (λ (x : Float). le x maxAngleError) (long-from t n v h)
-    ∙ over-error (round binary32 false (n - 13176795) 4194304) (n - 13176795) (beyond-value n k) (enough (n - 13176795) l))
+    ∙ over-error (round binary32 false (n - 13176795) 4194304) (n - 13176795) 4194304 (zero-lt-suc 4194303) (beyond-value n k) (enough (n - 13176795) l))
   where
-    enough : (a : ℕ) → 13176795 < a * 2 → 4195 ≤ a
+    enough : (a : ℕ) → 13176795 < a * 2 → 36028798730240 < a * 8589934592
     enough a h = omega arith
 
 pub beside : (t : Float) → Where t → Beside t
@@ -145,12 +123,9 @@ from-nought x a c C v h =
 
 pub around-most : (t : Float) → Where t → T (le zero32 (aroundOf t) && le (aroundOf t) pi)
 around-most t (short m e is h) =
-    let k = more (m * up e * 8388608) (down e) h in
+    let k = quarter-half (m * up e * 8388608) (down e) h in
     subst (λ (x : Float). T (le zero32 x && le x pi)) (sym (ap aroundOf is ∙ around-short m e k))
     (from-nought (fin false m e) (m * up e) (down e) (down-pos e) (refl, refl) k)
-  where
-    more : (X D : ℕ) → X ≤ 13176795 * D → X ≤ 26353590 * D
-    more X D h = omega arith
 around-most t (wide m e n is v h k) =
     let l = wide-short m e n (subst (λ (x : Float). HasValue x false n 8388608) is v) k in
     subst (λ (x : Float). T (le zero32 x && le x pi)) (sym (ap aroundOf is ∙ around-short m e l))
@@ -190,10 +165,7 @@ sums x y z a b c G P u v w h =
     third Z dx dy G c dz h = simp (mul-assoc, mul-left-comm) (simp (mul-assoc, mul-comm, mul-left-comm) at (ap (λ (k : ℕ). k * (dx * dy)) h))
 
 pub rest-sums : (t : Float) → Where t → T (lt pi t) → Sums (twoPi ⊖ t) t twoPi
-rest-sums t (short m e is h) l = absurd (subst T (ap (lt pi) is ∙ not-over pi 26353590 m e half-turn-value (more (m * up e * 8388608) (down e) h)) l)
-  where
-    more : (X D : ℕ) → X ≤ 13176795 * D → X ≤ 26353590 * D
-    more X D h = omega arith
+rest-sums t (short m e is h) l = absurd (subst T (ap (lt pi) is ∙ not-over pi 26353590 m e half-turn-value (quarter-half (m * up e * 8388608) (down e) h)) l)
 rest-sums t (wide m e n is v h k) l =
     absurd (subst T (ap (lt pi) is ∙ not-over pi 26353590 m e half-turn-value (wide-short m e n (subst (λ (x : Float). HasValue x false n 8388608) is v) k)) l)
 rest-sums t (long n v h k) l =
@@ -208,25 +180,20 @@ least-changed : (x : Float) → AtLeast x 13176795 8388608 → lt maxAngleError 
 least-changed nan a = absurd a
 least-changed (inf s) a = absurd a
 least-changed (fin true n d) a = absurd (true≢false (a .0))
-least-changed (fin false n d) a =
-    lt-values maxAngleError (fin false n d) 8589935 8589934592 (n * up d) (down d) (zero-lt-suc 8589934591) (down-pos d) error-value (refl, refl)
-    ∙ lt-ltb (8589935 * down d) (n * up d * 8589934592) (more (n * up d) (down d) (down-pos d) (a .1))
-  where
-    more : (X D : ℕ) → 0 < D → 13176795 * D ≤ X * 8388608 → 8589935 * D < X * 8589934592
-    more X D P h = omega arith
+least-changed (fin false n d) a = error-less (fin false n d) (n * up d) (down d) (down-pos d) (refl, refl) (least-over (n * up d) (down d) (down-pos d) (a .1))
 
 long-changed : (t : Float) (n : ℕ) → HasValue t false n 4194304 → 13176795 < n → n ≤ 26353590 → AtMost t 5 1 → lt maxAngleError (aroundOf t) ≡ true
 long-changed nan n v h k a = absurd a
 long-changed (inf s) n v h k a = absurd a
 long-changed (fin s m e) n v h k a =
     ap (lt maxAngleError) (around-long (fin s m e) n v h k)
-    ∙ error-under (round binary32 false (26353590 - n) 4194304) (26353590 - n) (rest-value n h)
+    ∙ error-less (round binary32 false (26353590 - n) 4194304) (26353590 - n) 4194304 (zero-lt-suc 4194303) (rest-value n h)
     (enough n (grid-most (m * up e) (down e) n 4194304 20971520 (down-pos e) (v .1) (most (m * up e) (down e) (a .1))))
   where
     most : (N D : ℕ) → N * 1 ≤ 5 * D → N * 4194304 ≤ 20971520 * D
     most N D h = omega arith
 
-    enough : (n : ℕ) → n ≤ 20971520 → 4195 ≤ 26353590 - n
+    enough : (n : ℕ) → n ≤ 20971520 → 36028798730240 < (26353590 - n) * 8589934592
     enough n h = omega arith
 
 pub turned-back : (t : Float) → T (fits binary32 t) → AtLeast t 13176795 8388608 → AtMost t 5 1 → lt maxAngleError (aroundOf t) ≡ true
@@ -235,10 +202,7 @@ turned-back t F l a = go (where-of t F (at-most-wider t 5 1 52707180 8388608 (ze
     same : (m : ℕ) (e : ℤ) → t ≡ fin false m e → m * up e * 8388608 ≤ 26353590 * down e → lt maxAngleError (aroundOf t) ≡ true
     same m e is h = ap (lt maxAngleError) (ap aroundOf is ∙ around-short m e h ∙ sym is) ∙ least-changed t l
 
-    more : (X D : ℕ) → X ≤ 13176795 * D → X ≤ 26353590 * D
-    more X D h = omega arith
-
     go : Where t → lt maxAngleError (aroundOf t) ≡ true
-    go (short m e is h) = same m e is (more (m * up e * 8388608) (down e) h)
+    go (short m e is h) = same m e is (quarter-half (m * up e * 8388608) (down e) h)
     go (wide m e n is v h k) = same m e is (wide-short m e n (subst (λ (x : Float). HasValue x false n 8388608) is v) k)
     go (long n v h k) = long-changed t n v h k a

@@ -1,13 +1,13 @@
 -- The turn between two angles is the size of their difference, rounded once: it is the same in either direction, nought between equal angles, and at most 2π
 -- between angles within ±π. Assumes nothing.
 use mathlib.Core.Path.{_≡_, refl, sym, ap, ap₂, _∙_, subst}
-use mathlib.Core.Bool.{Bool, true, false, not, Bool·beq, cond}
+use mathlib.Core.Bool.{Bool, true, false, not}
 use Prim.Native.Nat.{ℕ, _+_, _-_, _*_, _≤_, _<_}
-use native.Mathlib.Nat.{mul-assoc, mul-comm, mul-right-comm, mul-pos, zero-mul, zero-lt-suc, le-refl, le-trans, le-of-eq, mul-le-mul-right}
+use native.Mathlib.Nat.{mul-assoc, mul-comm, mul-left-comm, mul-right-comm, mul-pos, add-mul, zero-mul, zero-lt-suc, le-trans, le-of-eq, mul-le-mul-right}
 use native.Mathlib.Omega.{arith}
 use borrow.Author.Tests.{leb-true}
 use lib.IntN.{ℤ}
-use lib.Dec.{T, ltb}
+use lib.Dec.{T}
 use lib.Ieee.{Float, nan, inf, fin, binary32, up, down, round, add, sub, neg, le, fits, ofBits}
 use lib.Ieee.Bits.{is-true}
 use lib.Ieee.Exact.{HasValue}
@@ -16,7 +16,7 @@ use lib.Ieee.Scale.{finite}
 use Rattle.rounding.specs.Sums.{sumSign, sumSize}
 use Rattle.rounding.proofs.Bounds.{AtMost, AtLeast, round-at-most, round-at-least, round-kept, at-most-finite}
 use Rattle.rounding.proofs.Differences.{le-values, minus-values}
-use Rattle.rounding.proofs.Signed.{sum-rounds, size-swap}
+use Rattle.rounding.proofs.Signed.{sum-rounds, size-swap, size-le, size-none}
 use Rattle.leaves.specs.Single.{_⊖_}
 use Rattle.leaves.specs.Small.{absOf}
 use Rattle.leaves.proofs.Signs.{abs-round}
@@ -25,9 +25,6 @@ use Rattle.point.specs.Turning.{angled}
 use Rattle.point.proofs.Digits.{nought}
 
 -- ---- the constants, π/2 being 13,176,795 parts of 2 ^ 23
-abbrev pub unit : ℕ
-unit = 8388608
-
 pub half-turn-value : HasValue pi false 26353590 8388608
 unfolding ofBits
 half-turn-value = (refl, refl)
@@ -86,18 +83,6 @@ turn-symmetric (fin s m e) (fin t n d) =
     ∙ sym (turn-is t n d s m e)
 
 -- ---- equal angles
-pub size-none : (s : Bool) (a : ℕ) → sumSize s a (not s) a ≡ 0
-unfolding sumSize
-size-none s a = go s
-  where
-    less : (l : Bool) → cond l (a - a) (a - a) ≡ 0
-    less true = omega arith
-    less false = omega arith
-
-    go : (s : Bool) → cond (Bool·beq s (not s)) (a + a) (cond (ltb a a) (a - a) (a - a)) ≡ 0
-    go true = less (ltb a a)
-    go false = less (ltb a a)
-
 nought-fits : T (fits binary32 nought)
 unfolding fits
 nought-fits = tt
@@ -129,31 +114,16 @@ size-most s m e h =
     leb-true (m * up e * 8388608) (26353590 * down e)
     (sym (le-values (fin false m e) pi (m * up e) (down e) 26353590 8388608 (down-pos e) (zero-lt-suc 8388607) (refl, refl) half-turn-value) ∙ is-true (le (fin false m e) pi) h)
 
-size-le : (s : Bool) (a : ℕ) (t : Bool) (b : ℕ) → sumSize s a t b ≤ a + b
-unfolding sumSize
-size-le s a t b = go (Bool·beq s t) (ltb a b)
+-- N / d is at most p / 2 ^ 23, and M / e at most q / 2 ^ 23
+pub add-most : (N d M e p q : ℕ) → N * 8388608 ≤ p * d → M * 8388608 ≤ q * e → (N * e + M * d) * 8388608 ≤ (p + q) * (d * e)
+add-most N d M e p q h k =
+    let a : N * e * 8388608 ≤ p * (d * e) = le-trans (le-of-eq (mul-right-comm N e 8388608)) (le-trans (mul-le-mul-right e h) (le-of-eq (mul-assoc p d e))) in
+    let b : M * d * 8388608 ≤ q * (d * e) =
+    le-trans (le-of-eq (mul-right-comm M d 8388608)) (le-trans (mul-le-mul-right d k) (le-of-eq (mul-assoc q e d ∙ ap (λ (x : ℕ). q * x) (mul-comm e d)))) in
+    le-trans (both (N * e) (M * d) (p * (d * e)) (q * (d * e)) a b) (le-of-eq (sym (add-mul p q (d * e))))
   where
-    first : b - a ≤ a + b
-    first = omega arith
-
-    second : a - b ≤ a + b
-    second = omega arith
-
-    go : (e l : Bool) → cond e (a + b) (cond l (b - a) (a - b)) ≤ a + b
-    go true l = le-refl (a + b)
-    go false true = first
-    go false false = second
-
--- N / d and M / e are at most 26353590 / 8388608 each
-both-most : (N d M e : ℕ) → N * 8388608 ≤ 26353590 * d → M * 8388608 ≤ 26353590 * e → (N * e + M * d) * 8388608 ≤ 52707180 * (d * e)
-both-most N d M e h k =
-    let a : N * e * 8388608 ≤ 26353590 * (d * e) = le-trans (le-of-eq (mul-right-comm N e 8388608)) (le-trans (mul-le-mul-right e h) (le-of-eq (mul-assoc 26353590 d e))) in
-    let b : M * d * 8388608 ≤ 26353590 * (d * e) =
-    le-trans (le-of-eq (mul-right-comm M d 8388608)) (le-trans (mul-le-mul-right d k) (le-of-eq (mul-assoc 26353590 e d ∙ ap (λ (x : ℕ). 26353590 * x) (mul-comm e d)))) in
-    sum (N * e) (M * d) (d * e) a b
-  where
-    sum : (x y z : ℕ) → x * 8388608 ≤ 26353590 * z → y * 8388608 ≤ 26353590 * z → (x + y) * 8388608 ≤ 52707180 * z
-    sum x y z h k = omega arith
+    both : (x y u v : ℕ) → x * 8388608 ≤ u → y * 8388608 ≤ v → (x + y) * 8388608 ≤ u + v
+    both x y u v h k = omega arith
 
 pub turn-at-most : (a b : Float) → T (angled a) → T (angled b) → AtMost (turnOf a b) 52707180 8388608
 turn-at-most nan b h k = absurd (angled-finite nan h)
@@ -167,7 +137,7 @@ turn-at-most (fin s m e) (fin t n d) h k =
     (round-at-most binary32 twoPi (apartOf s m e t n d) (down d * down e) 52707180 8388608 full-fits full-turn-value
     (mul-pos (down-pos d) (down-pos e)) (zero-lt-suc 8388607)
     (le-trans (mul-le-mul-right 8388608 (size-le t (N * down e) (not s) (M * down d)))
-    (both-most N (down d) M (down e) (size-most t n d k) (size-most s m e h))))
+    (add-most N (down d) M (down e) 26353590 26353590 (size-most t n d k) (size-most s m e h))))
 
 pub turn-fits : (a b : Float) → T (finite a) → T (finite b) → T (fits binary32 (turnOf a b))
 turn-fits nan b h k = absurd h
@@ -177,47 +147,67 @@ turn-fits (fin s m e) (inf t) h k = absurd k
 turn-fits (fin s m e) (fin t n d) h k =
     subst (λ (x : Float). T (fits binary32 x)) (sym (turn-is s m e t n d)) (round-fits binary32 false (apartOf s m e t n d) (down d * down e))
 
--- ---- π less what is at most π/2 lies from π/2 to π
-module _ (m : ℕ) (e : ℤ) (h : m * up e * 8388608 ≤ 13176795 * down e) where
+-- ---- what is at most π/2 is at most π
+pub quarter-half : (X D : ℕ) → X ≤ 13176795 * D → X ≤ 26353590 * D
+quarter-half X D h = omega arith
+
+-- ---- c less what is at most half of it lies from that half to c: c is 2n / 2 ^ 23, and its half a float too
+module _ (c half : Float) (n : ℕ) (C : HasValue c false (n + n) 8388608) (H : HasValue half false n 8388608)
+    (F : T (fits binary32 c)) (G : T (fits binary32 half)) (m : ℕ) (e : ℤ) (h : m * up e * 8388608 ≤ n * down e) where
   left : ℕ
-  left = 26353590 * down e - m * up e * 8388608
+  left = (n + n) * down e - m * up e * 8388608
 
   scaled : 0 < 8388608 * down e
   scaled = mul-pos (zero-lt-suc 8388607) (down-pos e)
 
-  left-is : pi ⊖ fin false m e ≡ round binary32 false left (8388608 * down e)
+  -- n parts of D, twice
+  twice : (D : ℕ) → (n + n) * D ≡ n * D + n * D
+  twice D = add-mul n n D
+
+  left-is : c ⊖ fin false m e ≡ round binary32 false left (8388608 * down e)
   unfolding left
   left-is =
-      minus-values binary32 pi (fin false m e) 26353590 8388608 (m * up e) (down e) (zero-lt-suc 8388607) (down-pos e) half-turn-value (refl, refl)
-      (below (m * up e * 8388608) (down e) h)
+      minus-values binary32 c (fin false m e) (n + n) 8388608 (m * up e) (down e) (zero-lt-suc 8388607) (down-pos e) C (refl, refl)
+      (below (m * up e * 8388608) (n * down e) ((n + n) * down e) h (twice (down e)))
     where
-      below : (X D : ℕ) → X ≤ 13176795 * D → X ≤ 26353590 * D
-      below X D h = omega arith
+      below : (X Y Z : ℕ) → X ≤ Y → Z ≡ Y + Y → X ≤ Z
+      below X Y Z h e = omega arith
 
-  left-most : AtMost (round binary32 false left (8388608 * down e)) 26353590 8388608
+  left-most : AtMost (round binary32 false left (8388608 * down e)) (n + n) 8388608
   unfolding left
   left-most =
-      round-at-most binary32 pi (26353590 * down e - m * up e * 8388608) (8388608 * down e) 26353590 8388608 pi-fits half-turn-value scaled (zero-lt-suc 8388607)
-      (most (m * up e * 8388608) (down e))
+      round-at-most binary32 c ((n + n) * down e - m * up e * 8388608) (8388608 * down e) (n + n) 8388608 F C scaled (zero-lt-suc 8388607)
+      (le-trans (most ((n + n) * down e) (m * up e * 8388608)) (le-of-eq (mul-left-comm 8388608 (n + n) (down e))))
     where
-      most : (X D : ℕ) → (26353590 * D - X) * 8388608 ≤ 26353590 * (8388608 * D)
-      most X D = omega arith
+      most : (Z X : ℕ) → (Z - X) * 8388608 ≤ 8388608 * Z
+      most Z X = omega arith
 
-  left-least : AtLeast (round binary32 false left (8388608 * down e)) 13176795 8388608
+  left-least : AtLeast (round binary32 false left (8388608 * down e)) n 8388608
   unfolding left
   left-least =
-      round-at-least binary32 halfPi (26353590 * down e - m * up e * 8388608) (8388608 * down e) 13176795 8388608 half-fits quarter-turn-value scaled
-      (zero-lt-suc 8388607) (least (m * up e * 8388608) (down e) h)
-      (at-most-finite (round binary32 false (26353590 * down e - m * up e * 8388608) (8388608 * down e)) 26353590 8388608 left-most)
+      round-at-least binary32 half ((n + n) * down e - m * up e * 8388608) (8388608 * down e) n 8388608 G H scaled (zero-lt-suc 8388607)
+      (le-trans (le-of-eq (mul-left-comm n 8388608 (down e))) (least (m * up e * 8388608) (n * down e) ((n + n) * down e) h (twice (down e))))
+      (at-most-finite (round binary32 false ((n + n) * down e - m * up e * 8388608) (8388608 * down e)) (n + n) 8388608 left-most)
     where
-      least : (X D : ℕ) → X ≤ 13176795 * D → 13176795 * (8388608 * D) ≤ (26353590 * D - X) * 8388608
-      least X D h = omega arith
+      least : (X Y Z : ℕ) → X ≤ Y → Z ≡ Y + Y → 8388608 * Y ≤ (Z - X) * 8388608
+      least X Y Z h e = omega arith
 
+  pub less-most : AtMost (c ⊖ fin false m e) (n + n) 8388608
+  less-most = subst (λ (x : Float). AtMost x (n + n) 8388608) (sym left-is) left-most
+
+  pub less-least : AtLeast (c ⊖ fin false m e) n 8388608
+  less-least = subst (λ (x : Float). AtLeast x n 8388608) (sym left-is) left-least
+
+  pub less-abs : absOf (c ⊖ fin false m e) ≡ c ⊖ fin false m e
+  less-abs = ap absOf left-is ∙ abs-round binary32 false left (8388608 * down e) ∙ sym left-is
+
+-- ---- π less what is at most π/2
+module _ (m : ℕ) (e : ℤ) (h : m * up e * 8388608 ≤ 13176795 * down e) where
   pub half-less-most : AtMost (pi ⊖ fin false m e) 26353590 8388608
-  half-less-most = subst (λ (x : Float). AtMost x 26353590 8388608) (sym left-is) left-most
+  half-less-most = less-most pi halfPi 13176795 half-turn-value quarter-turn-value pi-fits half-fits m e h
 
   pub half-less-least : AtLeast (pi ⊖ fin false m e) 13176795 8388608
-  half-less-least = subst (λ (x : Float). AtLeast x 13176795 8388608) (sym left-is) left-least
+  half-less-least = less-least pi halfPi 13176795 half-turn-value quarter-turn-value pi-fits half-fits m e h
 
   pub half-less-abs : absOf (pi ⊖ fin false m e) ≡ pi ⊖ fin false m e
-  half-less-abs = ap absOf left-is ∙ abs-round binary32 false left (8388608 * down e) ∙ sym left-is
+  half-less-abs = less-abs pi halfPi 13176795 half-turn-value quarter-turn-value pi-fits half-fits m e h

@@ -9,11 +9,13 @@ use lib.IntN.{pos}
 use lib.Dec.{T, lit≤}
 use lib.Ieee.{Float, nan, inf, fin, binary32, up, down, size, span, climb, odd, units, round, sum, add, sub, mul, div, neg, lt, eq, le, isNan}
 use lib.Ieee.{ofFields, ofBits, toBits}
+use lib.Ieee.Exact.{HasValue}
 use lib.Ieee.Fits.{and-l, and-r, down-pos}
 use lib.Ieee.Scale.{finite}
 use Rattle.rounding.specs.Roots.{rootIn, root, rooted}
 use Rattle.rounding.proofs.Bounds.{AtMost, at-most-wider}
 use Rattle.rounding.proofs.Differences.{le-values}
+use Rattle.leaves.proofs.Signs.{abs-neg}
 use Rattle.leaves.specs.Fma.{fmaOf}
 use Rattle.leaves.specs.Single.{_⊕_, _⊖_, _⊗_, f32, zero32, one32}
 use Rattle.leaves.specs.Small.{absOf, isZero, negativeOf, lessOf, minOf, maxOf}
@@ -30,7 +32,7 @@ use Rattle.point.proofs.Steep.{steepOf, atan-parts, steep-most}
 use Rattle.point.proofs.TurnSizes.{half-turn-value, full-turn-value, turn-symmetric, turn-none, turn-at-most, turn-fits, angled-finite, half-less-most, none-rounds}
 use Rattle.point.proofs.Turns.{aroundOf, Where, where-of, around-short}
 use Rattle.point.proofs.TurnLaws.{beside, around-most, rest-sums}
-use Rattle.point.proofs.Reversals.{Across, neg-sizes, neg-across, sub-across, across-changed}
+use Rattle.point.proofs.Reversals.{Across, neg-across, sub-across, across-changed}
 
 -- ---- a known angle is that of a direction that is not nought
 abbrev long : Point → Bool
@@ -45,14 +47,12 @@ square-size (fin true m e) = refl
 square-size (fin false m e) = refl
 
 square-nought : (x : Float) → isZero x ≡ true → x ⊗ x ≡ nought
-unfolding mul isZero
+unfolding mul isZero absOf
 square-nought nan h = absurd (true≢false (sym h))
 square-nought (inf s) h = absurd (true≢false (sym h))
-square-nought (fin true zero e) h =
-    ap (λ (a : ℕ). round binary32 false a (down e * down e)) (ap (λ (a : ℕ). a * (0 * up e)) (zero-mul (up e)) ∙ zero-mul (0 * up e))
-    ∙ none-rounds (down e * down e) (mul-pos (down-pos e) (down-pos e))
-square-nought (fin false zero e) h =
-    ap (λ (a : ℕ). round binary32 false a (down e * down e)) (ap (λ (a : ℕ). a * (0 * up e)) (zero-mul (up e)) ∙ zero-mul (0 * up e))
+square-nought (fin s zero e) h =
+    square-size (fin s zero e)
+    ∙ ap (λ (a : ℕ). round binary32 false a (down e * down e)) (ap (λ (a : ℕ). a * (0 * up e)) (zero-mul (up e)) ∙ zero-mul (0 * up e))
     ∙ none-rounds (down e * down e) (mul-pos (down-pos e) (down-pos e))
 square-nought (fin s (suc m) e) h = absurd (true≢false (sym h))
 
@@ -71,16 +71,25 @@ not-both d h = go (isZero (d .x)) (isZero (d .y)) refl refl
         sym h ∙ ap₂ (λ (a b : Float). le (f32 0x3400_0000) (sqrt32 (a ⊕ b))) (square-nought (d .x) p) (square-nought (d .y) q) ∙ nought-short
 
 -- ---- angles lie within ±π
-size-most : (x : Float) → AtMost x 26353590 8388608 → T (angled x)
-unfolding absOf
-size-most nan a = absurd a
-size-most (inf s) a = absurd a
-size-most (fin true m e) a = absurd (true≢false (a .0))
-size-most (fin false m e) a =
+under : (c : Float) (n : ℕ) → HasValue c false n 8388608 → (x : Float) → AtMost x n 8388608 → T (le x c)
+under c n v nan a = absurd a
+under c n v (inf s) a = absurd a
+under c n v (fin true m e) a = absurd (true≢false (a .0))
+under c n v (fin false m e) a =
     subst T
-    (sym (le-values (fin false m e) pi (m * up e) (down e) 26353590 8388608 (down-pos e) (zero-lt-suc 8388607) (refl, refl) half-turn-value
-    ∙ le-leb (m * up e * 8388608) (26353590 * down e) (a .1)))
+    (sym (le-values (fin false m e) c (m * up e) (down e) n 8388608 (down-pos e) (zero-lt-suc 8388607) (refl, refl) v
+    ∙ le-leb (m * up e * 8388608) (n * down e) (a .1)))
     tt
+
+-- what is not negative is its own size
+own-size : (x : Float) (n d : ℕ) → AtMost x n d → absOf x ≡ x
+unfolding absOf
+own-size nan n d a = refl
+own-size (inf s) n d a = absurd a
+own-size (fin s m e) n d a = ap (λ (t : Bool). fin t m e) (sym (a .0))
+
+size-most : (x : Float) → AtMost x 26353590 8388608 → T (angled x)
+size-most x a = subst (λ (z : Float). T (le z pi)) (sym (own-size x 26353590 8388608 a)) (under pi 26353590 half-turn-value x a)
 
 behind-most : (left : Bool) (S : Float) → AtMost S 13176795 8388608 → AtMost (cond left (pi ⊖ S) S) 26353590 8388608
 behind-most false S a = at-most-wider S 13176795 8388608 26353590 8388608 (zero-lt-suc 8388607) (lit≤ tt) a
@@ -97,7 +106,7 @@ atan-angled x y F G h =
   where
     go : (below : Bool) (b : Float) → AtMost b 26353590 8388608 → T (angled (cond below (neg b) b))
     go false b a = size-most b a
-    go true b a = subst (λ (z : Float). T (le z pi)) (sym (neg-sizes b)) (size-most b a)
+    go true b a = subst (λ (z : Float). T (le z pi)) (sym (abs-neg b)) (size-most b a)
 
 -- ---- a direction's angle, and when it is known
 known-long : (d : Point) → T (knownOf (angleOf d)) → long d ≡ true
@@ -143,16 +152,6 @@ across-knife d d' F k p q =
 where-turn : (a0 a1 : Float) → T (angled a0) → T (angled a1) → Where (turnOf a0 a1)
 where-turn a0 a1 h k = where-of (turnOf a0 a1) (turn-fits a0 a1 (angled-finite a0 h) (angled-finite a1 k)) (turn-at-most a0 a1 h k)
 
-turn-under : (t : Float) → AtMost t 52707180 8388608 → T (le t twoPi)
-turn-under nan a = absurd a
-turn-under (inf s) a = absurd a
-turn-under (fin true m e) a = absurd (true≢false (a .0))
-turn-under (fin false m e) a =
-    subst T
-    (sym (le-values (fin false m e) twoPi (m * up e) (down e) 52707180 8388608 (down-pos e) (zero-lt-suc 8388607) (refl, refl) full-turn-value
-    ∙ le-leb (m * up e * 8388608) (52707180 * down e) (a .1)))
-    tt
-
 around-none : (a : Float) → T (angled a) → fullDiffOf a a ≡ zero32
 unfolding fullDiffOf
 around-none a h = ap aroundOf (turn-none a (angled-finite a h)) ∙ around-short 0 (pos 0) (lit≤ tt) ∙ sym zero-is
@@ -173,7 +172,7 @@ turning =
     record {
       within = within;
       infinite = no-angle;
-      turn-most = λ a0 a1 h k. turn-under (turnOf a0 a1) (turn-at-most a0 a1 h k);
+      turn-most = λ a0 a1 h k. under twoPi 52707180 full-turn-value (turnOf a0 a1) (turn-at-most a0 a1 h k);
       turn-reached = reached;
       rest-exact = λ a0 a1 h k. rest-sums (turnOf a0 a1) (where-turn a0 a1 h k);
       most = λ a0 a1 h k. around-most (turnOf a0 a1) (where-turn a0 a1 h k);

@@ -3,10 +3,10 @@
 use mathlib.Core.Path.{_≡_, refl, sym, ap, ap₂, _∙_, subst}
 use mathlib.Core.Bool.{Bool, true, false, _||_, cond, or-true, true≢false}
 use Prim.Native.Nat.{ℕ, _-_, _*_, _≤_, _<_}
-use native.Mathlib.Nat.{mul-pos, zero-lt-suc, le-of-lt}
+use native.Mathlib.Nat.{zero-lt-suc, le-of-lt}
 use native.Mathlib.Omega.{arith}
 use mathlib.Core.Logic.{inl, inr}
-use borrow.Author.Tests.{le-ltb, lt-ltb, le-leb}
+use borrow.Author.Tests.{le-ltb, lt-ltb, le-leb, lt-leb}
 use lib.IntN.{ℤ}
 use lib.Dec.{T, leb, ltb, lit≤}
 use lib.Ieee.{Float, nan, inf, fin, binary32, up, down, round, lt, le, fits, ofBits}
@@ -14,13 +14,13 @@ use lib.Ieee.Exact.{HasValue}
 use lib.Ieee.Fits.{down-pos}
 use lib.Ieee.Positive.{through}
 use Rattle.rounding.proofs.Basics.{le-or-lt}
-use Rattle.rounding.proofs.Bounds.{AtMost, AtLeast, round-at-most, round-at-least, at-most-finite}
-use Rattle.rounding.proofs.Differences.{lt-values, le-values, minus-values}
+use Rattle.rounding.proofs.Bounds.{AtMost, AtLeast}
+use Rattle.rounding.proofs.Differences.{lt-values, le-values}
 use Rattle.leaves.specs.Single.{_⊖_}
 use Rattle.leaves.specs.Small.{absOf}
 use Rattle.point.specs.Angle.{pi, halfPi, twoPi, maxAngleError}
 use Rattle.point.proofs.Grids.{on-grid, less-at, not-less-at, minus-at, round-at, grid-more, grid-most}
-use Rattle.point.proofs.TurnSizes.{half-turn-value, quarter-turn-value, full-turn-value, error-value, pi-fits, full-fits}
+use Rattle.point.proofs.TurnSizes.{half-turn-value, quarter-turn-value, full-turn-value, error-value, pi-fits, full-fits, quarter-half, less-least}
 
 -- ---- the two differences, of a turn
 abbrev pub foldedOf : Float → Float
@@ -33,14 +33,14 @@ aroundOf t = let rest = twoPi ⊖ t in cond (lt rest t) rest t
 abbrev pub fromPi : Float → Float
 fromPi t = absOf (t ⊖ pi)
 
--- ---- against 0.001, which is under 8,389 of 2 ^ -23 and under 4,195 of 2 ^ -22
-pub error-less : (x : Float) (n : ℕ) → HasValue x false n 8388608 → 8389 ≤ n → lt maxAngleError x ≡ true
-error-less x n p h =
-    lt-values maxAngleError x 8589935 8589934592 n 8388608 (zero-lt-suc 8589934591) (zero-lt-suc 8388607) error-value p
-    ∙ lt-ltb 72057597460480 (n * 8589934592) (more n h)
-  where
-    more : (n : ℕ) → 8389 ≤ n → 72057597460480 < n * 8589934592
-    more n h = omega arith
+-- ---- against 0.001, which is 8,589,935 / 2 ^ 33
+pub error-less : (x : Float) (n d : ℕ) → 0 < d → HasValue x false n d → 8589935 * d < n * 8589934592 → lt maxAngleError x ≡ true
+error-less x n d D p h =
+    lt-values maxAngleError x 8589935 8589934592 n d (zero-lt-suc 8589934591) D error-value p ∙ lt-ltb (8589935 * d) (n * 8589934592) h
+
+pub over-error : (x : Float) (n d : ℕ) → 0 < d → HasValue x false n d → 8589935 * d < n * 8589934592 → le x maxAngleError ≡ false
+over-error x n d D p h =
+    le-values x maxAngleError n d 8589935 8589934592 D (zero-lt-suc 8589934591) p error-value ∙ lt-leb (n * 8589934592) (8589935 * d) h
 
 -- one of the two tests passes, whatever the value
 pub either-error : (x : Float) (n d : ℕ) → 0 < d → HasValue x false n d → lt maxAngleError x || le x maxAngleError ≡ true
@@ -60,26 +60,7 @@ either-error x n d D p =
 -- ---- a turn up to π
 -- the rest is not below π then
 rest-least : (m : ℕ) (e : ℤ) → m * up e * 8388608 ≤ 26353590 * down e → AtLeast (twoPi ⊖ fin false m e) 26353590 8388608
-rest-least m e h =
-    let N = m * up e in
-    let D = down e in
-    let P = 52707180 * D - N * 8388608 in
-    let C : 0 < 8388608 * D = mul-pos (zero-lt-suc 8388607) (down-pos e) in
-    let is : twoPi ⊖ fin false m e ≡ round binary32 false P (8388608 * D) =
-    minus-values binary32 twoPi (fin false m e) 52707180 8388608 N D (zero-lt-suc 8388607) (down-pos e) full-turn-value (refl, refl) (below (N * 8388608) D h) in
-    subst (λ (x : Float). AtLeast x 26353590 8388608) (sym is)
-    (round-at-least binary32 pi P (8388608 * D) 26353590 8388608 pi-fits half-turn-value C (zero-lt-suc 8388607) (least (N * 8388608) D h)
-    (at-most-finite (round binary32 false P (8388608 * D)) 52707180 8388608
-    (round-at-most binary32 twoPi P (8388608 * D) 52707180 8388608 full-fits full-turn-value C (zero-lt-suc 8388607) (most (N * 8388608) D))))
-  where
-    below : (X D : ℕ) → X ≤ 26353590 * D → X ≤ 52707180 * D
-    below X D h = omega arith
-
-    least : (X D : ℕ) → X ≤ 26353590 * D → 26353590 * (8388608 * D) ≤ (52707180 * D - X) * 8388608
-    least X D h = omega arith
-
-    most : (X D : ℕ) → (52707180 * D - X) * 8388608 ≤ 52707180 * (8388608 * D)
-    most X D = omega arith
+rest-least m e h = less-least twoPi pi 26353590 full-turn-value half-turn-value full-fits pi-fits m e h
 
 not-below : (x : Float) (m : ℕ) (e : ℤ) → AtLeast x 26353590 8388608 → m * up e * 8388608 ≤ 26353590 * down e → lt x (fin false m e) ≡ false
 unfolding lt
@@ -169,11 +150,8 @@ not-over c n m e v h =
 pub folded-short : (m : ℕ) (e : ℤ) → m * up e * 8388608 ≤ 13176795 * down e → foldedOf (fin false m e) ≡ fin false m e
 folded-short m e h =
     let t = fin false m e in
-    let once : cond (lt pi t) (t ⊖ pi) t ≡ t = ap (λ (b : Bool). cond b (t ⊖ pi) t) (not-over pi 26353590 m e half-turn-value (more (m * up e * 8388608) (down e) h)) in
+    let once : cond (lt pi t) (t ⊖ pi) t ≡ t = ap (λ (b : Bool). cond b (t ⊖ pi) t) (not-over pi 26353590 m e half-turn-value (quarter-half (m * up e * 8388608) (down e) h)) in
     ap (λ (x : Float). cond (lt halfPi x) (pi ⊖ x) x) once ∙ ap (λ (b : Bool). cond b (pi ⊖ t) t) (not-over halfPi 13176795 m e quarter-turn-value h)
-  where
-    more : (X D : ℕ) → X ≤ 13176795 * D → X ≤ 26353590 * D
-    more X D h = omega arith
 
 pub folded-wide : (t : Float) (n : ℕ) → HasValue t false n 8388608 → 13176795 < n → n ≤ 26353590 → foldedOf t ≡ round binary32 false (26353590 - n) 8388608
 folded-wide t n v h k =

@@ -1,15 +1,15 @@
 -- A value of the format is rounded to itself, so a fraction that does not lie above it, or below it, is rounded to a float that does not either; what is left of
 -- a value after a smaller one is taken is bounded by it. Assumes nothing.
 use mathlib.Core.Path.{_≡_, refl, sym, ap, _∙_, subst}
-use mathlib.Core.Bool.{Bool, true, false, _&&_, _||_, cond, true≢false}
+use mathlib.Core.Bool.{Bool, true, false, cond, true≢false}
 use Prim.Native.Nat.{ℕ, zero, suc, _+_, _-_, _*_, _^_, _≤_, _<_}
-use native.Mathlib.Nat.{le-of-lt, le-of-eq, le-trans, sub-le, mul-assoc, mul-comm, mul-pos, mul-right-comm, mul-le-mul-right, eq-of-mul-eq-mul-right}
-use borrow.Author.Tests.{le-ltb}
+use native.Mathlib.Nat.{le-of-eq, le-trans, sub-le, mul-assoc, mul-comm, mul-pos, mul-right-comm, mul-le-mul-right, eq-of-mul-eq-mul-right}
+use borrow.Author.Tests.{leb-true}
 use lib.IntN.{ℤ}
-use lib.Dec.{T, ltb, leb, eqb, ltb→lt, eqb→eq}
+use lib.Dec.{T, ltb, leb}
 use lib.Pow.{pow-pos}
-use lib.Ieee.{Float, nan, inf, fin, Format, prec, emax, low, up, down, odd, units, round, sum, add, sub, neg, le, fits, top, toBits}
-use lib.Ieee.Fits.{and-l, down-pos, round-is, round-fits}
+use lib.Ieee.{Float, nan, inf, fin, Format, prec, emax, low, up, down, odd, units, round, add, sub, neg, le, fits, top, toBits}
+use lib.Ieee.Fits.{down-pos, round-is, round-fits}
 use lib.Ieee.Exact.{HasValue, odd-sign, round-exact}
 use lib.Ieee.Order.{drop, kept, round-mono}
 use lib.Ieee.Positive.{num, den, den-pos, through}
@@ -18,6 +18,9 @@ use Rattle.rounding.specs.Parts.{sig, place}
 use Rattle.rounding.proofs.Parts.{sig-lt}
 use Rattle.rounding.proofs.Values.{worth, worth-value, worth-cross, worth-under, value-finite, cross}
 use Rattle.rounding.proofs.Distances.{same-float}
+use Rattle.rounding.proofs.Differences.{le-values}
+use Rattle.rounding.proofs.Signed.{sum-less}
+use lib.Ieee.Bits.{is-true}
 
 -- finite, not negative, and at most n / d
 abbrev pub AtMost : Float → ℕ → ℕ → Type 0
@@ -61,7 +64,7 @@ round-kept f B n d F D v =
     ∙ same-float f (round f false w l) B false w (round-fits f false w l) F (own f B F h) (one-sign B s false w l n d (worth-value f B F h) v)
 
 -- ---- what is rounded from a fraction that is not negative is no NaN and not negative
-abbrev Unsigned : Float → Type 0
+abbrev pub Unsigned : Float → Type 0
 Unsigned nan = ⊥
 Unsigned (inf s) = s ≡ false
 Unsigned (fin s m e) = s ≡ false
@@ -79,60 +82,47 @@ units-unsigned f q k = go (ltb (q * 2 ^ k) (2 ^ (low f + suc (emax f))))
     go true = value-unsigned (odd (suc (prec f)) false q k (low f)) (q * 2 ^ k) (2 ^ low f) (odd-sign (suc (prec f)) false q k (low f))
     go false = refl
 
-round-unsigned : (f : Format) (a c : ℕ) → Unsigned (round f false a c)
+pub round-unsigned : (f : Format) (a c : ℕ) → Unsigned (round f false a c)
 round-unsigned f a c =
     let p = prec f in
     let n = a * 2 ^ low f in
     subst (λ (x : Float). Unsigned x) (sym (round-is f false a c)) (units-unsigned f (kept p n c) (drop p n c))
 
 -- ---- the order of two such floats is that of the fractions
-by-test : (a b : ℕ) → T (ltb a b || (eqb a b && true)) → a ≤ b
-by-test a b h = go (ltb a b) (ltb→lt a b) h
-  where
-    go : (t : Bool) → (T t → a < b) → T (t || (eqb a b && true)) → a ≤ b
-    go true l h = le-of-lt (l tt)
-    go false l h = le-of-eq (eqb→eq a b (and-l (eqb a b) true h))
-
-at-most : (x B : Float) (n d : ℕ) → Unsigned x → HasValue B false n d → T (le x B) → AtMost x n d
+no-less : (B : Float) (n d : ℕ) → HasValue B false n d → T (le (inf false) B) → ⊥
 unfolding le
-at-most nan B n d u v h = u
-at-most (inf true) B n d u v h = absurd (true≢false u)
-at-most (inf false) nan n d u v h = v
-at-most (inf false) (inf t) n d u v h = v
-at-most (inf false) (fin t k g) n d u v h = h
-at-most (fin true m e) B n d u v h = absurd (true≢false u)
-at-most (fin false m e) nan n d u v h = absurd v
-at-most (fin false m e) (inf t) n d u v h = absurd v
-at-most (fin false m e) (fin true k g) n d u v h = absurd (true≢false (v .0))
-at-most (fin false m e) (fin false k g) n d u v h = (
-  refl,
-  through (m * up e) (k * up g) n (down e) (down g) d (down-pos g) (by-test (m * up e * down g) (k * up g * down e) h) (le-of-eq (v .1)),
-)
+no-less nan n d v h = v
+no-less (inf t) n d v h = v
+no-less (fin t k g) n d v h = h
 
-at-least : (x B : Float) (n d : ℕ) → Unsigned x → HasValue B false n d → T (finite x) → T (le B x) → AtLeast x n d
-unfolding le
-at-least nan B n d u v w h = u
-at-least (inf s) B n d u v w h = w
-at-least (fin true m e) B n d u v w h = absurd (true≢false u)
-at-least (fin false m e) nan n d u v w h = absurd v
-at-least (fin false m e) (inf t) n d u v w h = absurd v
-at-least (fin false m e) (fin true k g) n d u v w h = absurd (true≢false (v .0))
-at-least (fin false m e) (fin false k g) n d u v w h = (
-  refl,
-  through n (k * up g) (m * up e) d (down g) (down e) (down-pos g) (le-of-eq (sym (v .1))) (by-test (k * up g * down e) (m * up e * down g) h),
-)
+at-most : (x B : Float) (n d : ℕ) → 0 < d → Unsigned x → HasValue B false n d → T (le x B) → AtMost x n d
+at-most nan B n d D u v h = u
+at-most (inf true) B n d D u v h = absurd (true≢false u)
+at-most (inf false) B n d D u v h = no-less B n d v h
+at-most (fin true m e) B n d D u v h = absurd (true≢false u)
+at-most (fin false m e) B n d D u v h =
+    let x = fin false m e in
+    (refl, leb-true (m * up e * d) (n * down e) (sym (le-values x B (m * up e) (down e) n d (down-pos e) D (refl, refl) v) ∙ is-true (le x B) h))
+
+at-least : (x B : Float) (n d : ℕ) → 0 < d → Unsigned x → HasValue B false n d → T (finite x) → T (le B x) → AtLeast x n d
+at-least nan B n d D u v w h = u
+at-least (inf s) B n d D u v w h = w
+at-least (fin true m e) B n d D u v w h = absurd (true≢false u)
+at-least (fin false m e) B n d D u v w h =
+    let x = fin false m e in
+    (refl, leb-true (n * down e) (m * up e * d) (sym (le-values B x n d (m * up e) (down e) D (down-pos e) v (refl, refl)) ∙ is-true (le B x) h))
 
 -- ---- a / c against n / d, which is a value of the format
 pub round-at-most : (f : Format) (B : Float) (a c n d : ℕ) → T (fits f B) → HasValue B false n d → 0 < c → 0 < d → a * d ≤ n * c
     → AtMost (round f false a c) n d
 round-at-most f B a c n d F v C D h =
-    at-most (round f false a c) B n d (round-unsigned f a c) v
+    at-most (round f false a c) B n d D (round-unsigned f a c) v
     (subst (λ (z : Float). T (le (round f false a c) z)) (round-kept f B n d F D v) (round-mono f a c n d C D h))
 
 pub round-at-least : (f : Format) (B : Float) (a c n d : ℕ) → T (fits f B) → HasValue B false n d → 0 < c → 0 < d → n * c ≤ a * d
     → T (finite (round f false a c)) → AtLeast (round f false a c) n d
 round-at-least f B a c n d F v C D h w =
-    at-least (round f false a c) B n d (round-unsigned f a c) v w
+    at-least (round f false a c) B n d D (round-unsigned f a c) v w
     (subst (λ (z : Float). T (le z (round f false a c))) (round-kept f B n d F D v) (round-mono f n d a c D C h))
 
 -- ---- a wider bound
@@ -142,10 +132,6 @@ at-most-wider (inf s) n d p q D h l = l
 at-most-wider (fin s m e) n d p q D h l = (l .0, through (m * up e) n p (down e) d q D (l .1) h)
 
 -- ---- a difference that is not negative is at most what is taken from
-taken : (f : Format) (a b c : ℕ) → b ≤ a → sum f false a true b c ≡ round f false (a - b) c
-unfolding sum
-taken f a b c h = ap (λ (t : Bool). cond t (round f true (b - a) c) (round f false (a - b) c)) (le-ltb a b h)
-
 pub minus-at-most : (f : Format) (o : ℕ) (k : ℤ) (y : Float) → T (fits f (fin false o k)) → AtMost y (o * up k) (down k)
     → AtMost (sub f (fin false o k) y) (o * up k) (down k)
 unfolding sub add neg
@@ -157,7 +143,7 @@ minus-at-most f o k (fin false m e) F l =
     let M = m * up e in
     let K = down k in
     let E = down e in
-    subst (λ (x : Float). AtMost x O K) (sym (taken f (O * E) (M * K) (K * E) (l .1)))
+    subst (λ (x : Float). AtMost x O K) (sym (sum-less f (O * E) (M * K) (K * E) (l .1)))
     (round-at-most f (fin false o k) (O * E - M * K) (K * E) O K F (refl, refl) (mul-pos (down-pos k) (down-pos e)) (down-pos k)
     (le-trans (mul-le-mul-right K (sub-le (O * E) (M * K))) (le-of-eq (mul-assoc O E K ∙ ap (λ (z : ℕ). O * z) (mul-comm E K)))))
 

@@ -1,19 +1,20 @@
 -- Values that are not negative, by fractions that they equal: how they compare, and their difference, which is rounded once. Assumes nothing.
 use mathlib.Core.Path.{_≡_, sym, ap, ap₂, _∙_}
-use mathlib.Core.Bool.{Bool, true, false, _&&_, _||_, cond, true≢false}
+use mathlib.Core.Bool.{Bool, true, false, _&&_, _||_, true≢false}
 use Prim.Native.Nat.{ℕ, _-_, _*_, _≤_, _<_}
 use native.Mathlib.Nat.{mul-assoc, mul-comm, mul-left-comm, mul-pos, mul-sub, le-of-lt, le-of-eq}
 use native.Mathlib.Nat.{lt-of-mul-lt-mul-right, mul-lt-mul-of-pos-right, lt-of-lt-of-le, lt-of-le-of-lt}
 use native.Mathlib.Omega.{arith}
 use borrow.Author.Tests.{le-ltb, lt-ltb, le-leb, lt-leb, eq-eqb, ne-eqb}
 use lib.Dec.{leb, ltb, eqb}
-use lib.Ieee.{Float, nan, inf, fin, Format, up, down, round, sum, add, sub, neg, lt, eq, le}
+use lib.Ieee.{Float, nan, inf, fin, Format, up, down, round, add, sub, neg, lt, eq, le}
 use lib.Ieee.Exact.{HasValue}
 use lib.Ieee.Fits.{down-pos}
 use lib.Ieee.Order.{transfer}
 use lib.Ieee.Scale.{round-same}
 use mathlib.Core.Logic.{inl, inr}
 use Rattle.rounding.proofs.Basics.{le-or-lt}
+use Rattle.rounding.proofs.Signed.{sum-less}
 
 -- ---- whole numbers
 -- x / de is a / c and y / dd is b / c', strictly
@@ -85,7 +86,7 @@ le-values (fin false m e) (fin false n g) a c b d C D p q =
 -- ---- the difference of a greater and a lesser value
 pub minus-values : (f : Format) (x y : Float) (a c b d : ℕ) → 0 < c → 0 < d → HasValue x false a c → HasValue y false b d → b * c ≤ a * d
     → sub f x y ≡ round f false (a * d - b * c) (c * d)
-unfolding sub add neg sum
+unfolding sub add neg
 minus-values f nan y a c b d C D p q h = absurd p
 minus-values f (inf s) y a c b d C D p q h = absurd p
 minus-values f (fin true m e) y a c b d C D p q h = absurd (true≢false (p .0))
@@ -98,8 +99,7 @@ minus-values f (fin false m e) (fin false n g) a c b d C D p q h =
     let X = x * down g in
     let Y = y * down e in
     let E = down e * down g in
-    ap (λ (t : Bool). cond t (round f true (Y - X) E) (round f false (X - Y) E))
-    (le-ltb X Y (transfer y x (down g) (down e) b a d c D C (q .1) (p .1) h))
+    sum-less f X Y E (transfer y x (down g) (down e) b a d c D C (q .1) (p .1) h)
     ∙ round-same f false (X - Y) E (a * d - b * c) (c * d) (mul-pos (down-pos e) (down-pos g)) (mul-pos C D)
     (less X Y (c * d) ∙ ap₂ (λ (u v : ℕ). u - v) (first x (down g) c d a (down e) (p .1)) (second y (down e) c d b (down g) (q .1))
     ∙ sym (less (a * d) (b * c) E))

@@ -111,6 +111,11 @@ sum-rounds f s a t b c = go (Bool·beq s t) (ltb a b)
     go false true = refl
     go false false = refl
 
+-- a - b, where b is not greater
+pub sum-less : (f : Format) (a b c : ℕ) → b ≤ a → sum f false a true b c ≡ round f false (a - b) c
+unfolding sum
+sum-less f a b c h = ap (λ (t : Bool). cond t (round f true (b - a) c) (round f false (a - b) c)) (le-ltb a b h)
+
 pub sum-signed : (s : Bool) (a : ℕ) (t : Bool) (b : ℕ) → signed (sumSign s a t b) (sumSize s a t b) ≡ signed s a +ℤ signed t b
 unfolding sumSign sumSize
 sum-signed false a false b = refl
@@ -221,20 +226,39 @@ sign-swap false a false b (inl h) =
     more a b h l = omega (arith, h)
 sign-swap false a false b (inr h) = absurd (true≢false (sym h))
 
-pub sumSize-lt : (s : Bool) (a : ℕ) (t : Bool) (b c : ℕ) → a < c → b < c → sumSize s a t b < c + c
+-- the size is at most that of both together, and nothing is left of a - a
+pub size-le : (s : Bool) (a : ℕ) (t : Bool) (b : ℕ) → sumSize s a t b ≤ a + b
 unfolding sumSize
-sumSize-lt s a t b c h k = go (Bool·beq s t) (ltb a b)
+size-le s a t b = go (Bool·beq s t) (ltb a b)
   where
-    both : a + b < c + c
-    both = omega (arith, h, k)
+    all : a + b ≤ a + b
+    all = omega arith
 
-    first : b - a < c + c
-    first = omega (arith, h, k)
+    first : b - a ≤ a + b
+    first = omega arith
 
-    second : a - b < c + c
-    second = omega (arith, h, k)
+    second : a - b ≤ a + b
+    second = omega arith
 
-    go : (e l : Bool) → cond e (a + b) (cond l (b - a) (a - b)) < c + c
-    go true l = both
+    go : (e l : Bool) → cond e (a + b) (cond l (b - a) (a - b)) ≤ a + b
+    go true l = all
     go false true = first
     go false false = second
+
+pub size-none : (s : Bool) (a : ℕ) → sumSize s a (not s) a ≡ 0
+unfolding sumSize
+size-none s a = go s
+  where
+    less : (l : Bool) → cond l (a - a) (a - a) ≡ 0
+    less true = omega arith
+    less false = omega arith
+
+    go : (s : Bool) → cond (Bool·beq s (not s)) (a + a) (cond (ltb a a) (a - a) (a - a)) ≡ 0
+    go true = less (ltb a a)
+    go false = less (ltb a a)
+
+pub sumSize-lt : (s : Bool) (a : ℕ) (t : Bool) (b c : ℕ) → a < c → b < c → sumSize s a t b < c + c
+sumSize-lt s a t b c h k = both (sumSize s a t b) (size-le s a t b)
+  where
+    both : (n : ℕ) → n ≤ a + b → n < c + c
+    both n l = omega (arith, h, k)
