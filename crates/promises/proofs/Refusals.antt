@@ -56,7 +56,8 @@ module _ (setting : Setting) (caps : Capacities) where
   refused-answer ps w a R = ap (λ (x : World). x .state .answer) (refused-run ps w a R) ∙ refuses-answer setting caps (runOf setting caps (R .before) w) (R .cause)
 
   -- the refused primitive keeps the counts and the tables
-  push-kept : (w : World) {b : Bool} {w' : World} → Pushed caps w b w' → isDone (w .state .answer) ≡ true → isDone (w' .state .answer) ≡ false → w' ≡ world (refusedOf (w .state) (w' .state .answer)) (w .quads) (w .splines)
+  push-kept : (w : World) {b : Bool} {w' : World} → Pushed caps w b w' → isDone (w .state .answer) ≡ true → isDone (w' .state .answer) ≡ false
+      → w' ≡ world (refusedOf (w .state) (w' .state .answer)) (w .quads) (w .splines)
   unfolding refusedOf markedOf applyOf splineEditOf
   push-kept w (kept answer) d h = refl
   push-kept w (marked _) d h = absurd (true≢false (sym d ∙ h))
@@ -74,7 +75,8 @@ module _ (setting : Setting) (caps : Capacities) where
       ∙ push-kept v (pushed setting caps v (R .primitive)) (R .pushed) (ap isDone e ∙ refuses-not-done (R .cause))
       ∙ ap (λ (x : Answer). world (refusedOf (v .state) x) (v .quads) (v .splines)) e
 
-  pub run-told : (ps : List Primitive) (w : World) → Sound caps w → isDone (w .state .answer) ≡ true → (runOf setting caps ps w .state .answer ≡ Done) ⊎ RefusedIn setting caps ps w (runOf setting caps ps w .state .answer)
+  pub run-told : (ps : List Primitive) (w : World) → Sound caps w → isDone (w .state .answer) ≡ true
+      → (runOf setting caps ps w .state .answer ≡ Done) ⊎ RefusedIn setting caps ps w (runOf setting caps ps w .state .answer)
   unfolding runOf
   run-told [] w S D = inl (done-is (w .state .answer) D)
   run-told (p ∷ ps) w S D =
@@ -94,7 +96,9 @@ module _ (setting : Setting) (caps : Capacities) where
           }
 
       go : (pushOf setting caps p w .state .answer ≡ Done) ⊎ Refuses setting caps w p (pushOf setting caps p w .state .answer)
-          → (isDone (pushOf setting caps p w .state .answer) ≡ true → (runOf setting caps ps (pushOf setting caps p w) .state .answer ≡ Done) ⊎ RefusedIn setting caps ps (pushOf setting caps p w) (runOf setting caps ps (pushOf setting caps p w) .state .answer))
+          → (isDone (pushOf setting caps p w .state .answer) ≡ true
+          → (runOf setting caps ps (pushOf setting caps p w) .state .answer ≡ Done)
+          ⊎ RefusedIn setting caps ps (pushOf setting caps p w) (runOf setting caps ps (pushOf setting caps p w) .state .answer))
           → (runOf setting caps ps (pushOf setting caps p w) .state .answer ≡ Done) ⊎ RefusedIn setting caps (p ∷ ps) w (runOf setting caps ps (pushOf setting caps p w) .state .answer)
       go (inl e) f = elim (f (ap isDone e)) [ inl d ↦ inl d | inr R ↦ inr (later (runOf setting caps ps (pushOf setting caps p w) .state .answer) R) ]
       go (inr r) f =
@@ -144,7 +148,8 @@ member-at [] i h = absurd (not-suc-le-zero h)
 member-at (x ∷ l) zero h = List·Memᴰ·head refl
 member-at (x ∷ l) (suc i) h = List·Memᴰ·tail (member-at l i (le-of-suc-le-suc h))
 
-tells-entries : (ok : Float → Bool) (bad : Float → Type 0) → ((v : Float) → Tells (ok v) (bad v)) → (n : ℕ) (l : List Float) → n ≤ length l → Tells (every ok (take n l)) (Entry bad n l)
+tells-entries : (ok : Float → Bool) (bad : Float → Type 0) → ((v : Float) → Tells (ok v) (bad v)) → (n : ℕ) (l : List Float) → n ≤ length l
+    → Tells (every ok (take n l)) (Entry bad n l)
 tells-entries ok bad t n l h = tells-as (every ok (take n l)) (Some bad (take n l)) (Entry bad n l) to from (tells-every ok bad t (take n l))
   where
     short : length (take n l) ≡ n
@@ -261,9 +266,15 @@ module _ (st : StoreState) (c : Columns) where
       (tells-then t1 t2 _ _ (tells-usable st c) known-told)
       (tells-eqb (getD (c .commands) 0 0) moveCommand))
       (tells-eqb (totalUsesOf (take (st .commands) (c .commands))) (st .points)))
-      (λ h. tells-entries weightOkOf (Outside (f32 0x3c80_0000) (f32 0x4280_0000)) weight-tells (st .points) (c .weight) (weight-fit (and-elim-left t1 t2 (and-elim-left (t1 && t2) t3 (and-elim-left (t1 && t2 && t3) t4 h))))))
-      (λ h. tells-entries storedOkOf (Outside (f32 0xca80_0000) (f32 0x4a80_0000)) stored-tells (st .points) (c .x) (points-fit (and-elim-left t1 t2 (and-elim-left (t1 && t2) t3 (and-elim-left (t1 && t2 && t3) t4 (and-elim-left (t1 && t2 && t3 && t4) t5 h)))))))
-      (λ h. tells-entries storedOkOf (Outside (f32 0xca80_0000) (f32 0x4a80_0000)) stored-tells (st .points) (c .y) (y-fit (and-elim-left t1 t2 (and-elim-left (t1 && t2) t3 (and-elim-left (t1 && t2 && t3) t4 (and-elim-left (t1 && t2 && t3 && t4) t5 (and-elim-left (t1 && t2 && t3 && t4 && t5) t6 h)))))))
+      (λ h. tells-entries weightOkOf (Outside (f32 0x3c80_0000) (f32 0x4280_0000)) weight-tells (st .points) (c .weight)
+      (weight-fit (and-elim-left t1 t2
+      (and-elim-left (t1 && t2) t3 (and-elim-left (t1 && t2 && t3) t4 h))))))
+      (λ h. tells-entries storedOkOf (Outside (f32 0xca80_0000) (f32 0x4a80_0000)) stored-tells (st .points) (c .x)
+      (points-fit (and-elim-left t1 t2
+      (and-elim-left (t1 && t2) t3 (and-elim-left (t1 && t2 && t3) t4 (and-elim-left (t1 && t2 && t3 && t4) t5 h)))))))
+      (λ h. tells-entries storedOkOf (Outside (f32 0xca80_0000) (f32 0x4a80_0000)) stored-tells (st .points) (c .y)
+      (y-fit (and-elim-left t1 t2
+      (and-elim-left (t1 && t2) t3 (and-elim-left (t1 && t2 && t3) t4 (and-elim-left (t1 && t2 && t3 && t4) t5 (and-elim-left (t1 && t2 && t3 && t4 && t5) t6 h)))))))
 
   pub tells-drawable : Tells (drawableOf st c) (Undrawable st c)
   unfolding Faults Weights Xs Ys
