@@ -19,6 +19,7 @@ use Rattle.primitives.specs.declared.Capacities.{Capacities}
 use Rattle.primitives.specs.declared.State.{State}
 use Rattle.primitives.specs.declared.Primitive.{Primitive}
 use Rattle.primitives.specs.declared.Primitive.the-variants.{Contour, Line, Quad, Excess}
+use Rattle.primitives.specs.declared.Kind.the-variants.{Straight, Round}
 use Rattle.primitives.specs.declared.Curve.{Curve}
 use Rattle.primitives.specs.declared.QuadRow.{QuadRow}
 use Rattle.primitives.specs.declared.SplineRow.{SplineRow}
@@ -40,7 +41,7 @@ markedOf setting st = stateOf (st .answer) (st .splines) (st .quads) true (st .l
 unfoldable pub planLineOf : Setting → Capacities → State → SplineRow → Point → Point → Edit
 planLineOf setting caps st last start end =
     let angle = angleOf (minusOf end start) in
-    let opens = opensOf setting st last angle start in
+    let opens = opensOf setting Straight st last angle start in
     cond (opens && leb (caps .splines) (st .splines)) (Keep (refusedOf st SplinesFull))
     (Extend (splineEditOf opens st last start end (sumBefore opens last) (st .quads) (lineAngleOf setting (st .last) angle)))
 
@@ -64,7 +65,7 @@ unfoldable pub planCurveOf : Setting → Capacities → State → SplineRow → 
 planCurveOf setting caps st last p0 p1 p2 in-angle out-angle =
     let start = appliedOf p0 in
     let end = appliedOf p2 in
-    let opens = opensOf setting st last in-angle start in
+    let opens = opensOf setting Round st last in-angle start in
     let curve = curveOf start (appliedOf p1) end in
     let sum = sumBefore opens last ⊕ curve .curvature in
     let edit = splineEditOf opens st last start end sum (st .quads + 1) out-angle in

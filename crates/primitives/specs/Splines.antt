@@ -1,7 +1,7 @@
 -- RULES, Opening and Lines: when a primitive opens a spline, and the spline's row and the state after it. Assumes nothing.
 use Prim.Native.Nat.{ℕ, _+_, _-_}
 use mathlib.Core.Bool.{Bool, true, false, not, _||_, cond}
-use lib.Ieee.{Float, le}
+use lib.Ieee.{Float, le, eq}
 use Rattle.leaves.specs.Single.{f32, zero32}
 use Rattle.answer.specs.declared.Answer.{Answer}
 use Rattle.answer.specs.declared.Answer.the-variants.{Done}
@@ -13,6 +13,8 @@ use Rattle.point.specs.Angle.{changedOf}
 use Rattle.point.specs.declared.Setting.{Setting}
 use Rattle.point.specs.declared.Setting.the-variants.{Screen, Knife}
 use Rattle.primitives.specs.declared.State.{State}
+use Rattle.primitives.specs.declared.Kind.{Kind}
+use Rattle.primitives.specs.declared.Kind.the-variants.{Straight, Round}
 use Rattle.primitives.specs.declared.SplineRow.{SplineRow}
 use Rattle.primitives.specs.declared.SplineEdit.{SplineEdit}
 
@@ -27,9 +29,23 @@ stateOf answer splines quads mark last = record { answer = answer; splines = spl
 unfoldable pub farOf : Point → SplineRow → Bool
 farOf start last = le maxError (lenOf (minusOf start (last .p2)))
 
--- "A primitive opens a new spline if a contour mark waits, or the angle changed, or its start is 0.0625 or more from the last spline's end."
-unfoldable pub opensOf : Setting → State → SplineRow → Angle → Point → Bool
-opensOf setting st last angle start = st .mark || changedOf setting (st .last) angle || farOf start last
+-- what a spline is of: it has no quad exactly if its sum is 0
+unfoldable pub splineKindOf : SplineRow → Kind
+splineKindOf spline = cond (eq (spline .curvature) zero32) Straight Round
+
+-- 02, Two: "In the knife setting a line and a quad must never share a spline"
+unfoldable pub apartOf : Setting → Kind → Kind → Bool
+apartOf Screen a b = false
+apartOf Knife Straight Straight = false
+apartOf Knife Straight Round = true
+apartOf Knife Round Straight = true
+apartOf Knife Round Round = false
+
+-- "A primitive opens a new spline if a contour mark waits, or the angle changed, or its start is 0.0625 or more from the last spline's end." For the knife also
+-- if the last spline is of the other kind.
+unfoldable pub opensOf : Setting → Kind → State → SplineRow → Angle → Point → Bool
+opensOf setting kind st last angle start =
+    st .mark || changedOf setting (st .last) angle || farOf start last || apartOf setting kind (splineKindOf last)
 
 -- "A line sets the last angle to its own, missing or not. Knife setting: a line without angle keeps the last angle."
 unfoldable pub lineAngleOf : Setting → Angle → Angle → Angle

@@ -59,6 +59,12 @@ pub struct Curve {
     pub curvature: f32,
 }
 
+// What a line or a quad is, and what a spline has; a quad that is treated as a line is straight.
+pub enum Kind {
+    Straight,
+    Round,
+}
+
 // What a primitive comes to, once the angles of a quad's legs are known.
 pub enum Shape {
     // A quad that is dropped.

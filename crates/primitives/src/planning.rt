@@ -1,6 +1,7 @@
 // What one primitive changes, or how it is refused: 5, 6, 7, 8 are tested before anything is stored.
 use crate::Capacities;
 use crate::Edit;
+use crate::Kind;
 use crate::Primitive;
 use crate::QuadRow;
 use crate::Shape;
@@ -65,7 +66,7 @@ fn plan_line(
     ensures { λ r. ⌜ r ≡ planLineOf setting caps st last start end ⌝ }
 {
     let angle = end.minus(start).angle();
-    let opens = opens(setting, st, last, angle, start);
+    let opens = opens(setting, Kind::Straight, st, last, angle, start);
     if opens & (caps.splines <= st.splines) {
         return Edit::Keep(refused(st, Answer::SplinesFull));
     }
@@ -129,7 +130,7 @@ fn plan_curve(
     }
     let start = p0.applied();
     let end = p2.applied();
-    let opens = opens(setting, st, last, in_angle, start);
+    let opens = opens(setting, Kind::Round, st, last, in_angle, start);
     if opens & (caps.splines <= st.splines) {
         return Edit::Keep(refused(st, Answer::SplinesFull));
     }

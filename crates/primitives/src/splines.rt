@@ -1,4 +1,5 @@
 // When a primitive opens a spline, and the spline's row and the state after it: last_spline_or_insert_with as a plain decision.
+use crate::Kind;
 use crate::SplineEdit;
 use crate::SplineRow;
 use crate::State;
@@ -10,7 +11,7 @@ use point::changed;
 ghost use mathlib.Core.Bool.{true};
 ghost use mathlib.Core.Path.{_≡_};
 ghost use Prim.Native.Nat.{_-_, _<_};
-ghost use Rattle.primitives.specs.Splines.{farOf, opensOf, lineAngleOf, sumBefore, splineEditOf};
+ghost use Rattle.primitives.specs.Splines.{farOf, splineKindOf, apartOf, opensOf, lineAngleOf, sumBefore, splineEditOf};
 
 // The square of MAX_ERROR, 0.0625.
 const MAX_ERROR_SQUARED: f32 = 0.00390625;
@@ -22,14 +23,54 @@ fn far(start: Point, last: SplineRow) -> bool
     start.minus(last.p2).squared() >= MAX_ERROR_SQUARED
 }
 
-pub fn opens(setting: Setting, st: State, last: SplineRow, angle: Angle, start: Point) -> bool
-    ensures { λ r. ⌜ r ≡ opensOf setting st last angle start ⌝ }
+// A quad's own curvature is above 1, so a spline with a quad has a sum above 0.
+fn spline_kind(spline: SplineRow) -> Kind
+    ensures { λ r. ⌜ r ≡ splineKindOf spline ⌝ }
 {
-    let before = st.last;
-    st.mark | changed(setting, before, angle) | far(start, last)
+    if spline.curvature == 0.0 {
+        Kind::Straight
+    } else {
+        Kind::Round
+    }
 }
 
-// The last angle after a line: the one place where the settings differ.
+// For the knife the joint between straight and round is a vertex.
+fn apart(setting: Setting, a: Kind, b: Kind) -> bool
+    ensures { λ r. ⌜ r ≡ apartOf setting a b ⌝ }
+{
+    match setting {
+        Setting::Screen => false,
+        Setting::Knife => match a {
+            Kind::Straight => match b {
+                Kind::Straight => false,
+                Kind::Round => true,
+            },
+            Kind::Round => match b {
+                Kind::Straight => true,
+                Kind::Round => false,
+            },
+        },
+    }
+}
+
+pub fn opens(
+    setting: Setting,
+    kind: Kind,
+    st: State,
+    last: SplineRow,
+    angle: Angle,
+    start: Point,
+) -> bool
+    ensures { λ r. ⌜ r ≡ opensOf setting kind st last angle start ⌝ }
+{
+    let before = st.last;
+    st.mark
+        | changed(setting, before, angle)
+        | far(start, last)
+        | apart(setting, kind, spline_kind(last))
+}
+
+// The last angle after a line: the knife keeps the one before where a line has none.
 pub fn line_angle(setting: Setting, last: Angle, angle: Angle) -> Angle
     ensures { λ r. ⌜ r ≡ lineAngleOf setting last angle ⌝ }
 {
