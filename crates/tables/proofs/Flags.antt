@@ -20,6 +20,7 @@ use Rattle.point.specs.declared.Point.{Point}
 use Rattle.point.specs.declared.Angle.{Angle}
 use Rattle.point.specs.declared.Setting.{Setting}
 use Rattle.primitives.specs.declared.Capacities.{Capacities}
+use Rattle.primitives.specs.declared.Kind.{Kind}
 use Rattle.primitives.specs.declared.Primitive.{Primitive}
 use Rattle.primitives.specs.declared.SplineRow.{SplineRow}
 use Rattle.primitives.specs.declared.SplineEdit.{SplineEdit}
@@ -203,7 +204,8 @@ module _ (caps : Capacities) (E : ℕ → Type 0) (w : World) (S : Sound caps w)
         | inr z ↦ flag-kept (w .splines) edit j (λ e. not-before j (w .state .splines) N z (e ∙ at)) clears
       ]
 
-  edited : (opens : Bool) (start end : Point) (sum : Float) (quads : ℕ) (angle : Angle) (q' : QuadTable) → Allowed caps w opens
+  edited : {setting : Setting} {kind : Kind} (opens : Bool) (start end : Point) (sum : Float) (quads : ℕ) (angle : Angle) (q' : QuadTable)
+      → Allowed setting kind caps w opens
       → Flagged E (world (splineEdit w opens start end sum quads angle .next) q' (putSpline (w .splines) (splineEdit w opens start end sum quads angle)))
   unfolding splineEditOf
   edited true start end sum quads angle q' A = opened (splineEdit w true start end sum quads angle) q' (w .state .mark) refl refl refl refl
@@ -218,10 +220,10 @@ module _ (caps : Capacities) (E : ℕ → Type 0) (w : World) (S : Sound caps w)
   no-move : {w' : World} → Flagged E w' → Flagged (λ (m : ℕ). E m ⊎ Now w false m) w'
   no-move {w'} F = flagged-same E (λ (m : ℕ). E m ⊎ Now w false m) w' (λ m h. inl h) (λ m h. elim h [ inl a ↦ a | inr a ↦ absurd (a .0) ]) F
 
-  pub flagged-push : {b : Bool} {w' : World} → Pushed caps w b w' → Flagged (λ (m : ℕ). E m ⊎ Now w b m) w'
+  pub flagged-push : {setting : Setting} {b : Bool} {w' : World} → Pushed setting caps w b w' → Flagged (λ (m : ℕ). E m ⊎ Now w b m) w'
   unfolding refusedOf markedOf applyOf
   flagged-push (kept answer) = no-move (record { closed = G .closed; closing = G .closing; waits = G .waits; free = G .free; within = G .within })
-  flagged-push (marked setting) =
+  flagged-push marked =
       record {
         closed = λ j h e. elim (G .closed j h e) [ inl a ↦ inl a | inr a ↦ inr (inl a) ];
         closing = λ j h c. G .closing j h (back j c);
@@ -235,7 +237,7 @@ module _ (caps : Capacities) (E : ℕ → Type 0) (w : World) (S : Sound caps w)
       back j (inr (inl e)) = inr e
       back j (inr (inr e)) = inl (sym (e .1))
   flagged-push (lined opens start end angle A) = no-move (edited caps E w S G opens start end _ _ angle _ A)
-  flagged-push (bent opens start end angle c row A B K fit e o) = no-move (edited caps E w S G opens start end _ _ angle _ A)
+  flagged-push (bent opens start end angle c row A B K fit R) = no-move (edited caps E w S G opens start end _ _ angle _ A)
 
 -- ---- a run: m splines are there at one of its Moves
 abbrev pub nextOf : Setting → Capacities → Primitive → World → World

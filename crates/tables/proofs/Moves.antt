@@ -38,14 +38,14 @@ module _ (setting : Setting) (caps : Capacities) where
           (Runs.run-append setting caps ps qs w ∙ Runs.run-stop setting caps qs (runOf setting caps ps w) e)) ∙ h
 
   -- ---- the number of splines never falls
-  push-grows : (w : World) {b : Bool} {w' : World} → Pushed caps w b w' → w .state .splines ≤ w' .state .splines
+  push-grows : (w : World) {setting : Setting} {b : Bool} {w' : World} → Pushed setting caps w b w' → w .state .splines ≤ w' .state .splines
   unfolding refusedOf markedOf applyOf splineEditOf
   push-grows w (kept answer) = le-refl (w .state .splines)
-  push-grows w (marked _) = le-refl (w .state .splines)
+  push-grows w marked = le-refl (w .state .splines)
   push-grows w (lined true start end angle A) = le-add-right (w .state .splines) 1
   push-grows w (lined false start end angle A) = le-refl (w .state .splines)
-  push-grows w (bent true start end angle c row A B K fit e o) = le-add-right (w .state .splines) 1
-  push-grows w (bent false start end angle c row A B K fit e o) = le-refl (w .state .splines)
+  push-grows w (bent true start end angle c row A B K fit R) = le-add-right (w .state .splines) 1
+  push-grows w (bent false start end angle c row A B K fit R) = le-refl (w .state .splines)
 
   pub run-grows : (ps : List Primitive) (w : World) → w .state .splines ≤ runOf setting caps ps w .state .splines
   unfolding runOf

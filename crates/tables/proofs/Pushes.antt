@@ -15,7 +15,6 @@ use lib.Ieee.Positive.{num, den, positive, first-pos}
 use lib.Ieee.Scale.{finite}
 use mir.Facts.{or-no}
 use borrow.Author.Tests.{leb-false}
-use Rattle.facts.proofs.Tests.{first-false}
 use Rattle.leaves.specs.Single.{_⊕_, _⊗_, one32, two32}
 use Rattle.leaves.specs.Whole.{limit32}
 use Rattle.point.specs.declared.Point.{Point}
@@ -33,13 +32,16 @@ use Rattle.primitives.specs.declared.Capacities.{Capacities}
 use Rattle.primitives.specs.declared.State.{State}
 use Rattle.primitives.specs.declared.Primitive.{Primitive}
 use Rattle.primitives.specs.declared.Primitive.the-variants.{Contour, Line, Quad, Excess}
+use Rattle.primitives.specs.declared.Kind.{Kind}
+use Rattle.primitives.specs.declared.Kind.the-variants.{Straight, Round}
 use Rattle.primitives.specs.declared.QuadRow.{QuadRow}
 use Rattle.primitives.specs.declared.SplineRow.{SplineRow}
 use Rattle.primitives.specs.declared.SplineEdit.{SplineEdit}
 use Rattle.primitives.specs.declared.Edit.the-variants.{Keep, Extend, Bend}
-use Rattle.primitives.specs.Splines.{opensOf, lineAngleOf, sumBefore, splineEditOf}
+use Rattle.primitives.specs.Splines.{splineKindOf, apartOf, opensOf, lineAngleOf, sumBefore, splineEditOf}
 use Rattle.primitives.specs.Plan.{refusedOf, markedOf, planLineOf, quadRowOf, planCurveOf, planLegsOf, planQuadOf, planOf}
-use Rattle.tables.specs.Tables.{lastSplineOf}
+use Rattle.primitives.proofs.Opening.{joins}
+use Rattle.tables.specs.Tables.{quadStartOf, quadEndOf, lastSplineOf}
 use Rattle.tables.specs.Run.{World, world, applyOf, pushOf}
 use Rattle.tables.proofs.RunningSums.{Bent}
 
@@ -110,63 +112,74 @@ isMark (Line p0 p1) = false
 isMark (Quad p0 p1 p2) = false
 isMark Excess = false
 
--- a spline is joined only where no mark waits, and opened only where there is room
-pub record Allowed (caps : Capacities) (w : World) (opens : Bool) : Type 0 where
+-- a spline is joined only where no mark waits, by its own kind as far as the setting asks for it, and opened only where there is room
+pub record Allowed (setting : Setting) (kind : Kind) (caps : Capacities) (w : World) (opens : Bool) : Type 0 where
   pub joins : opens ≡ false → w .state .mark ≡ false
+  pub alike : opens ≡ false → apartOf setting kind (splineKindOf (lastOf w)) ≡ false
   pub room : opens ≡ true → w .state .splines < caps .splines
 
 abbrev pub splineEdit : World → Bool → Point → Point → Float → ℕ → Angle → SplineEdit
 splineEdit w opens start end sum quads angle = splineEditOf opens (w .state) (lastOf w) start end sum quads angle
 
+-- a row is that of a quad from start to end, which brings the sum of this spline to this
+pub record RowOf (row : QuadRow) (start end : Point) (sum : Float) (spline : ℕ) : Type 0 where
+  pub begins : quadStartOf row ≡ start
+  pub ends : quadEndOf row ≡ end
+  pub total : row .«partial_curvature» ≡ sum
+  pub owner : row .spline ≡ spline
+
 -- the second argument says whether the primitive is a Move's
-pub data Pushed (caps : Capacities) (w : World) : Bool → World → Type 0 where
-  kept : (answer : Answer) → Pushed caps w false (world (refusedOf (w .state) answer) (w .quads) (w .splines))
-  marked : (setting : Setting) → Pushed caps w true (world (markedOf setting (w .state)) (w .quads) (w .splines))
-  lined : (opens : Bool) (start end : Point) (angle : Angle) → Allowed caps w opens
-      → Pushed caps w false (applyOf (Extend (splineEdit w opens start end (sumBefore opens (lastOf w)) (w .state .quads) angle)) (w .quads) (w .splines))
-  bent : (opens : Bool) (start end : Point) (angle : Angle) (c : Float) (row : QuadRow) → Allowed caps w opens → Bent c → w .state .quads < caps .quads
-      → T (le (sumBefore opens (lastOf w) ⊕ c) limit32)
-      → row .«partial_curvature» ≡ sumBefore opens (lastOf w) ⊕ c
-      → row .spline ≡ splineEdit w opens start end (sumBefore opens (lastOf w) ⊕ c) (w .state .quads + 1) angle .at
-      → Pushed caps w false
+pub data Pushed (setting : Setting) (caps : Capacities) (w : World) : Bool → World → Type 0 where
+  kept : (answer : Answer) → Pushed setting caps w false (world (refusedOf (w .state) answer) (w .quads) (w .splines))
+  marked : Pushed setting caps w true (world (markedOf setting (w .state)) (w .quads) (w .splines))
+  lined : (opens : Bool) (start end : Point) (angle : Angle) → Allowed setting Straight caps w opens
+      → Pushed setting caps w false
+      (applyOf (Extend (splineEdit w opens start end (sumBefore opens (lastOf w)) (w .state .quads) angle)) (w .quads) (w .splines))
+  bent : (opens : Bool) (start end : Point) (angle : Angle) (c : Float) (row : QuadRow) → Allowed setting Round caps w opens → Bent c
+      → w .state .quads < caps .quads → T (le (sumBefore opens (lastOf w) ⊕ c) limit32)
+      → RowOf row start end (sumBefore opens (lastOf w) ⊕ c)
+      (splineEdit w opens start end (sumBefore opens (lastOf w) ⊕ c) (w .state .quads + 1) angle .at)
+      → Pushed setting caps w false
       (applyOf (Bend (splineEdit w opens start end (sumBefore opens (lastOf w) ⊕ c) (w .state .quads + 1) angle) (w .state .quads) row) (w .quads)
       (w .splines))
 
 -- ---- each push has one of them
 
-unmarked : (setting : Setting) (st : State) (last : SplineRow) (angle : Angle) (start : Point) → opensOf setting st last angle start ≡ false → st .mark ≡ false
-unfolding opensOf
-unmarked setting st last angle start h = first-false (st .mark) _ _ h
-
-allowed : (setting : Setting) (caps : Capacities) (w : World) (angle : Angle) (start : Point) (opens full : Bool)
-    → opensOf setting (w .state) (lastOf w) angle start ≡ opens → leb (caps .splines) (w .state .splines) ≡ full → opens && full ≡ false → Allowed caps w opens
-allowed setting caps w angle start true full e f h = record
-    { joins = λ k. absurd (true≢false k); room = λ k. leb-false (caps .splines) (w .state .splines) (f ∙ h) }
-allowed setting caps w angle start false full e f h = record
-    { joins = λ k. unmarked setting (w .state) (lastOf w) angle start e; room = λ k. absurd (true≢false (sym k)) }
+allowed : (setting : Setting) (kind : Kind) (caps : Capacities) (w : World) (angle : Angle) (start : Point) (opens full : Bool)
+    → opensOf setting kind (w .state) (lastOf w) angle start ≡ opens → leb (caps .splines) (w .state .splines) ≡ full → opens && full ≡ false
+    → Allowed setting kind caps w opens
+allowed setting kind caps w angle start true full e f h =
+    record {
+      joins = λ k. absurd (true≢false k);
+      alike = λ k. absurd (true≢false k);
+      room = λ k. leb-false (caps .splines) (w .state .splines) (f ∙ h);
+    }
+allowed setting kind caps w angle start false full e f h =
+    let j = joins setting kind (w .state) (lastOf w) angle start e in
+    record { joins = λ k. j .0; alike = λ k. j .1; room = λ k. absurd (true≢false (sym k)) }
 
 module _ (setting : Setting) (caps : Capacities) (w : World) where
-  line-pushed : (start end : Point) → Pushed caps w false (applyOf (planLineOf setting caps (w .state) (lastOf w) start end) (w .quads) (w .splines))
+  line-pushed : (start end : Point) → Pushed setting caps w false (applyOf (planLineOf setting caps (w .state) (lastOf w) start end) (w .quads) (w .splines))
   unfolding planLineOf applyOf
-  line-pushed start end = go (opensOf setting (w .state) (lastOf w) angle start) (leb (caps .splines) (w .state .splines)) refl refl
+  line-pushed start end = go (opensOf setting Straight (w .state) (lastOf w) angle start) (leb (caps .splines) (w .state .splines)) refl refl
     where
       angle : Angle
       angle = angleOf (minusOf end start)
 
-      go : (opens full : Bool) → opensOf setting (w .state) (lastOf w) angle start ≡ opens → leb (caps .splines) (w .state .splines) ≡ full
-          → Pushed caps w false
+      go : (opens full : Bool) → opensOf setting Straight (w .state) (lastOf w) angle start ≡ opens → leb (caps .splines) (w .state .splines) ≡ full
+          → Pushed setting caps w false
           (applyOf (cond (opens && full) (Keep (refusedOf (w .state) SplinesFull))
           (Extend (splineEdit w opens start end (sumBefore opens (lastOf w)) (w .state .quads) (lineAngleOf setting (w .state .last) angle)))) (w .quads)
           (w .splines))
       go true true e f = kept SplinesFull
-      go true false e f = lined true start end _ (allowed setting caps w angle start true false e f refl)
-      go false full e f = lined false start end _ (allowed setting caps w angle start false full e f refl)
+      go true false e f = lined true start end _ (allowed setting Straight caps w angle start true false e f refl)
+      go false full e f = lined false start end _ (allowed setting Straight caps w angle start false full e f refl)
 
   curve-pushed : (p0 p1 p2 : WeightedPoint) (a b : Angle)
-      → Pushed caps w false (applyOf (planCurveOf setting caps (w .state) (lastOf w) p0 p1 p2 a b) (w .quads) (w .splines))
-  unfolding planCurveOf applyOf quadRowOf splineEditOf
-  curve-pushed p0 p1 p2 a b = go (opensOf setting (w .state) (lastOf w) a start) (leb (caps .splines) (w .state .splines))
-      (leb (caps .quads) (w .state .quads)) (le (sum (opensOf setting (w .state) (lastOf w) a start)) limit32) refl refl refl refl
+      → Pushed setting caps w false (applyOf (planCurveOf setting caps (w .state) (lastOf w) p0 p1 p2 a b) (w .quads) (w .splines))
+  unfolding planCurveOf applyOf quadRowOf splineEditOf quadStartOf quadEndOf appliedOf
+  curve-pushed p0 p1 p2 a b = go (opensOf setting Round (w .state) (lastOf w) a start) (leb (caps .splines) (w .state .splines))
+      (leb (caps .quads) (w .state .quads)) (le (sum (opensOf setting Round (w .state) (lastOf w) a start)) limit32) refl refl refl refl
     where
       start : Point
       start = appliedOf p0
@@ -183,9 +196,9 @@ module _ (setting : Setting) (caps : Capacities) (w : World) where
       fit : (b : Bool) (x : Float) → le x limit32 ≡ b → b ≡ true → T (le x limit32)
       fit b x e f = subst T (sym (e ∙ f)) tt
 
-      go : (opens full qfull low : Bool) → opensOf setting (w .state) (lastOf w) a start ≡ opens → leb (caps .splines) (w .state .splines) ≡ full
+      go : (opens full qfull low : Bool) → opensOf setting Round (w .state) (lastOf w) a start ≡ opens → leb (caps .splines) (w .state .splines) ≡ full
           → leb (caps .quads) (w .state .quads) ≡ qfull → le (sum opens) limit32 ≡ low
-          → Pushed caps w false
+          → Pushed setting caps w false
           (applyOf
           (cond qfull (Keep (refusedOf (w .state) QuadsFull))
           (cond (opens && full) (Keep (refusedOf (w .state) SplinesFull))
@@ -196,26 +209,26 @@ module _ (setting : Setting) (caps : Capacities) (w : World) where
       go true true false low e f g h = kept SplinesFull
       go true false false false e f g h = kept SumTooLarge
       go true false false true e f g h =
-          bent true start (appliedOf p2) b (curve .curvature) (quadRowOf p0 p1 p2 curve (edit true)) (allowed setting caps w a start true false e f refl)
+          bent true start (appliedOf p2) b (curve .curvature) (quadRowOf p0 p1 p2 curve (edit true)) (allowed setting Round caps w a start true false e f refl)
           (curve-bent start (appliedOf p1) (appliedOf p2)) (leb-false (caps .quads) (w .state .quads) g)
-          (fit true (sum true) h refl) refl refl
+          (fit true (sum true) h refl) (record { begins = refl; ends = refl; total = refl; owner = refl })
       go false full false false e f g h = kept SumTooLarge
       go false full false true e f g h =
-          bent false start (appliedOf p2) b (curve .curvature) (quadRowOf p0 p1 p2 curve (edit false)) (allowed setting caps w a start false full e f refl)
+          bent false start (appliedOf p2) b (curve .curvature) (quadRowOf p0 p1 p2 curve (edit false)) (allowed setting Round caps w a start false full e f refl)
           (curve-bent start (appliedOf p1) (appliedOf p2)) (leb-false (caps .quads) (w .state .quads) g)
-          (fit true (sum false) h refl) refl refl
+          (fit true (sum false) h refl) (record { begins = refl; ends = refl; total = refl; owner = refl })
 
   legs-pushed : (p0 p1 p2 : WeightedPoint) (a b : Angle)
-      → Pushed caps w false (applyOf (planLegsOf setting caps (w .state) (lastOf w) p0 p1 p2 a b) (w .quads) (w .splines))
+      → Pushed setting caps w false (applyOf (planLegsOf setting caps (w .state) (lastOf w) p0 p1 p2 a b) (w .quads) (w .splines))
   unfolding planLegsOf applyOf refusedOf
   legs-pushed p0 p1 p2 Missing Missing = kept (w .state .answer)
   legs-pushed p0 p1 p2 Missing (Known b) = line-pushed (appliedOf p0) (appliedOf p2)
   legs-pushed p0 p1 p2 (Known a) Missing = line-pushed (appliedOf p0) (appliedOf p2)
   legs-pushed p0 p1 p2 (Known a) (Known b) = curve-pushed p0 p1 p2 (Known a) (Known b)
 
-  pub pushed : (p : Primitive) → Pushed caps w (isMark p) (pushOf setting caps p w)
+  pub pushed : (p : Primitive) → Pushed setting caps w (isMark p) (pushOf setting caps p w)
   unfolding pushOf planOf planQuadOf applyOf
-  pushed Contour = marked setting
+  pushed Contour = marked
   pushed (Line p0 p1) = line-pushed (appliedOf p0) (appliedOf p1)
   pushed (Quad p0 p1 p2) = legs-pushed p0 p1 p2 _ _
   pushed Excess = kept TooManyPieces

@@ -25,6 +25,7 @@ use Rattle.leaves.specs.Whole.{limit32}
 use Rattle.answer.specs.Number.{isDone}
 use Rattle.point.specs.declared.Setting.{Setting}
 use Rattle.primitives.specs.declared.Capacities.{Capacities}
+use Rattle.primitives.specs.declared.Kind.{Kind}
 use Rattle.primitives.specs.declared.Primitive.{Primitive}
 use Rattle.primitives.specs.declared.SplineRow.{SplineRow}
 use Rattle.primitives.specs.declared.State.{State}
@@ -40,7 +41,7 @@ use Rattle.tables.specs.Tables.{QuadTable, SplineTable, quadCapacityOf, 
 use Rattle.tables.specs.Tables.{splineAt, noSpline, lastSplineOf}
 use Rattle.tables.specs.Run.{World, world, applyOf, pushOf, runOf, startState}
 use Rattle.tables.proofs.RunningSums.{Bent, Sum, natural, zero-natural, zero-num, positive-natural}
-use Rattle.tables.proofs.Pushes.{lastOf, isMark, Allowed, splineEdit, Pushed, kept, marked, lined, bent, pushed}
+use Rattle.tables.proofs.Pushes.{lastOf, isMark, Allowed, splineEdit, RowOf, Pushed, kept, marked, lined, bent, pushed}
 use Rattle.tables.proofs.Spans.{Span, Agree, LastOf, same-sum, same-owner, span-none, span-agree, span-more, span-total}
 use Rattle.tables.proofs.RowLaws.{row-put, row-stays, capacity-stays}
 
@@ -203,7 +204,7 @@ module _ (caps : Capacities) (w : World) (S : Sound caps w) where
     | inr z ↦ (positive-natural (lastOf w .curvature) (z .sum .real), z .sum .most)
   ]
 
-  sound-lined : (opens : Bool) (start end : Point) (angle : Angle) → Allowed caps w opens
+  sound-lined : {setting : Setting} {kind : Kind} (opens : Bool) (start end : Point) (angle : Angle) → Allowed setting kind caps w opens
       → Sound caps (applyOf (Extend (splineEdit w opens start end (sumBefore opens (lastOf w)) (w .state .quads) angle)) (w .quads) (w .splines))
   unfolding applyOf splineEditOf sumBefore
   sound-lined true start end angle A =
@@ -218,14 +219,14 @@ module _ (caps : Capacities) (w : World) (S : Sound caps w) where
       (lt-of-lt-of-le (pred-lt n N) (S .room .splines)) (S .room .quads) refl refl (sym (pred-suc n N)) refl
       (agree-self (quadRowAt (w .quads)) (w .state .quads)) refl (before-join N)
 
-  sound-bent : (opens : Bool) (start end : Point) (angle : Angle) (c : Float) (row : QuadRow) → Allowed caps w opens → Bent c → w .state .quads < caps .quads
-      → T (le (sumBefore opens (lastOf w) ⊕ c) limit32)
-      → row .«partial_curvature» ≡ sumBefore opens (lastOf w) ⊕ c
-      → row .spline ≡ splineEdit w opens start end (sumBefore opens (lastOf w) ⊕ c) (w .state .quads + 1) angle .at
+  sound-bent : {setting : Setting} {kind : Kind} (opens : Bool) (start end : Point) (angle : Angle) (c : Float) (row : QuadRow)
+      → Allowed setting kind caps w opens → Bent c → w .state .quads < caps .quads → T (le (sumBefore opens (lastOf w) ⊕ c) limit32)
+      → RowOf row start end (sumBefore opens (lastOf w) ⊕ c)
+      (splineEdit w opens start end (sumBefore opens (lastOf w) ⊕ c) (w .state .quads + 1) angle .at)
       → Sound caps (applyOf (Bend (splineEdit w opens start end (sumBefore opens (lastOf w) ⊕ c) (w .state .quads + 1) angle) (w .state .quads) row)
       (w .quads) (w .splines))
   unfolding applyOf splineEditOf sumBefore
-  sound-bent true start end angle c row A B K fit e o =
+  sound-bent true start end angle c row A B K fit R =
       let n = w .state .splines in
       let k = w .state .quads in
       let q = w .quads in
@@ -233,9 +234,9 @@ module _ (caps : Capacities) (w : World) (S : Sound caps w) where
       put (splineEdit w true start end (zero32 ⊕ c) (k + 1) angle) (putQuad q k row) n (suc k) (zero32 ⊕ c) (le-refl n) (A .room refl) K refl refl (add-one n)
       (add-one k)
       (agree-put q k row) (capacity-stays q k row)
-      (span-more (quadRowAt q) (quadRowAt (putQuad q k row)) zero32 c (S .cut n) k n before-open (agree-put q k row) B fit (same-sum stored ∙ e)
-      (same-owner stored ∙ o))
-  sound-bent false start end angle c row A B K fit e o =
+      (span-more (quadRowAt q) (quadRowAt (putQuad q k row)) zero32 c (S .cut n) k n before-open (agree-put q k row) B fit (same-sum stored ∙ R .total)
+      (same-owner stored ∙ R .owner))
+  sound-bent false start end angle c row A B K fit R =
       let n = w .state .splines in
       let k = w .state .quads in
       let q = w .quads in
@@ -245,7 +246,7 @@ module _ (caps : Capacities) (w : World) (S : Sound caps w) where
       (lt-of-lt-of-le (pred-lt n N) (S .room .splines)) K refl refl (sym (pred-suc n N)) (add-one k)
       (agree-put q k row) (capacity-stays q k row)
       (span-more (quadRowAt q) (quadRowAt (putQuad q k row)) (lastOf w .curvature) c (S .cut (n - 1)) k (n - 1) (before-join N) (agree-put q k row) B fit
-      (same-sum stored ∙ e) (same-owner stored ∙ o))
+      (same-sum stored ∙ R .total) (same-owner stored ∙ R .owner))
 
   same-tables : (st : State) → st .splines ≡ w .state .splines → st .quads ≡ w .state .quads → (st .mark ≡ false → w .state .mark ≡ false)
       → Sound caps (world st (w .quads) (w .splines))
@@ -266,12 +267,12 @@ module _ (caps : Capacities) (w : World) (S : Sound caps w) where
         waits = λ h. lt-of-lt-of-le (S .waits (m h)) (le-of-eq (sym e));
       }
 
-  pub sound-push : {b : Bool} {w' : World} → Pushed caps w b w' → Sound caps w'
+  pub sound-push : {setting : Setting} {b : Bool} {w' : World} → Pushed setting caps w b w' → Sound caps w'
   unfolding refusedOf markedOf
   sound-push (kept answer) = same-tables (refusedOf (w .state) answer) refl refl (λ h. h)
-  sound-push (marked setting) = same-tables (markedOf setting (w .state)) refl refl (λ h. absurd (true≢false h))
+  sound-push {setting} marked = same-tables (markedOf setting (w .state)) refl refl (λ h. absurd (true≢false h))
   sound-push (lined opens start end angle A) = sound-lined opens start end angle A
-  sound-push (bent opens start end angle c row A B K fit e o) = sound-bent opens start end angle c row A B K fit e o
+  sound-push (bent opens start end angle c row A B K fit R) = sound-bent opens start end angle c row A B K fit R
 
 -- ---- a run
 pub sound-run : (setting : Setting) (caps : Capacities) (ps : List Primitive) (w : World) → Sound caps w → Sound caps (runOf setting caps ps w)

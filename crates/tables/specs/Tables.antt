@@ -8,7 +8,8 @@ use lib.ListN.{length, getD, set}
 use lib.Seq.{sets}
 use Rattle.columns.specs.Flags.{flagByteOf, isFlagOf}
 use Rattle.leaves.specs.Single.{zero32}
-use Rattle.point.specs.Point.{pointAt}
+use Rattle.point.specs.declared.Point.{Point}
+use Rattle.point.specs.Point.{pointAt, weighted, appliedOf}
 use Rattle.command.specs.Packing.{indexLimit}
 use Rattle.primitives.specs.declared.Three.{Three}
 use Rattle.primitives.specs.declared.QuadRow.{QuadRow}
@@ -98,6 +99,13 @@ quadRowAt q i =
       «partial_curvature» = sumAtOf rows i;
       spline = getD (q .partial-splines) i 0;
     }
+
+-- where a quad begins and where it ends: its first and its third point, each divided by its weight
+unfoldable pub quadStartOf : QuadRow → Point
+quadStartOf row = appliedOf (weighted (pointAt (row .x .a) (row .y .a)) (row .weight .a))
+
+unfoldable pub quadEndOf : QuadRow → Point
+quadEndOf row = appliedOf (weighted (pointAt (row .x .c) (row .y .c)) (row .weight .c))
 
 -- the flag of the spline before k, cleared if the edit clears it
 unfoldable pub clearFlag : Bool → List ℕ → ℕ → List ℕ
