@@ -10,3 +10,6 @@ pub mod Spans
 pub mod Sound
 pub mod Flags
 pub mod Moves
+pub mod Ends
+pub mod Owners
+pub mod Rounds
