@@ -13,3 +13,4 @@ pub mod Moves
 pub mod Ends
 pub mod Owners
 pub mod Rounds
+pub mod Drawn
