@@ -14,3 +14,4 @@ pub mod Ends
 pub mod Owners
 pub mod Rounds
 pub mod Drawn
+pub mod KindLaws

@@ -38,7 +38,7 @@ module _ (setting : Setting) (caps : Capacities) where
           (Runs.run-append setting caps ps qs w ∙ Runs.run-stop setting caps qs (runOf setting caps ps w) e)) ∙ h
 
   -- ---- the number of splines never falls
-  push-grows : (w : World) {setting : Setting} {b : Bool} {w' : World} → Pushed setting caps w b w' → w .state .splines ≤ w' .state .splines
+  pub push-grows : (w : World) {setting : Setting} {b : Bool} {w' : World} → Pushed setting caps w b w' → w .state .splines ≤ w' .state .splines
   unfolding refusedOf markedOf applyOf splineEditOf
   push-grows w (kept answer) = le-refl (w .state .splines)
   push-grows w marked = le-refl (w .state .splines)
