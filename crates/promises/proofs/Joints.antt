@@ -1,18 +1,14 @@
--- Two lines that turn make a joint of two splines: the first ends where the next begins, and has no flag. The rest of the run leaves a joint as it is. Assumes
--- nothing.
+-- Two primitives, drawn one after the other, of which the second opens a spline where the first ends, make a joint of two splines: the first spline ends
+-- where the next begins, and has no flag. The rest of the run leaves a joint as it is. Two lines that turn are such a pair. Assumes nothing.
 use Prim.Native.Nat.{ℕ, suc, _+_, _-_, _≤_, _<_}
-use mathlib.Core.Path.{_≡_, refl, sym, ap, ap₂, _∙_, subst}
-use mathlib.Core.Logic.{_⊎_, inl, inr, _≢_}
-use mathlib.Core.Bool.{Bool, true, false, _&&_, _||_, cond, true≢false}
+use mathlib.Core.Path.{_≡_, refl, sym, ap, _∙_, subst}
+use mathlib.Core.Logic.{_⊎_, inl, inr}
+use mathlib.Core.Bool.{Bool, true, false, cond, true≢false}
 use mathlib.Core.List.{List, [], _∷_, _++_}
-use native.Mathlib.Nat.{le-trans, le-of-eq, lt-of-lt-of-le, lt-of-le-of-lt, lt-irrefl}
+use native.Mathlib.Nat.{le-trans, le-of-eq, lt-of-lt-of-le, lt-irrefl}
 use native.Mathlib.Numerals.{add-one}
 use native.Mathlib.Omega.{arith}
-use lib.Dec.{T, leb}
-use lib.Ieee.{Float, nan}
-use lib.ListN.{length, getD, set}
-use lib.Seq.{getD-set-same, getD-set-other, set-getD}
-use Rattle.answer.specs.declared.Answer.the-variants.{SplinesFull}
+use lib.Dec.{T}
 use Rattle.answer.specs.Number.{isDone}
 use Rattle.point.specs.declared.Point.{Point}
 use Rattle.point.specs.declared.WeightedPoint.{WeightedPoint}
@@ -20,60 +16,29 @@ use Rattle.point.specs.declared.Angle.{Angle}
 use Rattle.point.specs.declared.Angle.the-variants.{Missing, Known}
 use Rattle.point.specs.declared.Setting.{Setting}
 use Rattle.point.specs.declared.Setting.the-variants.{Screen, Knife}
-use Rattle.point.specs.Point.{pointAt, appliedOf, minusOf}
+use Rattle.point.specs.Point.{appliedOf, minusOf}
 use Rattle.point.specs.Angle.{angleOf, changedOf}
 use Rattle.primitives.specs.declared.Capacities.{Capacities}
+use Rattle.primitives.specs.declared.Kind.{Kind}
+use Rattle.primitives.specs.declared.Kind.the-variants.{Straight}
 use Rattle.primitives.specs.declared.Primitive.{Primitive}
 use Rattle.primitives.specs.declared.Primitive.the-variants.{Line}
 use Rattle.primitives.specs.declared.SplineRow.{SplineRow}
 use Rattle.primitives.specs.declared.SplineEdit.{SplineEdit}
-use Rattle.primitives.specs.declared.Edit.the-variants.{Keep, Extend}
-use Rattle.primitives.specs.Splines.{farOf, opensOf, lineAngleOf, sumBefore, splineEditOf}
-use Rattle.primitives.specs.Plan.{refusedOf, markedOf, planLineOf, planOf}
-use Rattle.tables.specs.Tables.{QuadTable, SplineTable, putSpline, splineAt}
+use Rattle.primitives.specs.Splines.{opensOf, lineAngleOf, splineEditOf}
+use Rattle.primitives.specs.Plan.{refusedOf, markedOf}
+use Rattle.primitives.specs.Shapes.{shapeOf}
+use Rattle.primitives.proofs.Opening.{opens-changed}
+use Rattle.tables.specs.Tables.{QuadTable, putSpline, splineAt}
 use Rattle.tables.specs.Run.{World, world, applyOf, pushOf, runOf}
 use Rattle.tables.proofs.Pushes.{lastOf, isMark, splineEdit, Pushed, kept, marked, lined, bent, pushed}
-use Rattle.tables.proofs.Sound.{Sound, sound-push, sound-run, last-is, pred-suc, pred-lt}
+use Rattle.tables.proofs.Sound.{Sound, sound-push, sound-run, last-is, pred-suc}
 use Rattle.tables.proofs.Flags.{flagAt, Closes, Flagged, nextOf, Met, flagged-run}
 use Rattle.tables.proofs.Runs.{run-append}
 use Rattle.tables.proofs.Moves.{run-done, run-grows}
+use Rattle.tables.proofs.Ends.{Wide, start-new, start-same, start-stays, end-stays}
+use Rattle.tables.proofs.Drawn.{Drew, After, drew-straight, after-drawn}
 use Rattle.promises.proofs.Refusals.{next-is}
-
--- ---- the rows after a spline is written
-module _ (s : SplineTable) (edit : SplineEdit) where
-  end-new : edit .at < length (s .p2x) → edit .at < length (s .p2y) → splineAt (putSpline s edit) (edit .at) .p2 ≡ edit .row .p2
-  unfolding putSpline splineAt
-  end-new h k =
-      ap₂ (λ (x y : Float). pointAt x y) (getD-set-same (s .p2x) (edit .at) (edit .row .p2 .x) nan h)
-      (getD-set-same (s .p2y) (edit .at) (edit .row .p2 .y) nan k)
-
-  start-new : edit .at < length (s .p0x) → edit .at < length (s .p0y) → splineAt (putSpline s edit) (edit .at) .p0 ≡ edit .row .p0
-  unfolding putSpline splineAt
-  start-new h k =
-      ap₂ (λ (x y : Float). pointAt x y) (getD-set-same (s .p0x) (edit .at) (edit .row .p0 .x) nan h)
-      (getD-set-same (s .p0y) (edit .at) (edit .row .p0 .y) nan k)
-
-  -- a row that is written with the start that it has
-  start-same : edit .row .p0 ≡ splineAt s (edit .at) .p0 → (j : ℕ) → splineAt (putSpline s edit) j .p0 ≡ splineAt s j .p0
-  unfolding putSpline splineAt
-  start-same e j =
-      ap₂ (λ (x y : Float). pointAt x y)
-      (ap (λ (p : Point). getD (set (s .p0x) (edit .at) (p .x)) j nan) e ∙ ap (λ (l : List Float). getD l j nan) (set-getD (s .p0x) (edit .at) nan))
-      (ap (λ (p : Point). getD (set (s .p0y) (edit .at) (p .y)) j nan) e ∙ ap (λ (l : List Float). getD l j nan) (set-getD (s .p0y) (edit .at) nan))
-
-  -- another row
-  module _ (j : ℕ) (h : j ≢ edit .at) where
-    end-stays : splineAt (putSpline s edit) j .p2 ≡ splineAt s j .p2
-    unfolding putSpline splineAt
-    end-stays =
-        ap₂ (λ (x y : Float). pointAt x y) (getD-set-other (s .p2x) (edit .at) j (edit .row .p2 .x) nan h)
-        (getD-set-other (s .p2y) (edit .at) j (edit .row .p2 .y) nan h)
-
-    start-stays : splineAt (putSpline s edit) j .p0 ≡ splineAt s j .p0
-    unfolding putSpline splineAt
-    start-stays =
-        ap₂ (λ (x y : Float). pointAt x y) (getD-set-other (s .p0x) (edit .at) j (edit .row .p0 .x) nan h)
-        (getD-set-other (s .p0y) (edit .at) j (edit .row .p0 .y) nan h)
 
 -- ---- a joint: spline k ends in p, and the next one begins there
 pub record Joint (k : ℕ) (p : Point) (w : World) : Type 0 where
@@ -120,14 +85,14 @@ module _ (k : ℕ) (p : Point) (w : World) (J : Joint k p w) where
       some : (n : ℕ) → suc k < n → 0 < n
       some n h = omega arith
 
-  joint-push : (caps : Capacities) {b : Bool} {w' : World} → Pushed caps w b w' → Joint k p w'
+  joint-push : (caps : Capacities) {setting : Setting} {b : Bool} {w' : World} → Pushed setting caps w b w' → Joint k p w'
   unfolding refusedOf markedOf applyOf splineEditOf
   joint-push caps (kept answer) = record { stored = J .stored; ends = J .ends; begins = J .begins }
-  joint-push caps (marked _) = record { stored = J .stored; ends = J .ends; begins = J .begins }
+  joint-push caps marked = record { stored = J .stored; ends = J .ends; begins = J .begins }
   joint-push caps (lined true start end angle A) = opened _ _ refl (add-one (w .state .splines))
   joint-push caps (lined false start end angle A) = joined _ _ refl refl refl
-  joint-push caps (bent true start end angle c row A B K fit e o) = opened _ _ refl (add-one (w .state .splines))
-  joint-push caps (bent false start end angle c row A B K fit e o) = joined _ _ refl refl refl
+  joint-push caps (bent true start end angle c row A B K fit R) = opened _ _ refl (add-one (w .state .splines))
+  joint-push caps (bent false start end angle c row A B K fit R) = joined _ _ refl refl refl
 
 pub joint-run : (k : ℕ) (p : Point) (setting : Setting) (caps : Capacities) (ps : List Primitive) (w : World) → Joint k p w
     → Joint k p (runOf setting caps ps w)
@@ -140,123 +105,57 @@ joint-run k p setting caps (x ∷ ps) w J =
     go true = joint-push k p w J caps (pushed setting caps w x)
     go false = J
 
--- ---- a line
--- the columns of the ends take as many splines as the capacity says
-pub record Wide (n : ℕ) (s : SplineTable) : Type 0 where
-  pub p0x : n ≤ length (s .p0x)
-  pub p0y : n ≤ length (s .p0y)
-  pub p2x : n ≤ length (s .p2x)
-  pub p2y : n ≤ length (s .p2y)
+-- ---- a primitive that is drawn from p on and opens a spline
+pub record Opens (setting : Setting) (p : Point) (w w' : World) : Type 0 where
+  pub kind : Kind
+  pub end : Point
+  pub first : Angle
+  pub after : Angle
+  pub drew : Drew setting kind p end first after w w'
+  pub opens : opensOf setting kind (w .state) (lastOf w) first p ≡ true
 
--- a line with this angle has just been pushed, up to p
-record After (angle : Angle) (p : Point) (w : World) : Type 0 where
-  mark : w .state .mark ≡ false
-  last : w .state .last ≡ angle
-  ends : splineAt (w .splines) (w .state .splines - 1) .p2 ≡ p
-
-changed-known : (setting : Setting) (last a b : Angle) → changedOf setting a b ≡ true → lineAngleOf setting last a ≡ a
-unfolding changedOf lineAngleOf
-changed-known setting last Missing b h = absurd (true≢false (sym h))
-changed-known Screen last (Known a) b h = refl
-changed-known Knife last (Known a) b h = refl
-
-module _ (setting : Setting) (caps : Capacities) (a b : WeightedPoint) (w : World) where
-  abbrev angle : Angle
-  angle = angleOf (minusOf (appliedOf b) (appliedOf a))
-
-  abbrev opens : Bool
-  opens = opensOf setting (w .state) (lastOf w) angle (appliedOf a)
-
-  abbrev edit : Bool → SplineEdit
-  edit o = splineEdit w o (appliedOf a) (appliedOf b) (sumBefore o (lastOf w)) (w .state .quads) (lineAngleOf setting (w .state .last) angle)
-
-  abbrev next : World
-  next = pushOf setting caps (Line a b) w
-
-  line-is : isDone (next .state .answer) ≡ true → next ≡ world (edit opens .next) (w .quads) (putSpline (w .splines) (edit opens))
-  unfolding pushOf planOf planLineOf applyOf refusedOf
-  line-is = go (opens && leb (caps .splines) (w .state .splines))
-    where
-      go : (t : Bool)
-          → isDone (applyOf (cond t (Keep (refusedOf (w .state) SplinesFull)) (Extend (edit opens))) (w .quads) (w .splines) .state .answer) ≡ true
-          → applyOf (cond t (Keep (refusedOf (w .state) SplinesFull)) (Extend (edit opens))) (w .quads) (w .splines)
-          ≡ world (edit opens .next) (w .quads) (putSpline (w .splines) (edit opens))
-      go true h = absurd (true≢false (sym h))
-      go false h = refl
-
-  -- the spline that is written is the last one then
-  at-last : (o : Bool) → edit o .at ≡ edit o .next .splines - 1
+module _ {setting : Setting} {caps : Capacities} {p : Point} {w w' : World} {last : Angle} (O : Opens setting p w w') (A : After last p w) (S : Sound caps w)
+    (S' : Sound caps w') (W : Wide (caps .splines) (w .splines)) where
+  pub joint-opened : Joint (w .state .splines - 1) p w'
   unfolding splineEditOf
-  at-last true = top (w .state .splines)
+  joint-opened = subst (Joint (n - 1) p) (sym is) made
     where
-      top : (n : ℕ) → n ≡ n + 1 - 1
-      top n = omega arith
-  at-last false = refl
+      D : Drew setting (O .kind) p (O .end) (O .first) (O .after) w w'
+      D = O .drew
 
-  edit-sets : (o : Bool) → (edit o .next .mark ≡ false) × (edit o .next .last ≡ lineAngleOf setting (w .state .last) angle) × (edit o .row .p2 ≡ appliedOf b)
-  unfolding splineEditOf
-  edit-sets true = (refl, refl, refl)
-  edit-sets false = (refl, refl, refl)
+      n : ℕ
+      n = w .state .splines
 
-  module _ (d : isDone (next .state .answer) ≡ true) (S : Sound caps next) (W : Wide (caps .splines) (w .splines)) where
-    after : After (lineAngleOf setting (w .state .last) angle) (appliedOf b) next
-    after =
-        subst (After (lineAngleOf setting (w .state .last) angle) (appliedOf b)) (sym (line-is d))
-        (record {
-          mark = edit-sets opens .0;
-          last = edit-sets opens .1;
-          ends =
-              subst (λ (i : ℕ). splineAt (putSpline (w .splines) (edit opens)) i .p2 ≡ edit opens .row .p2) (at-last opens)
-              (end-new (w .splines) (edit opens) (lt-of-lt-of-le room (W .p2x)) (lt-of-lt-of-le room (W .p2y)))
-              ∙ edit-sets opens .2;
-        })
-      where
-        room : edit opens .at < caps .splines
-        room =
-            let s : Sound caps (world (edit opens .next) (w .quads) (putSpline (w .splines) (edit opens))) = subst (Sound caps) (line-is d) S in
-            lt-of-le-of-lt (le-of-eq (at-last opens)) (lt-of-lt-of-le (pred-lt (edit opens .next .splines) (s .waits (edit-sets opens .0))) (s .room .splines))
+      edit : Bool → SplineEdit
+      edit o = splineEdit w o p (O .end) (D .sum) (D .quads) (O .after)
 
-    -- it turned from the line before it
-    module _ (before : Angle) (A : After before (appliedOf a) w) (R : Sound caps w) (h : changedOf setting before angle ≡ true) where
-      is-open : opens ≡ true
-      unfolding opensOf
-      is-open =
-          ap₂ (λ (m c : Bool). m || c || farOf (appliedOf a) (lastOf w)) (A .mark) (ap (λ (x : Angle). changedOf setting x angle) (A .last) ∙ h)
+      is : w' ≡ world (edit true .next) (D .table) (putSpline (w .splines) (edit true))
+      is = D .is ∙ ap (λ (o : Bool). world (edit o .next) (D .table) (putSpline (w .splines) (edit o))) (O .opens)
 
-      joint : Joint (w .state .splines - 1) (appliedOf a) next
-      unfolding splineEditOf
-      joint = subst (Joint (w .state .splines - 1) (appliedOf a)) (sym opened-is) made
-        where
-          opened-is : next ≡ world (edit true .next) (w .quads) (putSpline (w .splines) (edit true))
-          opened-is = line-is d ∙ ap (λ (o : Bool). world (edit o .next) (w .quads) (putSpline (w .splines) (edit o))) is-open
+      some : 0 < n
+      some = S .waits (A .mark)
 
-          n : ℕ
-          n = w .state .splines
+      room : n < caps .splines
+      room = le-trans (le-of-eq (sym (add-one n))) (subst (Sound caps) is S' .room .splines)
 
-          some : 0 < n
-          some = R .waits (A .mark)
+      apart : (n : ℕ) → 0 < n → n - 1 ≡ n → ⊥
+      apart n h e = omega arith
 
-          room : n < caps .splines
-          room = le-trans (le-of-eq (sym (add-one n))) (subst (Sound caps) opened-is S .room .splines)
-
-          apart : (n : ℕ) → 0 < n → n - 1 ≡ n → ⊥
-          apart n h e = omega arith
-
-          made : Joint (n - 1) (appliedOf a) (world (edit true .next) (w .quads) (putSpline (w .splines) (edit true)))
-          made =
-              let s = w .splines in
-              record {
-                stored = le-of-eq (ap suc (pred-suc n some) ∙ sym (add-one n));
-                ends = end-stays s (edit true) (n - 1) (apart n some) ∙ A .ends;
-                begins =
-                    subst (λ (i : ℕ). splineAt (putSpline s (edit true)) i .p0 ≡ appliedOf a) (sym (pred-suc n some))
-                    (start-new s (edit true) (lt-of-lt-of-le room (W .p0x)) (lt-of-lt-of-le room (W .p0y)));
-              }
+      made : Joint (n - 1) p (world (edit true .next) (D .table) (putSpline (w .splines) (edit true)))
+      made =
+          let s = w .splines in
+          record {
+            stored = le-of-eq (ap suc (pred-suc n some) ∙ sym (add-one n));
+            ends = end-stays s (edit true) (n - 1) (apart n some) ∙ A .ends;
+            begins =
+                subst (λ (i : ℕ). splineAt (putSpline s (edit true)) i .p0 ≡ p) (sym (pred-suc n some))
+                (start-new s (edit true) (lt-of-lt-of-le room (W .p0x)) (lt-of-lt-of-le room (W .p0y)));
+          }
 
 -- ---- a run
 module _ (setting : Setting) (caps : Capacities) where
   -- a run that is done took its first primitive
-  taken : (p : Primitive) (ps : List Primitive) (w : World) → isDone (runOf setting caps (p ∷ ps) w .state .answer) ≡ true
+  pub taken : (p : Primitive) (ps : List Primitive) (w : World) → isDone (runOf setting caps (p ∷ ps) w .state .answer) ≡ true
       → (isDone (w .state .answer) ≡ true) × (isDone (pushOf setting caps p w .state .answer) ≡ true)
       × (runOf setting caps (p ∷ ps) w ≡ runOf setting caps ps (pushOf setting caps p w))
   unfolding runOf
@@ -296,55 +195,102 @@ module _ (setting : Setting) (caps : Capacities) where
       go true z =
           absurd (none (flagged-run setting caps (p ∷ ps) E w S F .closed k (early k (runOf setting caps (p ∷ ps) w .state .splines) more) z))
 
--- ---- two lines that turn
+-- ---- two primitives that meet in a point
 pub record Turned (p : Point) (w : World) : Type 0 where
   pub spline : ℕ
   pub joint : Joint spline p w
   pub unflagged : flagAt (w .splines) spline ≡ false
 
-module _ (setting : Setting) (caps : Capacities) (w : World) (ps qs : List Primitive) (a b c : WeightedPoint) where
-  abbrev run : List Primitive → World
-  run l = runOf setting caps l w
+-- `first` is drawn up to p, what is between changes nothing, and `second` opens a spline at p wherever Q holds, as it does after `first`
+module _ (setting : Setting) (caps : Capacities) (first second : Primitive) (p : Point) (Q : World → Type 0) where
+  pub record Pair (between : List Primitive) : Type 0 where
+    pub drawn : (v : World) → Sound caps v → Wide (caps .splines) (v .splines) → isDone (pushOf setting caps first v .state .answer) ≡ true
+        → After (pushOf setting caps first v .state .last) p (pushOf setting caps first v) × Q (pushOf setting caps first v)
+    pub nothing : (v : World) → runOf setting caps between v ≡ v
+    pub no-mark : isMark second ≡ false
+    pub opens : (v : World) → Sound caps v → isDone (pushOf setting caps second v .state .answer) ≡ true → Q v
+        → Opens setting p v (pushOf setting caps second v)
 
-  abbrev out : Angle
+  module _ (w : World) (ps between qs : List Primitive) (P : Pair between) where
+    abbrev run : List Primitive → World
+    run l = runOf setting caps l w
+
+    -- from the second on
+    turned-from : (E : ℕ → Type 0) (v : World) → Sound caps v → Flagged E v → Wide (caps .splines) (v .splines) → After (v .state .last) p v → Q v
+        → isDone (runOf setting caps (second ∷ qs) v .state .answer) ≡ true → Turned p (runOf setting caps (second ∷ qs) v)
+    turned-from E v S F W A q d =
+        let N = taken setting caps second qs v d in
+        let v' = pushOf setting caps second v in
+        let k = v .state .splines - 1 in
+        let J = joint-opened (P .opens v S (N .1) q) A S (sound-push caps v S (pushed setting caps v second)) W in
+        record {
+          spline = k;
+          joint = subst (Joint k p) (sym (N .2)) (joint-run k p setting caps qs v' J);
+          unflagged =
+              passed-by setting caps E second qs v k (P .no-mark) S F (A .mark) (pred-suc (v .state .splines) (S .waits (A .mark)))
+              (subst (λ (t : Bool). suc k < cond t v' v .state .splines) (sym (N .0)) (J .stored));
+        }
+
+    pub turned : (E : ℕ → Type 0) → Sound caps w → Flagged E w → ((l : List Primitive) → Wide (caps .splines) (run l .splines))
+        → isDone (run (ps ++ (first ∷ (between ++ (second ∷ qs)))) .state .answer) ≡ true → Turned p (run (ps ++ (first ∷ (between ++ (second ∷ qs)))))
+    unfolding runOf
+    turned E S F W d =
+        let rest = second ∷ qs in
+        let start = ps ++ (first ∷ []) in
+        let v = run ps in
+        let v' = pushOf setting caps first v in
+        let X = run-append setting caps ps (first ∷ (between ++ rest)) w in
+        let N = taken setting caps first (between ++ rest) v (ap (λ (u : World). isDone (u .state .answer)) (sym X) ∙ d) in
+        let skipped : runOf setting caps (between ++ rest) v' ≡ runOf setting caps rest v' =
+        run-append setting caps between rest v' ∙ ap (runOf setting caps rest) (P .nothing v') in
+        let whole = X ∙ N .2 ∙ skipped in
+        let e : run start ≡ v' = run-append setting caps ps (first ∷ []) w ∙ alone v (N .0) in
+        let E' : (ℕ → Type 0) = λ m. E m ⊎ Met setting caps start w m in
+        let A = P .drawn v (sound-run setting caps ps w S) (W ps) (N .1) in
+        subst (Turned p) (sym whole)
+        (turned-from E' v' (subst (Sound caps) e (sound-run setting caps start w S)) (subst (Flagged E') e (flagged-run setting caps start E w S F))
+        (subst (λ (u : World). Wide (caps .splines) (u .splines)) e (W start)) (A .0) (A .1)
+        (ap (λ (u : World). isDone (u .state .answer)) (sym whole) ∙ d))
+      where
+        alone : (v : World) → isDone (v .state .answer) ≡ true → runOf setting caps (first ∷ []) v ≡ pushOf setting caps first v
+        alone v d = next-is setting caps first [] v d
+
+-- the last angle itself
+pub now : {last : Angle} {p : Point} {w : World} → After last p w → After (w .state .last) p w
+now A = record { mark = A .mark; last = refl; ends = A .ends }
+
+-- ---- two lines that turn
+changed-known : (setting : Setting) (last a b : Angle) → changedOf setting a b ≡ true → lineAngleOf setting last a ≡ a
+unfolding changedOf lineAngleOf
+changed-known setting last Missing b h = absurd (true≢false (sym h))
+changed-known Screen last (Known a) b h = refl
+changed-known Knife last (Known a) b h = refl
+
+module _ (setting : Setting) (caps : Capacities) (a b c : WeightedPoint) where
+  abbrev pub out : Angle
   out = angleOf (minusOf (appliedOf b) (appliedOf a))
 
-  -- from the second line on
-  turned-from : (E : ℕ → Type 0) (v : World) → Sound caps v → Flagged E v → Wide (caps .splines) (v .splines) → After out (appliedOf b) v
-      → isDone (runOf setting caps (Line b c ∷ qs) v .state .answer) ≡ true → changedOf setting out (angleOf (minusOf (appliedOf c) (appliedOf b))) ≡ true
-      → Turned (appliedOf b) (runOf setting caps (Line b c ∷ qs) v)
-  turned-from E v S F W A d h =
-      let N = taken setting caps (Line b c) qs v d in
-      let v' = pushOf setting caps (Line b c) v in
-      let k = v .state .splines - 1 in
-      let J = joint setting caps b c v (N .1) (sound-push caps v S (pushed setting caps v (Line b c))) W out A S h in
-      record {
-        spline = k;
-        joint = subst (Joint k (appliedOf b)) (sym (N .2)) (joint-run k (appliedOf b) setting caps qs v' J);
-        unflagged =
-            passed-by setting caps E (Line b c) qs v k refl S F (A .mark) (pred-suc (v .state .splines) (S .waits (A .mark)))
-            (subst (λ (t : Bool). suc k < cond t v' v .state .splines) (sym (N .0)) (J .stored));
-      }
+  abbrev pub on : Angle
+  on = angleOf (minusOf (appliedOf c) (appliedOf b))
 
-  pub two-lines : (E : ℕ → Type 0) → Sound caps w → Flagged E w → ((l : List Primitive) → Wide (caps .splines) (run l .splines))
-      → isDone (run (ps ++ (Line a b ∷ Line b c ∷ qs)) .state .answer) ≡ true
-      → changedOf setting out (angleOf (minusOf (appliedOf c) (appliedOf b))) ≡ true → Turned (appliedOf b) (run (ps ++ (Line a b ∷ Line b c ∷ qs)))
-  unfolding runOf
-  two-lines E S F W d h =
-      let rest = Line b c ∷ qs in
-      let first = ps ++ (Line a b ∷ []) in
-      let v = run ps in
-      let v' = pushOf setting caps (Line a b) v in
-      let X = run-append setting caps ps (Line a b ∷ rest) w in
-      let N = taken setting caps (Line a b) rest v (ap (λ (u : World). isDone (u .state .answer)) (sym X) ∙ d) in
-      let e : run first ≡ v' = run-append setting caps ps (Line a b ∷ []) w ∙ alone v (N .0) in
-      let S' = subst (Sound caps) e (sound-run setting caps first w S) in
-      let E' : (ℕ → Type 0) = λ m. E m ⊎ Met setting caps first w m in
-      let A = subst (λ (x : Angle). After x (appliedOf b) v') (changed-known setting (v .state .last) out (angleOf (minusOf (appliedOf c) (appliedOf b))) h)
-      (after setting caps a b v (N .1) S' (W ps)) in
-      subst (Turned (appliedOf b)) (sym (X ∙ N .2))
-      (turned-from E' v' S' (subst (Flagged E') e (flagged-run setting caps first E w S F))
-      (subst (λ (u : World). Wide (caps .splines) (u .splines)) e (W first)) A (ap (λ (u : World). isDone (u .state .answer)) (sym (X ∙ N .2)) ∙ d) h)
-    where
-      alone : (v : World) → isDone (v .state .answer) ≡ true → runOf setting caps (Line a b ∷ []) v ≡ pushOf setting caps (Line a b) v
-      alone v d = next-is setting caps (Line a b) [] v d
+  pub two-lines : changedOf setting out on ≡ true → Pair setting caps (Line a b) (Line b c) (appliedOf b) (λ (v : World). v .state .last ≡ out) []
+  unfolding runOf shapeOf
+  two-lines h =
+      record {
+        drawn = λ v S W d.
+            let D = drew-straight setting caps v (Line a b) (appliedOf a) (appliedOf b) refl d in
+            let A = after-drawn D (sound-push caps v S (pushed setting caps v (Line a b))) W in
+            (now A, A .last ∙ changed-known setting (v .state .last) out on h);
+        nothing = λ v. refl;
+        no-mark = refl;
+        opens = λ v S d q.
+            record {
+              kind = Straight;
+              end = appliedOf c;
+              first = on;
+              after = lineAngleOf setting (v .state .last) on;
+              drew = drew-straight setting caps v (Line b c) (appliedOf b) (appliedOf c) refl d;
+              opens =
+                  opens-changed setting Straight (v .state) (lastOf v) on (appliedOf b) (ap (λ (x : Angle). changedOf setting x on) q ∙ h);
+            };
+      }

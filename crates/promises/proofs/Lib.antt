@@ -22,7 +22,9 @@ pub mod ListingReading
 pub mod ListingAnswers
 pub mod QuarterRound
 pub mod Joints
+pub mod Ends
 pub mod Corners
+pub mod StraightRound
 pub mod Finite
 pub mod Slits
 pub mod LayoutLaws

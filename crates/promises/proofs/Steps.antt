@@ -21,6 +21,7 @@ use Rattle.tables.specs.Tables.{SplineTable, quadRowAt, splineAt}
 use Rattle.tables.specs.Run.{World}
 use Rattle.tables.proofs.Spans.{sumAt, ownerAt, Span}
 use Rattle.tables.proofs.Sound.{Sound, cut-le}
+use Rattle.tables.proofs.Owners.{Home, home, home-owner}
 use Rattle.walk.specs.Walk.{Item, item, subdivisionsOf, stepSizeOf, startsOf, stepsFrom, cursorFrom, cursorAfter, splineItemsOf, walkOf}
 use Rattle.flatten.specs.Flatten.{Flattening, Output, flattened, flattening, walked}
 use Rattle.promises.specs.Words.{isStep, isEnd, cutAfter}
@@ -67,27 +68,6 @@ module _ (setting : Setting) (caps : Capacities) (w : World) (S : Sound caps w) 
   abbrev pieces : List (List Item)
   pieces = cutAfter (λ (i : Item). isEnd (i .command)) (walkIn setting left)
 
-  -- ---- the spline of a quad
-  record Home (i : ℕ) : Type 0 where
-    spline : ℕ
-    inside : spline < w .state .splines
-    low : S .cut spline ≤ i
-    high : i < S .cut (suc spline)
-
-  home : (i : ℕ) → i < w .state .quads → Home i
-  home i h = go (w .state .splines) (le-refl (w .state .splines)) (lt-of-lt-of-le h (le-of-eq (sym (S .all))))
-    where
-      step : (n : ℕ) → suc n ≤ w .state .splines → i < S .cut (suc n) → Dec (i < S .cut n) → (i < S .cut n → Home i) → Home i
-      step n l g (yes z) f = f z
-      step n l g (no z) f = record { spline = n; inside = l; low = by-contra (S .cut n) i z; high = g }
-
-      go : (n : ℕ) → n ≤ w .state .splines → i < S .cut n → Home i
-      go zero l g = absurd (not-suc-le-zero (lt-of-lt-of-le g (le-of-eq (S .first))))
-      go (suc n) l g = step n l g (decLt i (S .cut n)) (go n (le-trans (le-of-lt (le-refl (suc n))) l))
-
-  home-owner : (i : ℕ) (H : Home i) → ownerAt rows i ≡ H .spline
-  home-owner i H = S .span (H .spline) (H .inside) .owned i (H .low) (H .high)
-
   -- ---- the last quad of spline k
   last-quad : (k : ℕ) (h : k < w .state .splines) (L : Ends caps w S k) → LastQuad left k (L .at)
   last-quad k h L =
@@ -95,9 +75,9 @@ module _ (setting : Setting) (caps : Capacities) (w : World) (S : Sound caps w) 
         stored = le-trans (le-of-eq (L .next)) (cut-le caps w S (suc k) h);
         own = S .span k h .owned (L .at) (L .inside) (le-of-eq (L .next));
         last = λ j l u e.
-            let H = home j u in
+            let H = home caps w S j u in
             lt-irrefl j
-            (lt-of-lt-of-le (subst (λ (x : ℕ). j < S .cut (suc x)) (sym (home-owner j H) ∙ e) (H .high)) (le-trans (le-of-eq (sym (L .next))) l));
+            (lt-of-lt-of-le (subst (λ (x : ℕ). j < S .cut (suc x)) (sym (home-owner caps w S j H) ∙ e) (H .high)) (le-trans (le-of-eq (sym (L .next))) l));
       }
 
   -- a spline without quads has no step
@@ -210,8 +190,8 @@ module _ (setting : Setting) (caps : Capacities) (w : World) (S : Sound caps w) 
     quad-stepped : (quad : ℕ) → quad < w .state .quads → QuadHasStep setting left quad
     quad-stepped quad l = go (ends caps w S k h)
       where
-        H : Home quad
-        H = home quad l
+        H : Home caps w S quad
+        H = home caps w S quad l
 
         k : ℕ
         k = H .spline

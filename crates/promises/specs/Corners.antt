@@ -6,6 +6,7 @@ use mathlib.Core.Bool.{true, false}
 use lib.Dec.{T}
 use lib.ListN.{take, getD}
 use Rattle.leaves.specs.Single.{zero32}
+use Rattle.command.specs.declared.PointCommand.{PointCommand}
 use Rattle.command.specs.declared.PointCommand.the-variants.{End}
 use Rattle.command.specs.Packing.{packOf}
 use Rattle.point.specs.declared.Point.{Point}
@@ -48,17 +49,21 @@ pub record Slit (job : Job) (i : ℕ) : Type 0 where
   pub long : T (knownOf (angleOf (minusOf (cornerOf job i) (beforeOf job i))))
   pub back : afterOf job i ≡ beforeOf job i
 
+-- the command is written, and its point is p
+pub record Written (f : Flattening) (command : PointCommand) (p : Point) : Type 0 where
+  pub place : ℕ
+  pub counted : place < f .result .points
+  pub word : getD (f .output .words) place 0 ≡ packOf command
+  pub x : getD (f .output .x) place zero32 ≡ p .x
+  pub y : getD (f .output .y) place zero32 ≡ p .y
+
 -- one spline ends in p and the next begins there, bit for bit, and the End between them is written as p
 pub record Vertex (f : Flattening) (p : Point) : Type 0 where
   pub spline : ℕ
   pub stored : suc spline < f .result .splines
   pub ends : splineAt (f .splines) spline .p2 ≡ p
   pub begins : splineAt (f .splines) (suc spline) .p0 ≡ p
-  pub place : ℕ
-  pub counted : place < f .result .points
-  pub word : getD (f .output .words) place 0 ≡ packOf (End spline false)
-  pub x : getD (f .output .x) place zero32 ≡ p .x
-  pub y : getD (f .output .y) place zero32 ≡ p .y
+  pub written : Written f (End spline false) p
 
 abbrev pub CornersStay : Type 0
 CornersStay = (job : Job) → Accepted job → (i : ℕ) → Corner job i → Vertex (flatteningOf job) (cornerOf job i)

@@ -6,6 +6,7 @@ pub mod Words
 pub mod Accepted
 pub mod Demand3
 pub mod Corners
+pub mod StraightRound
 pub mod Layouts
 pub mod DrawingAnswers
 pub mod FlattenAnswers
