@@ -3,7 +3,7 @@
 use Prim.Native.Nat.{ℕ, suc, _+_, _-_, _≤_, _<_}
 use mathlib.Core.Path.{_≡_, refl, sym, ap, ap₂, _∙_, subst}
 use mathlib.Core.Logic.{_⊎_, inl, inr, _≢_}
-use mathlib.Core.Bool.{Bool, true, false, _&&_, _||_, cond, true≢false}
+use mathlib.Core.Bool.{Bool, true, false, _&&_, cond, true≢false}
 use mathlib.Core.List.{List, [], _∷_, _++_}
 use native.Mathlib.Nat.{le-trans, le-of-eq, lt-of-lt-of-le, lt-of-le-of-lt, lt-irrefl}
 use native.Mathlib.Numerals.{add-one}
@@ -25,11 +25,13 @@ use Rattle.point.specs.Angle.{angleOf, changedOf}
 use Rattle.primitives.specs.declared.Capacities.{Capacities}
 use Rattle.primitives.specs.declared.Primitive.{Primitive}
 use Rattle.primitives.specs.declared.Primitive.the-variants.{Line}
+use Rattle.primitives.specs.declared.Kind.the-variants.{Straight}
 use Rattle.primitives.specs.declared.SplineRow.{SplineRow}
 use Rattle.primitives.specs.declared.SplineEdit.{SplineEdit}
 use Rattle.primitives.specs.declared.Edit.the-variants.{Keep, Extend}
-use Rattle.primitives.specs.Splines.{farOf, opensOf, lineAngleOf, sumBefore, splineEditOf}
+use Rattle.primitives.specs.Splines.{opensOf, lineAngleOf, sumBefore, splineEditOf}
 use Rattle.primitives.specs.Plan.{refusedOf, markedOf, planLineOf, planOf}
+use Rattle.primitives.proofs.Opening.{opens-changed}
 use Rattle.tables.specs.Tables.{QuadTable, SplineTable, putSpline, splineAt}
 use Rattle.tables.specs.Run.{World, world, applyOf, pushOf, runOf}
 use Rattle.tables.proofs.Pushes.{lastOf, isMark, splineEdit, Pushed, kept, marked, lined, bent, pushed}
@@ -120,14 +122,14 @@ module _ (k : ℕ) (p : Point) (w : World) (J : Joint k p w) where
       some : (n : ℕ) → suc k < n → 0 < n
       some n h = omega arith
 
-  joint-push : (caps : Capacities) {b : Bool} {w' : World} → Pushed caps w b w' → Joint k p w'
+  joint-push : (caps : Capacities) {setting : Setting} {b : Bool} {w' : World} → Pushed setting caps w b w' → Joint k p w'
   unfolding refusedOf markedOf applyOf splineEditOf
   joint-push caps (kept answer) = record { stored = J .stored; ends = J .ends; begins = J .begins }
-  joint-push caps (marked _) = record { stored = J .stored; ends = J .ends; begins = J .begins }
+  joint-push caps marked = record { stored = J .stored; ends = J .ends; begins = J .begins }
   joint-push caps (lined true start end angle A) = opened _ _ refl (add-one (w .state .splines))
   joint-push caps (lined false start end angle A) = joined _ _ refl refl refl
-  joint-push caps (bent true start end angle c row A B K fit e o) = opened _ _ refl (add-one (w .state .splines))
-  joint-push caps (bent false start end angle c row A B K fit e o) = joined _ _ refl refl refl
+  joint-push caps (bent true start end angle c row A B K fit R) = opened _ _ refl (add-one (w .state .splines))
+  joint-push caps (bent false start end angle c row A B K fit R) = joined _ _ refl refl refl
 
 pub joint-run : (k : ℕ) (p : Point) (setting : Setting) (caps : Capacities) (ps : List Primitive) (w : World) → Joint k p w
     → Joint k p (runOf setting caps ps w)
@@ -165,7 +167,7 @@ module _ (setting : Setting) (caps : Capacities) (a b : WeightedPoint) (w : Worl
   angle = angleOf (minusOf (appliedOf b) (appliedOf a))
 
   abbrev opens : Bool
-  opens = opensOf setting (w .state) (lastOf w) angle (appliedOf a)
+  opens = opensOf setting Straight (w .state) (lastOf w) angle (appliedOf a)
 
   abbrev edit : Bool → SplineEdit
   edit o = splineEdit w o (appliedOf a) (appliedOf b) (sumBefore o (lastOf w)) (w .state .quads) (lineAngleOf setting (w .state .last) angle)
@@ -219,9 +221,8 @@ module _ (setting : Setting) (caps : Capacities) (a b : WeightedPoint) (w : Worl
     -- it turned from the line before it
     module _ (before : Angle) (A : After before (appliedOf a) w) (R : Sound caps w) (h : changedOf setting before angle ≡ true) where
       is-open : opens ≡ true
-      unfolding opensOf
       is-open =
-          ap₂ (λ (m c : Bool). m || c || farOf (appliedOf a) (lastOf w)) (A .mark) (ap (λ (x : Angle). changedOf setting x angle) (A .last) ∙ h)
+          opens-changed setting Straight (w .state) (lastOf w) angle (appliedOf a) (ap (λ (x : Angle). changedOf setting x angle) (A .last) ∙ h)
 
       joint : Joint (w .state .splines - 1) (appliedOf a) next
       unfolding splineEditOf
