@@ -24,6 +24,7 @@ use Rattle.primitives.specs.declared.Capacities.{Capacities}
 use Rattle.primitives.specs.declared.State.{State}
 use Rattle.primitives.specs.declared.Primitive.{Primitive}
 use Rattle.primitives.specs.declared.Primitive.the-variants.{Contour, Line, Quad, Excess}
+use Rattle.primitives.specs.declared.Kind.the-variants.{Straight, Round}
 use Rattle.primitives.specs.declared.QuadRow.{QuadRow}
 use Rattle.primitives.specs.declared.SplineRow.{SplineRow}
 use Rattle.primitives.specs.declared.SplineEdit.{SplineEdit}
@@ -58,7 +59,7 @@ module _ (setting : Setting) (caps : Capacities) (st : State) (last : SplineRow)
   line-planned : (start end : Point) → Planned caps st (planLineOf setting caps st last start end)
   unfolding planLineOf refusedOf
   line-planned start end =
-      let opens = opensOf setting st last (angleOf (minusOf end start)) start in
+      let opens = opensOf setting Straight st last (angleOf (minusOf end start)) start in
       tested (opens && leb (caps .splines) (st .splines)) (keeps _ refl) (λ z. extends _ (edit-quads opens start end _ (st .quads) _))
 
   curve-planned : (p0 p1 p2 : WeightedPoint) (a b : Angle) → Planned caps st (planCurveOf setting caps st last p0 p1 p2 a b)
@@ -66,7 +67,7 @@ module _ (setting : Setting) (caps : Capacities) (st : State) (last : SplineRow)
   curve-planned p0 p1 p2 a b =
       let start = appliedOf p0 in
       let end = appliedOf p2 in
-      let opens = opensOf setting st last a start in
+      let opens = opensOf setting Round st last a start in
       let sum = sumBefore opens last ⊕ curveOf start (appliedOf p1) end .curvature in
       tested (leb (caps .quads) (st .quads)) (keeps _ refl)
       (λ room. tested (opens && leb (caps .splines) (st .splines)) (keeps _ refl)

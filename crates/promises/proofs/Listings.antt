@@ -25,7 +25,7 @@ use Rattle.store.specs.Replay.{replayOf}
 use Rattle.primitives.specs.Cubics.{bendOf, cubicErrorOf, cubicPiecesOf, cubicPointOf, controlOf, quadsFrom, cutOf, cubicQuadsOf}
 use Rattle.primitives.specs.Plan.{refusedOf, markedOf, planLineOf, quadRowOf, planCurveOf, planLegsOf, planQuadOf, planOf}
 use Rattle.primitives.specs.Quads.{crossOf, legOf, ownCurvatureOf, straightOf, curveOf}
-use Rattle.primitives.specs.Splines.{farOf, opensOf, lineAngleOf, sumBefore, splineEditOf}
+use Rattle.primitives.specs.Splines.{farOf, splineKindOf, apartOf, opensOf, lineAngleOf, sumBefore, splineEditOf}
 use Rattle.tables.specs.Commands.{cubicFrom, commandPrimitivesOf, primitivesFrom, primitivesOf, tablesOf}
 use Rattle.tables.specs.Run.{applyOf, pushOf, runOf}
 use Rattle.tables.specs.Tables.{quadCapacityOf, splineCapacityOf, capacitiesOf, numbersOf, putQuad, numberAt, quadRowAt, clearFlag, putSpline, splineAt, lastSplineOf}
@@ -48,7 +48,8 @@ unfolding rootIn root rooted bitsOf floatOf fmaOf piecesOf cutTo sixthRootOf neg
     appliedOf minusOf sameOf lenOf packOf unpackOf unclosedOf storedPointOf lastCommandOf putPoint putCommand evenOf usableOf storedOkOf knownOf
     totalUsesOf drawableOf coordinateOkOf weightOkOf every coordinatesOf weightsOf appended closed moved writesOf putPoints putCommands written
     stateAfter roomOf answerOf drawOf freshOf replayOf bendOf cubicErrorOf cubicPiecesOf cubicPointOf controlOf quadsFrom cutOf cubicQuadsOf refusedOf
-    markedOf planLineOf quadRowOf planCurveOf planLegsOf planQuadOf planOf crossOf legOf ownCurvatureOf straightOf curveOf farOf opensOf lineAngleOf
+    markedOf planLineOf quadRowOf planCurveOf planLegsOf planQuadOf planOf crossOf legOf ownCurvatureOf straightOf curveOf farOf
+    splineKindOf apartOf opensOf lineAngleOf
     sumBefore splineEditOf cubicFrom commandPrimitivesOf primitivesFrom primitivesOf tablesOf applyOf pushOf runOf quadCapacityOf splineCapacityOf
     capacitiesOf numbersOf putQuad numberAt quadRowAt clearFlag putSpline splineAt lastSplineOf subdivisionsOf stepSizeOf startsOf cursorAt stepsFrom
     cursorFrom cursorAfter splineItemsOf walkFrom walkOf wordOf wordsOf previousSumOf parameterOf stepPointOf commandPointOf itemPointOf pointsOf over

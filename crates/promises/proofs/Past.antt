@@ -90,23 +90,23 @@ pub record TablesPast (q : QuadTable) (s : SplineTable) (w : World) : Type 0 whe
   pub splines : SplinesPast (w .state .splines) s (w .splines)
 
 module _ (caps : Capacities) (q : QuadTable) (s : SplineTable) where
-  push-past : (w : World) → Sound caps w → TablesPast q s w → {b : Bool} {w' : World} → Pushed caps w b w' → TablesPast q s w'
+  push-past : (w : World) → Sound caps w → TablesPast q s w → {setting : Setting} {b : Bool} {w' : World} → Pushed setting caps w b w' → TablesPast q s w'
   unfolding refusedOf markedOf applyOf splineEditOf
   push-past w S P (kept answer) = record { quads = P .quads; splines = P .splines }
-  push-past w S P (marked _) = record { quads = P .quads; splines = P .splines }
+  push-past w S P marked = record { quads = P .quads; splines = P .splines }
   push-past w S P (lined true start end angle A) =
       let n = w .state .splines in
       record { quads = P .quads; splines = put-spline-past n (n + 1) _ s (w .splines) (le-add-right n 1) (lt-add-one n) (P .splines) }
   push-past w S P (lined false start end angle A) =
       let n = w .state .splines in
       record { quads = P .quads; splines = put-spline-past n n _ s (w .splines) (le-refl n) (pred-lt n (S .waits (A .joins refl))) (P .splines) }
-  push-past w S P (bent true start end angle c row A B K fit e o) =
+  push-past w S P (bent true start end angle c row A B K fit R) =
       let n = w .state .splines in
       record {
         quads = put-past (w .state .quads) row q (w .quads) (P .quads);
         splines = put-spline-past n (n + 1) _ s (w .splines) (le-add-right n 1) (lt-add-one n) (P .splines);
       }
-  push-past w S P (bent false start end angle c row A B K fit e o) =
+  push-past w S P (bent false start end angle c row A B K fit R) =
       let n = w .state .splines in
       record {
         quads = put-past (w .state .quads) row q (w .quads) (P .quads);

@@ -56,15 +56,15 @@ module _ (setting : Setting) (caps : Capacities) where
   refused-answer ps w a R = ap (λ (x : World). x .state .answer) (refused-run ps w a R) ∙ refuses-answer setting caps (runOf setting caps (R .before) w) (R .cause)
 
   -- the refused primitive keeps the counts and the tables
-  push-kept : (w : World) {b : Bool} {w' : World} → Pushed caps w b w' → isDone (w .state .answer) ≡ true → isDone (w' .state .answer) ≡ false
+  push-kept : (w : World) {b : Bool} {w' : World} → Pushed setting caps w b w' → isDone (w .state .answer) ≡ true → isDone (w' .state .answer) ≡ false
       → w' ≡ world (refusedOf (w .state) (w' .state .answer)) (w .quads) (w .splines)
   unfolding refusedOf markedOf applyOf splineEditOf
   push-kept w (kept answer) d h = refl
-  push-kept w (marked _) d h = absurd (true≢false (sym d ∙ h))
+  push-kept w marked d h = absurd (true≢false (sym d ∙ h))
   push-kept w (lined true start end angle A) d h = absurd (true≢false h)
   push-kept w (lined false start end angle A) d h = absurd (true≢false h)
-  push-kept w (bent true start end angle c row A B K fit e o) d h = absurd (true≢false h)
-  push-kept w (bent false start end angle c row A B K fit e o) d h = absurd (true≢false h)
+  push-kept w (bent true start end angle c row A B K fit R) d h = absurd (true≢false h)
+  push-kept w (bent false start end angle c row A B K fit R) d h = absurd (true≢false h)
 
   pub refused-world : (ps : List Primitive) (w : World) (a : Answer) (R : RefusedIn setting caps ps w a)
       → runOf setting caps ps w ≡ world (refusedOf (runOf setting caps (R .before) w .state) a) (runOf setting caps (R .before) w .quads) (runOf setting caps (R .before) w .splines)

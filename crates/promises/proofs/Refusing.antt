@@ -8,7 +8,6 @@ use lib.Ieee.{Float, nan, lt, le, ofBits}
 use lib.Ieee.Bits.{is-true}
 use lib.Ieee.Scale.{finite}
 use borrow.Author.Tests.{le-leb, lt-leb}
-use Rattle.facts.proofs.Tests.{first-false}
 use Rattle.leaves.specs.Single.{_⊕_}
 use Rattle.leaves.specs.Whole.{limit32}
 use Rattle.answer.specs.declared.Answer.{Answer}
@@ -27,11 +26,13 @@ use Rattle.primitives.specs.declared.SplineRow.{SplineRow}
 use Rattle.primitives.specs.declared.SplineEdit.{SplineEdit}
 use Rattle.primitives.specs.declared.Primitive.{Primitive}
 use Rattle.primitives.specs.declared.Primitive.the-variants.{Contour, Line, Quad, Excess}
+use Rattle.primitives.specs.declared.Kind.the-variants as kind
 use Rattle.primitives.specs.declared.Edit.the-variants.{Keep, Extend, Bend}
 use Rattle.primitives.specs.declared.QuadRow.{QuadRow}
 use Rattle.primitives.specs.Quads.{curveOf}
-use Rattle.primitives.specs.Splines.{opensOf, lineAngleOf, sumBefore, splineEditOf}
+use Rattle.primitives.specs.Splines.{lineAngleOf, sumBefore, splineEditOf}
 use Rattle.primitives.specs.Plan.{refusedOf, markedOf, planLineOf, quadRowOf, planCurveOf, planLegsOf, planQuadOf, planOf}
+use Rattle.primitives.proofs.Opening.{joins}
 use Rattle.tables.specs.Run.{World, world, applyOf, pushOf}
 use Rattle.tables.proofs.Pushes.{lastOf, curve-bent}
 use Rattle.tables.proofs.RunningSums.{sum-number}
@@ -44,13 +45,25 @@ module _ (setting : Setting) (caps : Capacities) (w : World) where
   full : Bool
   full = leb (caps .splines) (w .state .splines)
 
+  -- whether a line opens a spline, and whether a curve does whose first leg has this angle
+  abbrev lineOpens : WeightedPoint → WeightedPoint → Bool
+  lineOpens p0 p1 = opensAt setting kind.Straight w (legOf p0 p1) p0
+
+  abbrev curveOpens : WeightedPoint → Angle → Bool
+  curveOpens p0 a = opensAt setting kind.Round w a p0
+
+  -- and whether the sum with the curve is within its limit
+  abbrev sumFits : WeightedPoint → WeightedPoint → WeightedPoint → Angle → Bool
+  sumFits p0 p1 p2 a = le (sumWith setting w p0 p1 p2 a) limit32
+
   -- ---- the tests, in order
   lineAnswer : WeightedPoint → WeightedPoint → Answer
-  lineAnswer p0 p1 = cond (opensAt setting w (legOf p0 p1) p0 && full) SplinesFull Done
+  lineAnswer p0 p1 = cond (lineOpens p0 p1 && full) SplinesFull Done
 
   curveAnswer : WeightedPoint → WeightedPoint → WeightedPoint → Angle → Answer
   curveAnswer p0 p1 p2 a =
-      cond (leb (caps .quads) (w .state .quads)) QuadsFull (cond (opensAt setting w a p0 && full) SplinesFull (cond (not (le (sumWith setting w p0 p1 p2 a) limit32)) SumTooLarge Done))
+      cond (leb (caps .quads) (w .state .quads)) QuadsFull
+      (cond (curveOpens p0 a && full) SplinesFull (cond (not (sumFits p0 p1 p2 a)) SumTooLarge Done))
 
   quadAnswer : WeightedPoint → WeightedPoint → WeightedPoint → Angle → Angle → Answer
   quadAnswer p0 p1 p2 Missing Missing = w .state .answer
@@ -66,7 +79,7 @@ module _ (setting : Setting) (caps : Capacities) (w : World) where
 
   line-is : (p0 p1 : WeightedPoint) → applyOf (planLineOf setting caps (w .state) (lastOf w) (appliedOf p0) (appliedOf p1)) (w .quads) (w .splines) .state .answer ≡ lineAnswer p0 p1
   unfolding planLineOf applyOf splineEditOf refusedOf lineAnswer full
-  line-is p0 p1 = go (opensAt setting w (legOf p0 p1) p0) (leb (caps .splines) (w .state .splines))
+  line-is p0 p1 = go (lineOpens p0 p1) (leb (caps .splines) (w .state .splines))
     where
       go : (o f : Bool)
           → applyOf (cond (o && f) (Keep (refusedOf (w .state) SplinesFull)) (Extend (splineEditOf o (w .state) (lastOf w) (appliedOf p0) (appliedOf p1) (sumBefore o (lastOf w)) (w .state .quads) (lineAngleOf setting (w .state .last) (legOf p0 p1))))) (w .quads) (w .splines) .state .answer
@@ -77,7 +90,9 @@ module _ (setting : Setting) (caps : Capacities) (w : World) where
 
   curve-is : (p0 p1 p2 : WeightedPoint) (a b : Angle) → applyOf (planCurveOf setting caps (w .state) (lastOf w) p0 p1 p2 a b) (w .quads) (w .splines) .state .answer ≡ curveAnswer p0 p1 p2 a
   unfolding planCurveOf applyOf splineEditOf refusedOf curveAnswer full
-  curve-is p0 p1 p2 a b = go (leb (caps .quads) (w .state .quads)) (opensAt setting w a p0) (leb (caps .splines) (w .state .splines)) (le (sumWith setting w p0 p1 p2 a) limit32) (sumWith setting w p0 p1 p2 a) (w .state .quads)
+  curve-is p0 p1 p2 a b =
+      go (leb (caps .quads) (w .state .quads)) (curveOpens p0 a) (leb (caps .splines) (w .state .splines)) (sumFits p0 p1 p2 a) (sumWith setting w p0 p1 p2 a)
+      (w .state .quads)
     where
       edit : Bool → Float → SplineEdit
       edit o sum = splineEditOf o (w .state) (lastOf w) (appliedOf p0) (appliedOf p2) sum (w .state .quads + 1) b
@@ -108,25 +123,32 @@ module _ (setting : Setting) (caps : Capacities) (w : World) where
 
   -- ---- a cause gives its answer
 
-  line-refused : (p0 p1 : WeightedPoint) → T (opensAt setting w (legOf p0 p1) p0) → caps .splines ≤ w .state .splines → lineAnswer p0 p1 ≡ SplinesFull
+  line-refused : (p0 p1 : WeightedPoint) → T (lineOpens p0 p1) → caps .splines ≤ w .state .splines → lineAnswer p0 p1 ≡ SplinesFull
   unfolding lineAnswer full
-  line-refused p0 p1 o f = ap₂ (λ (x y : Bool). cond (x && y) SplinesFull Done) (is-true (opensAt setting w (legOf p0 p1) p0) o) (le-leb (caps .splines) (w .state .splines) f)
+  line-refused p0 p1 o f =
+      ap₂ (λ (x y : Bool). cond (x && y) SplinesFull Done) (is-true (lineOpens p0 p1) o) (le-leb (caps .splines) (w .state .splines) f)
 
   quads-refused : (p0 p1 p2 : WeightedPoint) (a : Angle) → caps .quads ≤ w .state .quads → curveAnswer p0 p1 p2 a ≡ QuadsFull
   unfolding curveAnswer
   quads-refused p0 p1 p2 a h =
-      ap (λ (x : Bool). cond x QuadsFull (cond (opensAt setting w a p0 && full) SplinesFull (cond (not (le (sumWith setting w p0 p1 p2 a) limit32)) SumTooLarge Done))) (le-leb (caps .quads) (w .state .quads) h)
+      ap (λ (x : Bool). cond x QuadsFull (cond (curveOpens p0 a && full) SplinesFull (cond (not (sumFits p0 p1 p2 a)) SumTooLarge Done)))
+      (le-leb (caps .quads) (w .state .quads) h)
 
   -- the two later tests, past the first
-  past-quads : (p0 p1 p2 : WeightedPoint) (a : Angle) → w .state .quads < caps .quads → curveAnswer p0 p1 p2 a ≡ cond (opensAt setting w a p0 && full) SplinesFull (cond (not (le (sumWith setting w p0 p1 p2 a) limit32)) SumTooLarge Done)
+  past-quads : (p0 p1 p2 : WeightedPoint) (a : Angle) → w .state .quads < caps .quads
+      → curveAnswer p0 p1 p2 a ≡ cond (curveOpens p0 a && full) SplinesFull (cond (not (sumFits p0 p1 p2 a)) SumTooLarge Done)
   unfolding curveAnswer
-  past-quads p0 p1 p2 a h = ap (λ (x : Bool). cond x QuadsFull (cond (opensAt setting w a p0 && full) SplinesFull (cond (not (le (sumWith setting w p0 p1 p2 a) limit32)) SumTooLarge Done))) (lt-leb (caps .quads) (w .state .quads) h)
+  past-quads p0 p1 p2 a h =
+      ap (λ (x : Bool). cond x QuadsFull (cond (curveOpens p0 a && full) SplinesFull (cond (not (sumFits p0 p1 p2 a)) SumTooLarge Done)))
+      (lt-leb (caps .quads) (w .state .quads) h)
 
-  splines-refused : (p0 p1 p2 : WeightedPoint) (a : Angle) → w .state .quads < caps .quads → T (opensAt setting w a p0) → caps .splines ≤ w .state .splines → curveAnswer p0 p1 p2 a ≡ SplinesFull
+  splines-refused : (p0 p1 p2 : WeightedPoint) (a : Angle) → w .state .quads < caps .quads → T (curveOpens p0 a) → caps .splines ≤ w .state .splines
+      → curveAnswer p0 p1 p2 a ≡ SplinesFull
   unfolding full
   splines-refused p0 p1 p2 a h o f =
       past-quads p0 p1 p2 a h
-      ∙ ap₂ (λ (x y : Bool). cond (x && y) SplinesFull (cond (not (le (sumWith setting w p0 p1 p2 a) limit32)) SumTooLarge Done)) (is-true (opensAt setting w a p0) o) (le-leb (caps .splines) (w .state .splines) f)
+      ∙ ap₂ (λ (x y : Bool). cond (x && y) SplinesFull (cond (not (sumFits p0 p1 p2 a)) SumTooLarge Done)) (is-true (curveOpens p0 a) o)
+      (le-leb (caps .splines) (w .state .splines) f)
 
   both-not : (o f : Bool) → (T o → f ≡ false) → o && f ≡ false
   both-not true f h = h tt
@@ -136,11 +158,13 @@ module _ (setting : Setting) (caps : Capacities) (w : World) where
   unfolding ofBits
   limit-number = tt
 
-  sum-refused : (p0 p1 p2 : WeightedPoint) (a : Angle) → w .state .quads < caps .quads → (T (opensAt setting w a p0) → w .state .splines < caps .splines) → T (lt limit32 (sumWith setting w p0 p1 p2 a)) → curveAnswer p0 p1 p2 a ≡ SumTooLarge
+  sum-refused : (p0 p1 p2 : WeightedPoint) (a : Angle) → w .state .quads < caps .quads → (T (curveOpens p0 a) → w .state .splines < caps .splines)
+      → T (lt limit32 (sumWith setting w p0 p1 p2 a)) → curveAnswer p0 p1 p2 a ≡ SumTooLarge
   unfolding full
   sum-refused p0 p1 p2 a h o f =
       past-quads p0 p1 p2 a h
-      ∙ ap₂ (λ (x y : Bool). cond x SplinesFull (cond (not y) SumTooLarge Done)) (both-not (opensAt setting w a p0) (leb (caps .splines) (w .state .splines)) (λ t. lt-leb (caps .splines) (w .state .splines) (o t)))
+      ∙ ap₂ (λ (x y : Bool). cond x SplinesFull (cond (not y) SumTooLarge Done))
+      (both-not (curveOpens p0 a) (leb (caps .splines) (w .state .splines)) (λ t. lt-leb (caps .splines) (w .state .splines) (o t)))
       (tells-under (sumWith setting w p0 p1 p2 a) limit32 limit-number .1 (inr f))
 
   curved-answer : (p0 p1 p2 : WeightedPoint) (C : Curved p0 p1 p2) → pushAnswer (Quad p0 p1 p2) ≡ curveAnswer p0 p1 p2 (legOf p0 p1)
@@ -165,9 +189,10 @@ module _ (setting : Setting) (caps : Capacities) (w : World) where
   refuses-answer {p} r = push-answer p ∙ cause-answer r
 
   -- ---- each refusal has its cause
-  line-told : (p0 p1 : WeightedPoint) → (lineAnswer p0 p1 ≡ Done) ⊎ (T (opensAt setting w (legOf p0 p1) p0) × (caps .splines ≤ w .state .splines) × (lineAnswer p0 p1 ≡ SplinesFull))
+  line-told : (p0 p1 : WeightedPoint)
+      → (lineAnswer p0 p1 ≡ Done) ⊎ (T (lineOpens p0 p1) × (caps .splines ≤ w .state .splines) × (lineAnswer p0 p1 ≡ SplinesFull))
   unfolding lineAnswer full
-  line-told p0 p1 = go (opensAt setting w (legOf p0 p1) p0) (leb (caps .splines) (w .state .splines)) (leb→le (caps .splines) (w .state .splines))
+  line-told p0 p1 = go (lineOpens p0 p1) (leb (caps .splines) (w .state .splines)) (leb→le (caps .splines) (w .state .splines))
     where
       go : (o f : Bool) → (T f → caps .splines ≤ w .state .splines) → (cond (o && f) SplinesFull Done ≡ Done) ⊎ (T o × (caps .splines ≤ w .state .splines) × (cond (o && f) SplinesFull Done ≡ SplinesFull))
       go true true h = inr (tt, h tt, refl)
@@ -184,16 +209,20 @@ module _ (setting : Setting) (caps : Capacities) (w : World) where
   curve-told : (p0 p1 p2 : WeightedPoint) → Curved p0 p1 p2 → (sumWith setting w p0 p1 p2 (legOf p0 p1) ≡ nan → ⊥) → Cause p0 p1 p2 (curveAnswer p0 p1 p2 (legOf p0 p1))
   unfolding curveAnswer full Cause
   curve-told p0 p1 p2 C n =
-      go (leb (caps .quads) (w .state .quads)) (opensAt setting w (legOf p0 p1) p0) (leb (caps .splines) (w .state .splines)) (le (sumWith setting w p0 p1 p2 (legOf p0 p1)) limit32)
-      (leb→le (caps .quads) (w .state .quads)) (nleb→lt (caps .quads) (w .state .quads)) (λ t. t) (λ t. t) (leb→le (caps .splines) (w .state .splines)) (nleb→lt (caps .splines) (w .state .splines)) (tells-under (sumWith setting w p0 p1 p2 (legOf p0 p1)) limit32 limit-number .0)
+      go (leb (caps .quads) (w .state .quads)) (curveOpens p0 (legOf p0 p1)) (leb (caps .splines) (w .state .splines)) (sumFits p0 p1 p2 (legOf p0 p1))
+      (leb→le (caps .quads) (w .state .quads)) (nleb→lt (caps .quads) (w .state .quads)) (λ t. t) (λ t. t) (leb→le (caps .splines) (w .state .splines))
+      (nleb→lt (caps .splines) (w .state .splines)) (tells-under (sumWith setting w p0 p1 p2 (legOf p0 p1)) limit32 limit-number .0)
     where
       over : (sumWith setting w p0 p1 p2 (legOf p0 p1) ≡ nan) ⊎ T (lt limit32 (sumWith setting w p0 p1 p2 (legOf p0 p1))) → T (lt limit32 (sumWith setting w p0 p1 p2 (legOf p0 p1)))
       over (inl e) = absurd (n e)
       over (inr t) = t
 
-      go : (q o f l : Bool) → (T q → caps .quads ≤ w .state .quads) → (T (not q) → w .state .quads < caps .quads) → (T o → T (opensAt setting w (legOf p0 p1) p0)) → (T (opensAt setting w (legOf p0 p1) p0) → T o) → (T f → caps .splines ≤ w .state .splines)
-          → (T (not f) → w .state .splines < caps .splines) → (l ≡ false → (sumWith setting w p0 p1 p2 (legOf p0 p1) ≡ nan) ⊎ T (lt limit32 (sumWith setting w p0 p1 p2 (legOf p0 p1))))
-          → (cond q QuadsFull (cond (o && f) SplinesFull (cond (not l) SumTooLarge Done)) ≡ Done) ⊎ Refuses setting caps w (Quad p0 p1 p2) (cond q QuadsFull (cond (o && f) SplinesFull (cond (not l) SumTooLarge Done)))
+      go : (q o f l : Bool) → (T q → caps .quads ≤ w .state .quads) → (T (not q) → w .state .quads < caps .quads)
+          → (T o → T (curveOpens p0 (legOf p0 p1))) → (T (curveOpens p0 (legOf p0 p1)) → T o) → (T f → caps .splines ≤ w .state .splines)
+          → (T (not f) → w .state .splines < caps .splines)
+          → (l ≡ false → (sumWith setting w p0 p1 p2 (legOf p0 p1) ≡ nan) ⊎ T (lt limit32 (sumWith setting w p0 p1 p2 (legOf p0 p1))))
+          → (cond q QuadsFull (cond (o && f) SplinesFull (cond (not l) SumTooLarge Done)) ≡ Done)
+          ⊎ Refuses setting caps w (Quad p0 p1 p2) (cond q QuadsFull (cond (o && f) SplinesFull (cond (not l) SumTooLarge Done)))
       go true o f l a b c k d e h = inr (quads-full p0 p1 p2 C (a tt))
       go false true true l a b c k d e h = inr (curve-full p0 p1 p2 C (b tt) (c tt) (d tt))
       go false true false true a b c k d e h = inl refl
@@ -203,10 +232,10 @@ module _ (setting : Setting) (caps : Capacities) (w : World) where
 
   module _ (S : Sound caps w) (D : w .state .answer ≡ Done) where
     sum-is-number : (p0 p1 p2 : WeightedPoint) (a : Angle) → sumWith setting w p0 p1 p2 a ≡ nan → ⊥
-    unfolding opensOf
     sum-is-number p0 p1 p2 a =
-        let z = sum-before caps w S (opensAt setting w a p0) (λ e. first-false (w .state .mark) _ _ e) in
-        sum-number (sumBefore (opensAt setting w a p0) (lastOf w)) (curveOf (appliedOf p0) (appliedOf p1) (appliedOf p2) .curvature) (z .0) (z .1) (curve-bent (appliedOf p0) (appliedOf p1) (appliedOf p2))
+        let z = sum-before caps w S (curveOpens p0 a) (λ e. joins setting kind.Round (w .state) (lastOf w) a (appliedOf p0) e .0) in
+        sum-number (sumBefore (curveOpens p0 a) (lastOf w)) (curveOf (appliedOf p0) (appliedOf p1) (appliedOf p2) .curvature) (z .0) (z .1)
+        (curve-bent (appliedOf p0) (appliedOf p1) (appliedOf p2))
 
     quad-told : (p0 p1 p2 : WeightedPoint) (a b : Angle) → legOf p0 p1 ≡ a → legOf p1 p2 ≡ b → Cause p0 p1 p2 (quadAnswer p0 p1 p2 a b)
     unfolding quadAnswer Cause

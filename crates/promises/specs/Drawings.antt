@@ -1,12 +1,12 @@
--- Examples in addition to P1 to P12: the splines of a second contour are numbered on, a gap at 0.0625 and to either side of it, a slit, and directions to
--- either side of the negative x axis. Assumes nothing.
+-- Examples in addition to P1 to P12: the splines of a second contour are numbered on, a gap at 0.0625 and to either side of it, a slit, directions to
+-- either side of the negative x axis, and joints between straight and round. Assumes nothing.
 use Prim.Native.Nat.{ℕ}
 use mathlib.Core.List.{List, [], _∷_}
 use lib.Ieee.{Float}
 use Rattle.leaves.specs.Single.{f32, whole32, zero32}
 use Rattle.point.specs.Point.{pointAt, plain}
 use Rattle.store.specs.declared.Call.{Call}
-use Rattle.store.specs.declared.Call.the-variants.{Move, Line, Build}
+use Rattle.store.specs.declared.Call.the-variants.{Move, Line, Quad, Build}
 use Rattle.point.specs.declared.Setting.the-variants.{Screen, Knife}
 use Rattle.primitives.specs.declared.Primitive.{Primitive}
 use Rattle.primitives.specs.declared.Primitive.the-variants.{Line as Straight}
@@ -42,6 +42,29 @@ slit = Line (P 10 0) ∷ Line (P 10 5) ∷ Line (P 5 5) ∷ Line (P 10 5) ∷ Li
 abbrev pub wrap : List Call
 wrap = Line (pointAt (f32 0xc120_0000) (f32 0x3a80_0000)) ∷ Line (pointAt (f32 0xc1a0_0000) zero32) ∷ Build ∷ []
 
+-- 02, Two: "a straight that runs smoothly into a curve"
+abbrev pub straightToCurve : List Call
+straightToCurve = Line (P 4 0) ∷ Quad (P 5 0) (P 5 1) ∷ Build ∷ []
+
+-- "A rounded belt end": straight, two quarter rounds, and straight back
+abbrev pub beltEnd : List Call
+beltEnd = Line (P 10 0) ∷ Quad (P 12 0) (P 12 2) ∷ Quad (P 12 4) (P 10 4) ∷ Line (P 0 4) ∷ Build ∷ []
+
+-- a line, and on along it by a quad whose points lie on it
+abbrev pub straightQuad : List Call
+straightQuad = Line (P 10 0) ∷ Quad (P 15 0) (P 20 0) ∷ Build ∷ []
+
+-- between two lines a quad that is dropped, and one that is treated as a line: it has no first leg
+abbrev pub droppedQuad : List Call
+droppedQuad = Line (P 10 0) ∷ Quad (P 10 0) (P 10 0) ∷ Line (P 20 0) ∷ []
+
+abbrev pub quadAsLine : List Call
+quadAsLine = Line (P 10 0) ∷ Quad (P 10 0) (P 20 0) ∷ Line (P 30 0) ∷ []
+
+-- a quad, and a line without length at its end
+abbrev pub quadThenDot : List Call
+quadThenDot = Quad (P 5 0) (P 10 0) ∷ Line (P 10 0) ∷ Build ∷ []
+
 abbrev pub drawings : List Example
 drawings =
     -- two triangles: a Move does not reset the running number of splines
@@ -61,6 +84,35 @@ drawings =
     -- across ±π the turn is over π, and 2π less it is no change; the way back to the start is
     ∷ example (wordsAfter Knife wrap) (0 ∷ 0x7F800000 ∷ 0xFF800000 ∷ 0xFFC00001 ∷ [])
     ∷ example (pointsAfter Knife wrap) (0x00000000 ∷ 0xC1A00000 ∷ 0x00000000 ∷ 0x00000000 ∷ 0x00000000 ∷ 0x00000000 ∷ [])
+    -- "In the knife setting a line and a quad must never share a spline": (4,0) is a vertex, and on the screen it is not
+    ∷ example (wordsAfter Knife straightToCurve) (0 ∷ 0x7F800000 ∷ 0xFF800000 ∷ 0x3F41E1C5 ∷ 0x3F41E1C5 ∷ 0xFF800001 ∷ 0xFFC00002 ∷ [])
+    ∷ example (pointsAfter Knife straightToCurve)
+    (0x00000000 ∷ 0x40800000 ∷ 0x40920A39 ∷ 0x409C4FC1 ∷ 0x40A00000 ∷ 0x00000000
+    ∷ 0x00000000 ∷ 0x00000000 ∷ 0x3DEC0FC1 ∷ 0x3EDF5C6E ∷ 0x3F800000 ∷ 0x00000000 ∷ [])
+    ∷ example (wordsAfter Screen straightToCurve) (0 ∷ 0x7F800000 ∷ 0x3F41E1C5 ∷ 0x3F41E1C5 ∷ 0xFF800000 ∷ 0xFFC00001 ∷ [])
+    -- so are both ends of the rounding, (10,0) and (10,4); its two quads share a spline
+    ∷ example (wordsAfter Knife beltEnd)
+    (0 ∷ 0x7F800000 ∷ 0xFF800000 ∷ 0x3F6B0537 ∷ 0x3F6B0537 ∷ 0x3F6B0537 ∷ 0x3F6B0537 ∷ 0x3F6B0537 ∷ 0x3F6B0537
+    ∷ 0xFF800001 ∷ 0xFF800002 ∷ 0xFFC00003 ∷ [])
+    ∷ example (pointsAfter Knife beltEnd)
+    (0x00000000 ∷ 0x41200000 ∷ 0x412FFC87 ∷ 0x413A098E ∷ 0x413F4FCE ∷ 0x413F4FCE ∷ 0x413A098E ∷ 0x412FFC87 ∷ 0x41200000 ∷ 0x00000000 ∷ 0x00000000
+    ∷ 0x00000000 ∷ 0x00000000 ∷ 0x3E2F54C6 ∷ 0x3F256103 ∷ 0x3FBA6AF4 ∷ 0x4022CA84 ∷ 0x4056A7BF ∷ 0x40750AB3 ∷ 0x40800000 ∷ 0x40800000 ∷ 0x00000000 ∷ [])
+    ∷ example (wordsAfter Screen beltEnd)
+    (0 ∷ 0x7F800000 ∷ 0x3F6B0537 ∷ 0x3F6B0537 ∷ 0x3F6B0537 ∷ 0x3F6B0537 ∷ 0x3F6B0537 ∷ 0x3F6B0537
+    ∷ 0xFF800000 ∷ 0xFFC00001 ∷ [])
+    -- a straight quad after a line is a quad: it has a spline of its own, with a step
+    ∷ example (wordsAfter Knife straightQuad) (0 ∷ 0x7F800000 ∷ 0xFF800000 ∷ 0x3F800000 ∷ 0xFF800001 ∷ 0xFFC00002 ∷ [])
+    ∷ example (pointsAfter Knife straightQuad)
+    (0x00000000 ∷ 0x41200000 ∷ 0x41700000 ∷ 0x41A00000 ∷ 0x00000000
+    ∷ 0x00000000 ∷ 0x00000000 ∷ 0x00000000 ∷ 0x00000000 ∷ 0x00000000 ∷ [])
+    -- a dropped quad changes nothing, and "a quad that 01 treats as a line counts as a line": the lines to either side share a spline
+    ∷ example (wordsAfter Knife droppedQuad) (0 ∷ 0x7F800000 ∷ 0xFFC00000 ∷ [])
+    ∷ example (wordsAfter Knife quadAsLine) (0 ∷ 0x7F800000 ∷ 0xFFC00000 ∷ [])
+    -- a line without length after a quad opens a spline, and its End repeats (10,0)
+    ∷ example (wordsAfter Knife quadThenDot) (0 ∷ 0x7F800000 ∷ 0x3F800000 ∷ 0xFF800000 ∷ 0xFF800001 ∷ 0xFFC00002 ∷ [])
+    ∷ example (pointsAfter Knife quadThenDot)
+    (0x00000000 ∷ 0x40A00000 ∷ 0x41200000 ∷ 0x41200000 ∷ 0x00000000
+    ∷ 0x00000000 ∷ 0x00000000 ∷ 0x00000000 ∷ 0x00000000 ∷ 0x00000000 ∷ [])
     -- a line that starts exactly 0.0625 from the last end opens a spline, and no Start is written
     ∷ example (wordsAlong (gapTo (f32 0x4121_0000))) (0x7F800000 ∷ 0xFF800000 ∷ 0xFFC00001 ∷ [])
     -- one f32 nearer it joins the spline, one f32 further a Start is written

@@ -95,9 +95,12 @@ abbrev pub promised : List Example
 promised =
     -- P1 "fresh, built: no words."
     example (wordsAfter Screen (Build ∷ [])) (0 ∷ [])
+    ∷ example (wordsAfter Knife (Build ∷ [])) (0 ∷ [])
     -- P2 "(0,0) (10,0) (10,10) (0,10) by lines, built"
     ∷ example (wordsAfter Screen (Line (P 10 0) ∷ Line (P 10 10) ∷ Line (P 0 10) ∷ Build ∷ []))
     (0 ∷ 0x7F800000 ∷ 0xFF800000 ∷ 0xFF800001 ∷ 0xFF800002 ∷ 0xFFC00003 ∷ [])
+    ∷ example (wordsAfter Knife (Line (P 10 0) ∷ Line (P 10 10) ∷ Line (P 0 10) ∷ Build ∷ [])) (0 ∷ 0x7F800000 ∷ 0xFF800000 ∷ 0xFF800001
+    ∷ 0xFF800002 ∷ 0xFFC00003 ∷ [])
     -- P3 "the doubled point, screen"
     ∷ example (wordsAfter Screen doubled) (0 ∷ 0x7F800000 ∷ 0xFF800000 ∷ 0xFFC00001 ∷ [])
     -- P4 "the same, knife"
@@ -118,6 +121,7 @@ promised =
     ∷ example (wordsAfter Knife onward) (0 ∷ 0x7F800000 ∷ 0x3F800000 ∷ 0xFF800000 ∷ 0xFFC00001 ∷ [])
     -- P7 "quad (0,0) (0,0) from the origin: no words."
     ∷ example (wordsAfter Screen (Quad (P 0 0) (P 0 0) ∷ [])) (0 ∷ [])
+    ∷ example (wordsAfter Knife (Quad (P 0 0) (P 0 0) ∷ [])) (0 ∷ [])
     -- P8 "move (1,1), move (2,2): one point."
     ∷ example (storedAfter (Move (P 1 1) ∷ Move (P 2 2) ∷ [])) (1 ∷ 0x40000000 ∷ 0x40000000 ∷ [])
     -- P9 "Start 4,194,303 is 7FBFFFFF; End of it, flagged, FFFFFFFF."

@@ -22,6 +22,8 @@ use Rattle.point.specs.declared.Setting.{Setting}
 use Rattle.primitives.specs.declared.Capacities.{Capacities}
 use Rattle.primitives.specs.declared.Primitive.{Primitive}
 use Rattle.primitives.specs.declared.Primitive.the-variants.{Line, Quad, Excess}
+use Rattle.primitives.specs.declared.Kind.{Kind}
+use Rattle.primitives.specs.declared.Kind.the-variants as kind
 use Rattle.primitives.specs.Cubics.{cubicPiecesOf}
 use Rattle.primitives.specs.Quads.{curveOf}
 use Rattle.primitives.specs.Splines.{opensOf, sumBefore}
@@ -64,14 +66,15 @@ pub data Straight (p0 p1 p2 : WeightedPoint) : Type 0 where
   first-missing : (b : Float) → legOf p0 p1 ≡ Missing → legOf p1 p2 ≡ Known b → Straight p0 p1 p2
   second-missing : (a : Float) → legOf p0 p1 ≡ Known a → legOf p1 p2 ≡ Missing → Straight p0 p1 p2
 
--- RULES, Opening: whether a primitive opens a spline, for one that begins at p0 with this angle
-abbrev pub opensAt : Setting → World → Angle → WeightedPoint → Bool
-opensAt setting w angle p0 = opensOf setting (w .state) (lastSplineOf (w .splines) (w .state .splines)) angle (appliedOf p0)
+-- RULES, Opening: whether a primitive of this kind opens a spline, for one that begins at p0 with this angle
+abbrev pub opensAt : Setting → Kind → World → Angle → WeightedPoint → Bool
+opensAt setting kind w angle p0 = opensOf setting kind (w .state) (lastSplineOf (w .splines) (w .state .splines)) angle (appliedOf p0)
 
 -- the spline's running sum, as rounded, with this quad
 abbrev pub sumWith : Setting → World → WeightedPoint → WeightedPoint → WeightedPoint → Angle → Float
 sumWith setting w p0 p1 p2 angle =
-    sumBefore (opensAt setting w angle p0) (lastSplineOf (w .splines) (w .state .splines)) ⊕ curveOf (appliedOf p0) (appliedOf p1) (appliedOf p2) .curvature
+    sumBefore (opensAt setting kind.Round w angle p0) (lastSplineOf (w .splines) (w .state .splines))
+    ⊕ curveOf (appliedOf p0) (appliedOf p1) (appliedOf p2) .curvature
 
 -- "each primitive tests 5, 6, 7, 8, as far as it would store there": 7 only where a spline is opened, 6 and 8 only for a quad that is curved
 pub data Refuses (setting : Setting) (caps : Capacities) (w : World) : Primitive → Answer → Type 0 where
@@ -80,12 +83,15 @@ pub data Refuses (setting : Setting) (caps : Capacities) (w : World) : Primitive
   -- "the quad table is full"
   quads-full : (p0 p1 p2 : WeightedPoint) → Curved p0 p1 p2 → caps .quads ≤ w .state .quads → Refuses setting caps w (Quad p0 p1 p2) QuadsFull
   -- "the spline table is full, or holds 4,194,304", which its capacity counts in
-  line-full : (p0 p1 : WeightedPoint) → T (opensAt setting w (legOf p0 p1) p0) → caps .splines ≤ w .state .splines → Refuses setting caps w (Line p0 p1) SplinesFull
-  straight-full : (p0 p1 p2 : WeightedPoint) → Straight p0 p1 p2 → T (opensAt setting w (legOf p0 p2) p0) → caps .splines ≤ w .state .splines → Refuses setting caps w (Quad p0 p1 p2) SplinesFull
-  curve-full : (p0 p1 p2 : WeightedPoint) → Curved p0 p1 p2 → w .state .quads < caps .quads → T (opensAt setting w (legOf p0 p1) p0) → caps .splines ≤ w .state .splines
-      → Refuses setting caps w (Quad p0 p1 p2) SplinesFull
+  line-full : (p0 p1 : WeightedPoint) → T (opensAt setting kind.Straight w (legOf p0 p1) p0) → caps .splines ≤ w .state .splines
+      → Refuses setting caps w (Line p0 p1) SplinesFull
+  straight-full : (p0 p1 p2 : WeightedPoint) → Straight p0 p1 p2 → T (opensAt setting kind.Straight w (legOf p0 p2) p0)
+      → caps .splines ≤ w .state .splines → Refuses setting caps w (Quad p0 p1 p2) SplinesFull
+  curve-full : (p0 p1 p2 : WeightedPoint) → Curved p0 p1 p2 → w .state .quads < caps .quads → T (opensAt setting kind.Round w (legOf p0 p1) p0)
+      → caps .splines ≤ w .state .splines → Refuses setting caps w (Quad p0 p1 p2) SplinesFull
   -- "a spline's running sum, as rounded, would pass 65,536"
-  sum-over : (p0 p1 p2 : WeightedPoint) → Curved p0 p1 p2 → w .state .quads < caps .quads → (T (opensAt setting w (legOf p0 p1) p0) → w .state .splines < caps .splines)
+  sum-over : (p0 p1 p2 : WeightedPoint) → Curved p0 p1 p2 → w .state .quads < caps .quads
+      → (T (opensAt setting kind.Round w (legOf p0 p1) p0) → w .state .splines < caps .splines)
       → T (lt limit32 (sumWith setting w p0 p1 p2 (legOf p0 p1))) → Refuses setting caps w (Quad p0 p1 p2) SumTooLarge
 
 -- `Excess` is among the primitives of command k exactly if that is a cubic of over 1,024 pieces; j points are used up before it
