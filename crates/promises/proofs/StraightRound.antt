@@ -1,18 +1,21 @@
 -- 02, Two: in the knife setting every spline is of one kind, a round one begins and ends at its quads, and where straight meets round there is a vertex.
 -- The plan: what a primitive counts as says what it writes (`here`); a spline keeps its kind through the run, so the kind of what goes to it is the kind it ends
 -- with; and one of the other kind opens a spline, which is a joint as a corner is. Assumes nothing.
-use Prim.Native.Nat.{ℕ, suc, _-_, _≤_, _<_}
+use Prim.Native.Nat.{ℕ, suc, _-_, _≤_, _<_, zero-le}
 use mathlib.Core.Path.{_≡_, refl, sym, ap, ap₂, _∙_, subst}
 use mathlib.Core.Logic.{_⊎_, inl, inr, _≢_}
 use mathlib.Core.Bool.{Bool, true, false, cond}
 use mathlib.Core.List.{List, [], _∷_, _++_, List·Memᴰ, List·Memᴰ·head, List·Memᴰ·tail}
 use native.Mathlib.Nat.{le-trans, le-of-eq, le-refl, lt-of-lt-of-le, lt-of-le-of-lt, lt-irrefl}
-use native.Mathlib.Omega.{arith}
+use native.Mathlib.Decide.{decLt}
+use native.Mathlib.Numerals.{add-one}
+use native.Mathlib.Omega.{arith, by-contra}
 use Rattle.answer.specs.Number.{isDone}
 use Rattle.command.specs.declared.PointCommand.the-variants.{Start, End}
 use Rattle.point.specs.declared.Point.{Point}
 use Rattle.point.specs.declared.WeightedPoint.{WeightedPoint}
 use Rattle.point.specs.declared.Angle.{Angle}
+use Rattle.point.specs.declared.Angle.the-variants.{Missing, Known}
 use Rattle.point.specs.declared.Setting.{Setting}
 use Rattle.point.specs.declared.Setting.the-variants.{Knife}
 use Rattle.point.specs.Point.{appliedOf}
@@ -20,14 +23,15 @@ use Rattle.primitives.specs.declared.Capacities.{Capacities}
 use Rattle.primitives.specs.declared.Kind.{Kind}
 use Rattle.primitives.specs.declared.Kind.the-variants as kind
 use Rattle.primitives.specs.declared.Primitive.{Primitive}
-use Rattle.primitives.specs.declared.Primitive.the-variants.{Line, Quad}
-use Rattle.primitives.specs.Splines.{splineKindOf, apartOf, opensOf}
+use Rattle.primitives.specs.declared.Primitive.the-variants.{Contour, Line, Quad, Excess}
+use Rattle.primitives.specs.Splines.{splineKindOf, apartOf, opensOf, splineEditOf}
+use Rattle.primitives.specs.Plan.{refusedOf, markedOf, planOf}
 use Rattle.primitives.specs.Shapes.{legsOf, quadShapeOf, shapeOf}
 use Rattle.primitives.proofs.Opening.{opens-apart}
 use Rattle.tables.specs.Tables.{capacitiesOf, quadRowAt, quadStartOf, quadEndOf, splineAt}
-use Rattle.tables.specs.Run.{World, pushOf, runOf}
+use Rattle.tables.specs.Run.{World, applyOf, pushOf, runOf}
 use Rattle.tables.specs.Commands.{primitivesOf, tablesOf}
-use Rattle.tables.proofs.Pushes.{lastOf, isMark, pushed}
+use Rattle.tables.proofs.Pushes.{lastOf, isMark, Pushed, kept, marked, lined, bent, pushed}
 use Rattle.tables.proofs.Sound.{Sound, sound-push, sound-run, sound-start, last-is, cut-le}
 use Rattle.tables.proofs.Runs.{run-append}
 use Rattle.tables.proofs.Owners.{owned-round, round-quads, not-both}
@@ -40,7 +44,8 @@ use Rattle.promises.specs.Accepted.{Job, flatteningOf, Accepted, stepsOf
 use Rattle.promises.specs.FlattenAnswers.{legOf, Curved, Straight, first-missing, second-missing}
 use Rattle.promises.specs.Demand3.{LastQuad}
 use Rattle.promises.specs.Corners.{Written, Vertex}
-use Rattle.promises.specs.StraightRound.{DrawnAs, line, as-line, quad, Dropped, both-missing, splinesAfter, GoesTo, OneKind, NeverShare, HasQuad}
+use Rattle.promises.specs.StraightRound.{DrawnAs, line, as-line, quad, Dropped, both-missing, splinesAfter, GoesTo, Filled, NoneEmpty}
+use Rattle.promises.specs.StraightRound.{OneKind, NeverShare, HasQuad}
 use Rattle.promises.specs.StraightRound.{KindTold, KindsTold, FirstQuad, RoundEnds, RoundsEnd, Meet, JointsStay}
 use Rattle.promises.proofs.Flattened.{worldOf, finishedOf, Passed, passed}
 use Rattle.promises.proofs.Decoding.{capsOf, job-sound}
@@ -125,12 +130,10 @@ module _ (job : Job) (P : Passed job) (knife : job .setting ≡ Knife) where
       top k n e = omega arith
 
 pub one-kind : OneKind
+unfolding walked
 one-kind job h knife k is G =
     let P = passed job h in
-    subst (λ (f : Flattening). splineKindOf (splineAt (f .splines) k) ≡ is) (sym (P .result)) (of-walked job k is (goes-kind job P knife k is G))
-  where
-    of-walked : (job : Job) (k : ℕ) (is : Kind) → kindAt (worldOf job) k ≡ is → splineKindOf (splineAt (finishedOf job .splines) k) ≡ is
-    of-walked job k is e = e
+    subst (λ (f : Flattening). splineKindOf (splineAt (f .splines) k) ≡ is) (sym (P .result)) (goes-kind job P knife k is G)
 
 pub never-share : NeverShare
 never-share job h knife k a b = not-both (one-kind job h knife k kind.Straight a) (one-kind job h knife k kind.Round b)
@@ -256,3 +259,114 @@ joints-stay job h knife p M =
     let P = passed job h in
     subst (λ (f : Flattening). Vertex f p) (sym (P .result))
     (turned-vertex job p (turned-in job P p _ (M .before) (M .between) (M .after) (pair job P knife p M) (M .split)))
+
+-- ---- something goes to each spline
+record Drawn (p : Primitive) : Type 0 where
+  is : Kind
+  from : Point
+  to : Point
+  drawn : DrawnAs p is from to
+
+quad-drawn : (a b c : WeightedPoint) (x y : Angle) → legOf a b ≡ x → legOf b c ≡ y → Drawn (Quad a b c) ⊎ Dropped (Quad a b c)
+quad-drawn a b c Missing Missing e f = inr (both-missing a b c e f)
+quad-drawn a b c Missing (Known y) e f = inl (record { is = _; from = _; to = _; drawn = as-line a b c (first-missing y e f) })
+quad-drawn a b c (Known x) Missing e f = inl (record { is = _; from = _; to = _; drawn = as-line a b c (second-missing x e f) })
+quad-drawn a b c (Known x) (Known y) e f =
+    inl (record { is = _; from = _; to = _; drawn = quad a b c (record { first = x; second = y; first-leg = e; second-leg = f }) })
+
+more : (n : ℕ) → n ≤ suc n
+more n = omega arith
+
+module _ (setting : Setting) (caps : Capacities) where
+  -- a push opens at most one spline
+  one-more : (w : World) {b : Bool} {w' : World} → Pushed setting caps w b w' → w' .state .splines ≤ suc (w .state .splines)
+  unfolding refusedOf markedOf applyOf splineEditOf
+  one-more w (kept answer) = more (w .state .splines)
+  one-more w marked = more (w .state .splines)
+  one-more w (lined true start end angle A) = le-of-eq (add-one (w .state .splines))
+  one-more w (lined false start end angle A) = more (w .state .splines)
+  one-more w (bent true start end angle c row A B K fit R) = le-of-eq (add-one (w .state .splines))
+  one-more w (bent false start end angle c row A B K fit R) = more (w .state .splines)
+
+  -- only what is drawn opens one
+  opener : (p : Primitive) (w : World) → w .state .splines < pushOf setting caps p w .state .splines → Drawn p
+  unfolding pushOf planOf markedOf refusedOf applyOf
+  opener Contour w h = absurd (lt-irrefl (w .state .splines) h)
+  opener (Line a b) w h = record { is = _; from = _; to = _; drawn = line a b }
+  opener (Quad a b c) w h = elim (quad-drawn a b c (legOf a b) (legOf b c) refl refl) [
+    | inl D ↦ D
+    | inr D ↦ absurd (lt-irrefl (w .state .splines) (lt-of-lt-of-le h (le-of-eq (ap (λ (v : World). v .state .splines) (dropped-push setting caps w _ D)))))
+  ]
+  opener Excess w h = absurd (lt-irrefl (w .state .splines) h)
+
+  record Found (ps : List Primitive) (w : World) (k : ℕ) : Type 0 where
+    before : List Primitive
+    primitive : Primitive
+    after : List Primitive
+    split : ps ≡ before ++ (primitive ∷ after)
+    drawn : Drawn primitive
+    last : runOf setting caps (before ++ (primitive ∷ [])) w .state .splines ≡ suc k
+
+  found : (ps : List Primitive) (w : World) (k : ℕ) → isDone (runOf setting caps ps w .state .answer) ≡ true → w .state .splines ≤ k
+      → k < runOf setting caps ps w .state .splines → Found ps w k
+  unfolding runOf
+  found [] w k d l u = absurd (lt-irrefl k (lt-of-lt-of-le u l))
+  found (p ∷ ps) w k d l u = go (decLt k (v .state .splines)) (λ e f g. found ps v k e f g)
+    where
+      v : World
+      v = pushOf setting caps p w
+
+      N : (isDone (w .state .answer) ≡ true) × (isDone (v .state .answer) ≡ true) × (runOf setting caps (p ∷ ps) w ≡ runOf setting caps ps v)
+      N = taken setting caps p ps w d
+
+      go : Dec (k < v .state .splines)
+          → (isDone (runOf setting caps ps v .state .answer) ≡ true → v .state .splines ≤ k → k < runOf setting caps ps v .state .splines → Found ps v k)
+          → Found (p ∷ ps) w k
+      go (yes z) later =
+          record {
+            before = [];
+            primitive = p;
+            after = ps;
+            split = refl;
+            drawn = opener p w (lt-of-le-of-lt l z);
+            last =
+                ap (λ (x : World). x .state .splines) (next-is setting caps p [] w (N .0))
+                ∙ exact k (w .state .splines) (v .state .splines) l z (one-more w (pushed setting caps w p));
+          }
+        where
+          exact : (k n m : ℕ) → n ≤ k → k < m → m ≤ suc n → m ≡ suc k
+          exact k n m h i j = omega arith
+      go (no z) later =
+          let F =
+          later (ap (λ (x : World). isDone (x .state .answer)) (sym (N .2)) ∙ d) (by-contra (v .state .splines) k z)
+          (lt-of-lt-of-le u (le-of-eq (ap (λ (x : World). x .state .splines) (N .2)))) in
+          record {
+            before = p ∷ F .before;
+            primitive = F .primitive;
+            after = F .after;
+            split = ap (λ (x : List Primitive). p ∷ x) (F .split);
+            drawn = F .drawn;
+            last = ap (λ (x : World). x .state .splines) (next-is setting caps p (F .before ++ (F .primitive ∷ [])) w (N .0)) ∙ F .last;
+          }
+
+pub none-empty : NoneEmpty
+unfolding walked tablesOf splinesAfter
+none-empty job h k l =
+    let P = passed job h in
+    let F =
+    found (job .setting) (capsOf job) (primitivesOf (job .state) (job .columns)) (start job) k (P .done) zero-le
+    (subst (λ (f : Flattening). k < f .result .splines) (P .result) l) in
+    record {
+      is = F .drawn .is;
+      goes =
+          record {
+            before = F .before;
+            primitive = F .primitive;
+            after = F .after;
+            split = F .split;
+            start = F .drawn .from;
+            end = F .drawn .to;
+            drawn = F .drawn .drawn;
+            last = F .last;
+          };
+    }

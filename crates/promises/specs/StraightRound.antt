@@ -56,6 +56,14 @@ pub record GoesTo (job : Job) (k : ℕ) (is : Kind) : Type 0 where
   pub drawn : DrawnAs primitive is start end
   pub last : splinesAfter job (before ++ (primitive ∷ [])) ≡ suc k
 
+pub record Filled (job : Job) (k : ℕ) : Type 0 where
+  pub is : Kind
+  pub goes : GoesTo job k is
+
+-- in either setting something goes to each spline
+abbrev pub NoneEmpty : Type 0
+NoneEmpty = (job : Job) → Accepted job → (k : ℕ) → k < flatteningOf job .result .splines → Filled job k
+
 -- every spline is all lines or all quads, and its sum tells which
 abbrev pub OneKind : Type 0
 OneKind = (job : Job) → Accepted job → job .setting ≡ Knife → (k : ℕ) (is : Kind) → GoesTo job k is → splineKindOf (splineAt (flatteningOf job .splines) k) ≡ is
