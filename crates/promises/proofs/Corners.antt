@@ -10,11 +10,11 @@ use native.Mathlib.Omega.{arith}
 use lib.ListN.{length, take, drop}
 use lib.Seq.{take-take, getD-take, length-take-le, split-at, drop-cons}
 use Rattle.answer.specs.Number.{isDone}
-use Rattle.command.specs.declared.PointCommand.the-variants.{End}
+use Rattle.command.specs.declared.PointCommand.the-variants.{Start, End}
 use Rattle.point.specs.declared.Point.{Point}
 use Rattle.primitives.specs.declared.Primitive.{Primitive}
 use Rattle.primitives.specs.declared.Primitive.the-variants.{Line}
-use Rattle.store.specs.Columns.{lineCommand, storedPointOf}
+use Rattle.store.specs.Columns.{usesOf, storedPointOf}
 use Rattle.store.proofs.Sound as store
 use Rattle.tables.specs.Tables.{capacitiesOf}
 use Rattle.tables.specs.Run.{World, world, startState, runOf}
@@ -26,17 +26,17 @@ use Rattle.tables.proofs.Moves.{primitives-append}
 use Rattle.tables.proofs.Ends.{Wide, table-wide}
 use Rattle.flatten.specs.Flatten.{Flattening, walked}
 use Rattle.promises.specs.Accepted.{Job}
-use Rattle.promises.specs.Corners.{usedBefore, cornerOf, TwoLines, Corner, Written, Vertex, CornersStay}
+use Rattle.promises.specs.Corners.{usedBefore, cornerOf, TwoCommands, TwoLines, Corner, Written, Joint, Vertex, CornersStay}
 use Rattle.promises.proofs.Flattened.{worldOf, finishedOf, Passed, passed}
 use Rattle.promises.proofs.Decoding.{capsOf}
 use Rattle.promises.proofs.Past.{run-past, splines-self}
 use Rattle.promises.proofs.Joints.{Turned, Pair, turned, two-lines}
-use Rattle.promises.proofs.Ends.{end-written}
+use Rattle.promises.proofs.Ends.{start-written, end-written}
 
--- ---- a joint is a vertex
-pub turned-vertex : (job : Job) (p : Point) → Turned p (worldOf job) → Vertex (finishedOf job) p
+-- ---- a joint, in the output
+pub turned-joint : (job : Job) (p q : Point) → Turned p q (worldOf job) → Joint (finishedOf job) p q
 unfolding walked
-turned-vertex job p R =
+turned-joint job p q R =
     let k = R .spline in
     let J = R .joint in
     let w = worldOf job in
@@ -45,9 +45,10 @@ turned-vertex job p R =
       stored = J .stored;
       ends = J .ends;
       begins = J .begins;
-      written =
+      end-written =
           subst (λ (b : Bool). Written (finishedOf job) (End k b) p) (R .unflagged)
           (subst (Written (finishedOf job) (End k (flagAt (w .splines) k))) (J .ends) (end-written job k (before k (w .state .splines) (J .stored))));
+      start-written = λ e. subst (Written (finishedOf job) (Start (suc k))) (J .begins) (start-written job (suc k) (J .stored) e);
     }
   where
     before : (k n : ℕ) → suc k < n → k < n
@@ -72,20 +73,20 @@ module _ (job : Job) where
         p2y = le-trans (W .p2y) (le-of-eq (sym (P .p2y .as-long)));
       }
 
--- ---- two primitives of a drawing that meet in p
-pub turned-in : (job : Job) → Passed job → {first second : Primitive} (p : Point) (Q : World → Type 0) (ps between qs : List Primitive)
-    → Pair (job .setting) (capsOf job) first second p Q between
-    → primitivesOf (job .state) (job .columns) ≡ ps ++ (first ∷ (between ++ (second ∷ qs))) → Turned p (worldOf job)
+-- ---- two primitives of a drawing
+pub turned-in : (job : Job) → Passed job → {first second : Primitive} (p q : Point) (Q : World → Type 0) (ps between qs : List Primitive)
+    → Pair (job .setting) (capsOf job) first second p q Q between
+    → primitivesOf (job .state) (job .columns) ≡ ps ++ (first ∷ (between ++ (second ∷ qs))) → Turned p q (worldOf job)
 unfolding tablesOf
-turned-in job P {first} {second} p Q ps between qs pair e =
+turned-in job P {first} {second} p q Q ps between qs pair e =
     let run : (List Primitive → World) = λ l. runOf (job .setting) (capsOf job) l (start job) in
-    subst (λ (l : List Primitive). Turned p (run l)) (sym e)
-    (turned (job .setting) (capsOf job) first second p Q (start job) ps between qs pair (λ (m : ℕ). ⊥) (sound-start (job .quads) (job .splines))
+    subst (λ (l : List Primitive). Turned p q (run l)) (sym e)
+    (turned (job .setting) (capsOf job) first second p q Q (start job) ps between qs pair (λ (m : ℕ). ⊥) (sound-start (job .quads) (job .splines))
     (flagged-start (job .quads) (job .splines)) (run-wide job) (ap (λ (l : List Primitive). isDone (run l .state .answer)) (sym e) ∙ P .done))
 
 module _ (job : Job) where
-  -- ---- the two lines among the commands
-  module _ (P : Passed job) (i : ℕ) (L : TwoLines job i) where
+  -- ---- two commands, and their primitives
+  module _ (P : Passed job) (i : ℕ) {a b : ℕ} (L : TwoCommands job i a b) where
     abbrev list : List ℕ
     list = job .columns .commands
 
@@ -95,12 +96,12 @@ module _ (job : Job) where
     abbrev pub rest : List ℕ
     rest = drop (suc (suc i)) (take count list)
 
-    pub commands-split : take count list ≡ take i list ++ (lineCommand ∷ lineCommand ∷ rest)
+    pub commands-split : take count list ≡ take i list ++ (a ∷ b ∷ rest)
     commands-split =
         split-at (take count list) i 0 (lt-of-lt-of-le early whole)
         ∙ ap₂ (λ (x : List ℕ) (k : ℕ). x ++ (k ∷ drop (suc i) (take count list))) (take-take i count list (under i count (L .inside)))
         (getD-take count list i 0 early ∙ L .first)
-        ∙ ap (λ (x : List ℕ). take i list ++ (lineCommand ∷ x))
+        ∙ ap (λ (x : List ℕ). take i list ++ (a ∷ x))
         (drop-cons (take count list) (suc i) 0 (lt-of-lt-of-le (L .inside) whole)
         ∙ ap (λ (k : ℕ). k ∷ rest) (getD-take count list (suc i) 0 (L .inside) ∙ L .second))
       where
@@ -119,34 +120,44 @@ module _ (job : Job) where
     abbrev used : ℕ
     used = usedBefore job i
 
-    primitives-split : primitivesOf (job .state) (job .columns)
+    pub primitives-split : primitivesOf (job .state) (job .columns)
         ≡ primitivesFrom (job .columns) (take i list) 0
-        ++ (Line (storedPointOf (job .columns) (used - 1)) (storedPointOf (job .columns) used)
-        ∷ Line (storedPointOf (job .columns) used) (storedPointOf (job .columns) (suc used))
-        ∷ primitivesFrom (job .columns) rest (used + 1 + 1))
-    unfolding primitivesOf primitivesFrom commandPrimitivesOf
+        ++ (commandPrimitivesOf (job .columns) a used
+        ++ (commandPrimitivesOf (job .columns) b (used + usesOf a) ++ primitivesFrom (job .columns) rest (used + usesOf a + usesOf b)))
+    unfolding primitivesOf primitivesFrom
     primitives-split =
         let c = job .columns in
         ap (λ (l : List ℕ). primitivesFrom c l 0) commands-split
-        ∙ primitives-append (job .setting) (capsOf job) c (take i list) (lineCommand ∷ lineCommand ∷ rest) 0
-        ∙ ap (λ (j : ℕ). primitivesFrom c (take i list) 0 ++ primitivesFrom c (lineCommand ∷ lineCommand ∷ rest) j) (zero-add used)
-        ∙ ap₂ (λ (x y : ℕ). primitivesFrom c (take i list) 0
-        ++ (Line (storedPointOf c (used - 1)) (storedPointOf c used) ∷ Line (storedPointOf c x) (storedPointOf c y) ∷ primitivesFrom c rest (used + 1 + 1)))
-        (back used) (add-one used)
-      where
-        back : (n : ℕ) → n + 1 - 1 ≡ n
-        back n = omega arith
+        ∙ primitives-append (job .setting) (capsOf job) c (take i list) (a ∷ b ∷ rest) 0
+        ∙ ap (λ (j : ℕ). primitivesFrom c (take i list) 0 ++ primitivesFrom c (a ∷ b ∷ rest) j) (zero-add used)
 
-corner-turned : (job : Job) (P : Passed job) (i : ℕ) → Corner job i → Turned (cornerOf job i) (worldOf job)
+  lines-split : (P : Passed job) (i : ℕ) (L : TwoLines job i) → let n = usedBefore job i in primitivesOf (job .state) (job .columns)
+      ≡ primitivesFrom (job .columns) (take i (job .columns .commands)) 0
+      ++ (Line (storedPointOf (job .columns) (n - 1)) (storedPointOf (job .columns) n)
+      ∷ Line (storedPointOf (job .columns) n) (storedPointOf (job .columns) (suc n))
+      ∷ primitivesFrom (job .columns) (rest P i L) (n + 1 + 1))
+  unfolding commandPrimitivesOf
+  lines-split P i L =
+      let c = job .columns in
+      let n = usedBefore job i in
+      primitives-split P i L
+      ∙ ap₂ (λ (x y : ℕ). primitivesFrom c (take i (c .commands)) 0
+      ++ (Line (storedPointOf c (n - 1)) (storedPointOf c n) ∷ Line (storedPointOf c x) (storedPointOf c y) ∷ primitivesFrom c (rest P i L) (n + 1 + 1)))
+      (back n) (add-one n)
+    where
+      back : (n : ℕ) → n + 1 - 1 ≡ n
+      back n = omega arith
+
+corner-turned : (job : Job) (P : Passed job) (i : ℕ) → Corner job i → Turned (cornerOf job i) (cornerOf job i) (worldOf job)
 corner-turned job P i C =
     let c = job .columns in
     let n = usedBefore job i in
-    turned-in job P (cornerOf job i) (λ (v : World). v .state .last ≡ _) (primitivesFrom c (take i (c .commands)) 0) []
+    turned-in job P (cornerOf job i) (cornerOf job i) (λ (v : World). v .state .last ≡ _) (primitivesFrom c (take i (c .commands)) 0) []
     (primitivesFrom c (rest job P i (C .lines)) (n + 1 + 1))
     (two-lines (job .setting) (capsOf job) (storedPointOf c (n - 1)) (storedPointOf c n) (storedPointOf c (suc n)) (C .turns))
-    (primitives-split job P i (C .lines))
+    (lines-split job P i (C .lines))
 
 pub corners-stay : CornersStay
 corners-stay job h i C =
     let P = passed job h in
-    subst (λ (f : Flattening). Vertex f (cornerOf job i)) (sym (P .result)) (turned-vertex job (cornerOf job i) (corner-turned job P i C))
+    subst (λ (f : Flattening). Vertex f (cornerOf job i)) (sym (P .result)) (turned-joint job (cornerOf job i) (cornerOf job i) (corner-turned job P i C))

@@ -1,5 +1,5 @@
--- Two primitives, drawn one after the other, of which the second opens a spline where the first ends, make a joint of two splines: the first spline ends
--- where the next begins, and has no flag. The rest of the run leaves a joint as it is. Two lines that turn are such a pair. Assumes nothing.
+-- Two primitives, drawn one after the other, of which the second opens a spline, make a joint of two splines: one ends where the first primitive does, and has no
+-- flag, and the next begins where the second does. The rest of the run leaves a joint as it is. Two lines that turn are such a pair. Assumes nothing.
 use Prim.Native.Nat.{ℕ, suc, _+_, _-_, _≤_, _<_}
 use mathlib.Core.Path.{_≡_, refl, sym, ap, _∙_, subst}
 use mathlib.Core.Logic.{_⊎_, inl, inr}
@@ -40,16 +40,16 @@ use Rattle.tables.proofs.Ends.{Wide, start-new, start-same, start-stays, end-st
 use Rattle.tables.proofs.Drawn.{Drew, After, drew-straight, after-drawn}
 use Rattle.promises.proofs.Refusals.{next-is}
 
--- ---- a joint: spline k ends in p, and the next one begins there
-pub record Joint (k : ℕ) (p : Point) (w : World) : Type 0 where
+-- ---- a joint: spline k ends in p, and the next one begins in q
+pub record Joint (k : ℕ) (p q : Point) (w : World) : Type 0 where
   pub stored : suc k < w .state .splines
   pub ends : splineAt (w .splines) k .p2 ≡ p
-  pub begins : splineAt (w .splines) (suc k) .p0 ≡ p
+  pub begins : splineAt (w .splines) (suc k) .p0 ≡ q
 
-module _ (k : ℕ) (p : Point) (w : World) (J : Joint k p w) where
-  opened : (edit : SplineEdit) (q : QuadTable) → edit .at ≡ w .state .splines → edit .next .splines ≡ suc (w .state .splines)
-      → Joint k p (world (edit .next) q (putSpline (w .splines) edit))
-  opened edit q at next =
+module _ (k : ℕ) (p q : Point) (w : World) (J : Joint k p q w) where
+  opened : (edit : SplineEdit) (table : QuadTable) → edit .at ≡ w .state .splines → edit .next .splines ≡ suc (w .state .splines)
+      → Joint k p q (world (edit .next) table (putSpline (w .splines) edit))
+  opened edit table at next =
       let s = w .splines in
       record {
         stored = grown (w .state .splines) (edit .next .splines) (J .stored) next;
@@ -66,9 +66,9 @@ module _ (k : ℕ) (p : Point) (w : World) (J : Joint k p w) where
       beside : (n at : ℕ) → suc k < n → at ≡ n → suc k ≡ at → ⊥
       beside n at h e f = omega arith
 
-  joined : (edit : SplineEdit) (q : QuadTable) → edit .at ≡ w .state .splines - 1 → edit .next .splines ≡ w .state .splines
-      → edit .row .p0 ≡ lastOf w .p0 → Joint k p (world (edit .next) q (putSpline (w .splines) edit))
-  joined edit q at next row =
+  joined : (edit : SplineEdit) (table : QuadTable) → edit .at ≡ w .state .splines - 1 → edit .next .splines ≡ w .state .splines
+      → edit .row .p0 ≡ lastOf w .p0 → Joint k p q (world (edit .next) table (putSpline (w .splines) edit))
+  joined edit table at next row =
       let s = w .splines in
       record {
         stored = lt-of-lt-of-le (J .stored) (le-of-eq (sym next));
@@ -85,7 +85,7 @@ module _ (k : ℕ) (p : Point) (w : World) (J : Joint k p w) where
       some : (n : ℕ) → suc k < n → 0 < n
       some n h = omega arith
 
-  joint-push : (caps : Capacities) {setting : Setting} {b : Bool} {w' : World} → Pushed setting caps w b w' → Joint k p w'
+  joint-push : (caps : Capacities) {setting : Setting} {b : Bool} {w' : World} → Pushed setting caps w b w' → Joint k p q w'
   unfolding refusedOf markedOf applyOf splineEditOf
   joint-push caps (kept answer) = record { stored = J .stored; ends = J .ends; begins = J .begins }
   joint-push caps marked = record { stored = J .stored; ends = J .ends; begins = J .begins }
@@ -94,40 +94,40 @@ module _ (k : ℕ) (p : Point) (w : World) (J : Joint k p w) where
   joint-push caps (bent true start end angle c row A B K fit R) = opened _ _ refl (add-one (w .state .splines))
   joint-push caps (bent false start end angle c row A B K fit R) = joined _ _ refl refl refl
 
-pub joint-run : (k : ℕ) (p : Point) (setting : Setting) (caps : Capacities) (ps : List Primitive) (w : World) → Joint k p w
-    → Joint k p (runOf setting caps ps w)
+pub joint-run : (k : ℕ) (p q : Point) (setting : Setting) (caps : Capacities) (ps : List Primitive) (w : World) → Joint k p q w
+    → Joint k p q (runOf setting caps ps w)
 unfolding runOf
-joint-run k p setting caps [] w J = J
-joint-run k p setting caps (x ∷ ps) w J =
-    joint-run k p setting caps ps (cond (isDone (w .state .answer)) (pushOf setting caps x w) w) (go (isDone (w .state .answer)))
+joint-run k p q setting caps [] w J = J
+joint-run k p q setting caps (x ∷ ps) w J =
+    joint-run k p q setting caps ps (cond (isDone (w .state .answer)) (pushOf setting caps x w) w) (go (isDone (w .state .answer)))
   where
-    go : (b : Bool) → Joint k p (cond b (pushOf setting caps x w) w)
-    go true = joint-push k p w J caps (pushed setting caps w x)
+    go : (b : Bool) → Joint k p q (cond b (pushOf setting caps x w) w)
+    go true = joint-push k p q w J caps (pushed setting caps w x)
     go false = J
 
--- ---- a primitive that is drawn from p on and opens a spline
-pub record Opens (setting : Setting) (p : Point) (w w' : World) : Type 0 where
+-- ---- a primitive that is drawn from q on and opens a spline
+pub record Opens (setting : Setting) (q : Point) (w w' : World) : Type 0 where
   pub kind : Kind
   pub end : Point
   pub first : Angle
   pub after : Angle
-  pub drew : Drew setting kind p end first after w w'
-  pub opens : opensOf setting kind (w .state) (lastOf w) first p ≡ true
+  pub drew : Drew setting kind q end first after w w'
+  pub opens : opensOf setting kind (w .state) (lastOf w) first q ≡ true
 
-module _ {setting : Setting} {caps : Capacities} {p : Point} {w w' : World} {last : Angle} (O : Opens setting p w w') (A : After last p w) (S : Sound caps w)
+module _ {setting : Setting} {caps : Capacities} {p q : Point} {w w' : World} {last : Angle} (O : Opens setting q w w') (A : After last p w) (S : Sound caps w)
     (S' : Sound caps w') (W : Wide (caps .splines) (w .splines)) where
-  pub joint-opened : Joint (w .state .splines - 1) p w'
+  pub joint-opened : Joint (w .state .splines - 1) p q w'
   unfolding splineEditOf
-  joint-opened = subst (Joint (n - 1) p) (sym is) made
+  joint-opened = subst (Joint (n - 1) p q) (sym is) made
     where
-      D : Drew setting (O .kind) p (O .end) (O .first) (O .after) w w'
+      D : Drew setting (O .kind) q (O .end) (O .first) (O .after) w w'
       D = O .drew
 
       n : ℕ
       n = w .state .splines
 
       edit : Bool → SplineEdit
-      edit o = splineEdit w o p (O .end) (D .sum) (D .quads) (O .after)
+      edit o = splineEdit w o q (O .end) (D .sum) (D .quads) (O .after)
 
       is : w' ≡ world (edit true .next) (D .table) (putSpline (w .splines) (edit true))
       is = D .is ∙ ap (λ (o : Bool). world (edit o .next) (D .table) (putSpline (w .splines) (edit o))) (O .opens)
@@ -141,14 +141,14 @@ module _ {setting : Setting} {caps : Capacities} {p : Point} {w w' : World} {las
       apart : (n : ℕ) → 0 < n → n - 1 ≡ n → ⊥
       apart n h e = omega arith
 
-      made : Joint (n - 1) p (world (edit true .next) (D .table) (putSpline (w .splines) (edit true)))
+      made : Joint (n - 1) p q (world (edit true .next) (D .table) (putSpline (w .splines) (edit true)))
       made =
           let s = w .splines in
           record {
             stored = le-of-eq (ap suc (pred-suc n some) ∙ sym (add-one n));
             ends = end-stays s (edit true) (n - 1) (apart n some) ∙ A .ends;
             begins =
-                subst (λ (i : ℕ). splineAt (putSpline s (edit true)) i .p0 ≡ p) (sym (pred-suc n some))
+                subst (λ (i : ℕ). splineAt (putSpline s (edit true)) i .p0 ≡ q) (sym (pred-suc n some))
                 (start-new s (edit true) (lt-of-lt-of-le room (W .p0x)) (lt-of-lt-of-le room (W .p0y)));
           }
 
@@ -195,21 +195,21 @@ module _ (setting : Setting) (caps : Capacities) where
       go true z =
           absurd (none (flagged-run setting caps (p ∷ ps) E w S F .closed k (early k (runOf setting caps (p ∷ ps) w .state .splines) more) z))
 
--- ---- two primitives that meet in a point
-pub record Turned (p : Point) (w : World) : Type 0 where
+-- ---- two primitives, the first up to p and the second from q on
+pub record Turned (p q : Point) (w : World) : Type 0 where
   pub spline : ℕ
-  pub joint : Joint spline p w
+  pub joint : Joint spline p q w
   pub unflagged : flagAt (w .splines) spline ≡ false
 
--- `first` is drawn up to p, what is between changes nothing, and `second` opens a spline at p wherever Q holds, as it does after `first`
-module _ (setting : Setting) (caps : Capacities) (first second : Primitive) (p : Point) (Q : World → Type 0) where
+-- `first` is drawn up to p, what is between changes nothing, and `second` opens a spline at q wherever Q holds, as it does after `first`
+module _ (setting : Setting) (caps : Capacities) (first second : Primitive) (p q : Point) (Q : World → Type 0) where
   pub record Pair (between : List Primitive) : Type 0 where
     pub drawn : (v : World) → Sound caps v → Wide (caps .splines) (v .splines) → isDone (pushOf setting caps first v .state .answer) ≡ true
         → After (pushOf setting caps first v .state .last) p (pushOf setting caps first v) × Q (pushOf setting caps first v)
     pub nothing : (v : World) → runOf setting caps between v ≡ v
     pub no-mark : isMark second ≡ false
     pub opens : (v : World) → Sound caps v → isDone (pushOf setting caps second v .state .answer) ≡ true → Q v
-        → Opens setting p v (pushOf setting caps second v)
+        → Opens setting q v (pushOf setting caps second v)
 
   module _ (w : World) (ps between qs : List Primitive) (P : Pair between) where
     abbrev run : List Primitive → World
@@ -217,22 +217,22 @@ module _ (setting : Setting) (caps : Capacities) (first second : Primitive) (p :
 
     -- from the second on
     turned-from : (E : ℕ → Type 0) (v : World) → Sound caps v → Flagged E v → Wide (caps .splines) (v .splines) → After (v .state .last) p v → Q v
-        → isDone (runOf setting caps (second ∷ qs) v .state .answer) ≡ true → Turned p (runOf setting caps (second ∷ qs) v)
-    turned-from E v S F W A q d =
+        → isDone (runOf setting caps (second ∷ qs) v .state .answer) ≡ true → Turned p q (runOf setting caps (second ∷ qs) v)
+    turned-from E v S F W A holds d =
         let N = taken setting caps second qs v d in
         let v' = pushOf setting caps second v in
         let k = v .state .splines - 1 in
-        let J = joint-opened (P .opens v S (N .1) q) A S (sound-push caps v S (pushed setting caps v second)) W in
+        let J = joint-opened (P .opens v S (N .1) holds) A S (sound-push caps v S (pushed setting caps v second)) W in
         record {
           spline = k;
-          joint = subst (Joint k p) (sym (N .2)) (joint-run k p setting caps qs v' J);
+          joint = subst (Joint k p q) (sym (N .2)) (joint-run k p q setting caps qs v' J);
           unflagged =
               passed-by setting caps E second qs v k (P .no-mark) S F (A .mark) (pred-suc (v .state .splines) (S .waits (A .mark)))
               (subst (λ (t : Bool). suc k < cond t v' v .state .splines) (sym (N .0)) (J .stored));
         }
 
     pub turned : (E : ℕ → Type 0) → Sound caps w → Flagged E w → ((l : List Primitive) → Wide (caps .splines) (run l .splines))
-        → isDone (run (ps ++ (first ∷ (between ++ (second ∷ qs)))) .state .answer) ≡ true → Turned p (run (ps ++ (first ∷ (between ++ (second ∷ qs)))))
+        → isDone (run (ps ++ (first ∷ (between ++ (second ∷ qs)))) .state .answer) ≡ true → Turned p q (run (ps ++ (first ∷ (between ++ (second ∷ qs)))))
     unfolding runOf
     turned E S F W d =
         let rest = second ∷ qs in
@@ -247,7 +247,7 @@ module _ (setting : Setting) (caps : Capacities) (first second : Primitive) (p :
         let e : run start ≡ v' = run-append setting caps ps (first ∷ []) w ∙ alone v (N .0) in
         let E' : (ℕ → Type 0) = λ m. E m ⊎ Met setting caps start w m in
         let A = P .drawn v (sound-run setting caps ps w S) (W ps) (N .1) in
-        subst (Turned p) (sym whole)
+        subst (Turned p q) (sym whole)
         (turned-from E' v' (subst (Sound caps) e (sound-run setting caps start w S)) (subst (Flagged E') e (flagged-run setting caps start E w S F))
         (subst (λ (u : World). Wide (caps .splines) (u .splines)) e (W start)) (A .0) (A .1)
         (ap (λ (u : World). isDone (u .state .answer)) (sym whole) ∙ d))
@@ -273,7 +273,7 @@ module _ (setting : Setting) (caps : Capacities) (a b c : WeightedPoint) where
   abbrev pub on : Angle
   on = angleOf (minusOf (appliedOf c) (appliedOf b))
 
-  pub two-lines : changedOf setting out on ≡ true → Pair setting caps (Line a b) (Line b c) (appliedOf b) (λ (v : World). v .state .last ≡ out) []
+  pub two-lines : changedOf setting out on ≡ true → Pair setting caps (Line a b) (Line b c) (appliedOf b) (appliedOf b) (λ (v : World). v .state .last ≡ out) []
   unfolding runOf shapeOf
   two-lines h =
       record {
@@ -283,7 +283,7 @@ module _ (setting : Setting) (caps : Capacities) (a b c : WeightedPoint) where
             (now A, A .last ∙ changed-known setting (v .state .last) out on h);
         nothing = λ v. refl;
         no-mark = refl;
-        opens = λ v S d q.
+        opens = λ v S d holds.
             record {
               kind = Straight;
               end = appliedOf c;
@@ -291,6 +291,6 @@ module _ (setting : Setting) (caps : Capacities) (a b c : WeightedPoint) where
               after = lineAngleOf setting (v .state .last) on;
               drew = drew-straight setting caps v (Line b c) (appliedOf b) (appliedOf c) refl d;
               opens =
-                  opens-changed setting Straight (v .state) (lastOf v) on (appliedOf b) (ap (λ (x : Angle). changedOf setting x on) q ∙ h);
+                  opens-changed setting Straight (v .state) (lastOf v) on (appliedOf b) (ap (λ (x : Angle). changedOf setting x on) holds ∙ h);
             };
       }

@@ -1,15 +1,16 @@
 -- 02, Two: in the knife setting every spline is of one kind, a round one begins and ends at its quads, and where straight meets round there is a vertex.
 -- The plan: what a primitive counts as says what it writes (`here`); a spline keeps its kind through the run, so the kind of what goes to it is the kind it ends
 -- with; and one of the other kind opens a spline, which is a joint as a corner is. Assumes nothing.
-use Prim.Native.Nat.{ℕ, suc, _-_, _≤_, _<_, zero-le}
+use Prim.Native.Nat.{ℕ, suc, _+_, _-_, _≤_, _<_, zero-le}
 use mathlib.Core.Path.{_≡_, refl, sym, ap, ap₂, _∙_, subst}
 use mathlib.Core.Logic.{_⊎_, inl, inr, _≢_}
 use mathlib.Core.Bool.{Bool, true, false, cond}
-use mathlib.Core.List.{List, [], _∷_, _++_, List·Memᴰ, List·Memᴰ·head, List·Memᴰ·tail}
+use mathlib.Core.List.{List, [], _∷_, _++_, List·Memᴰ, List·Memᴰ·head, List·Memᴰ·tail, List·Memᴰ·not-nil}
 use native.Mathlib.Nat.{le-trans, le-of-eq, le-refl, lt-of-lt-of-le, lt-of-le-of-lt, lt-irrefl}
 use native.Mathlib.Decide.{decLt}
 use native.Mathlib.Numerals.{add-one}
 use native.Mathlib.Omega.{arith, by-contra}
+use lib.ListN.{take}
 use Rattle.answer.specs.Number.{isDone}
 use Rattle.command.specs.declared.PointCommand.the-variants.{Start, End}
 use Rattle.point.specs.declared.Point.{Point}
@@ -30,7 +31,8 @@ use Rattle.primitives.specs.Shapes.{legsOf, quadShapeOf, shapeOf}
 use Rattle.primitives.proofs.Opening.{opens-apart}
 use Rattle.tables.specs.Tables.{capacitiesOf, quadRowAt, quadStartOf, quadEndOf, splineAt}
 use Rattle.tables.specs.Run.{World, applyOf, pushOf, runOf}
-use Rattle.tables.specs.Commands.{primitivesOf, tablesOf}
+use Rattle.store.specs.Columns.{storedPointOf}
+use Rattle.tables.specs.Commands.{commandPrimitivesOf, primitivesFrom, primitivesOf, tablesOf}
 use Rattle.tables.proofs.Pushes.{lastOf, isMark, Pushed, kept, marked, lined, bent, pushed}
 use Rattle.tables.proofs.Sound.{Sound, sound-push, sound-run, sound-start, last-is, cut-le}
 use Rattle.tables.proofs.Runs.{run-append}
@@ -43,17 +45,18 @@ use Rattle.flatten.specs.Flatten.{Flattening, walked}
 use Rattle.promises.specs.Accepted.{Job, flatteningOf, Accepted, stepsOf}
 use Rattle.promises.specs.FlattenAnswers.{legOf, Curved, Straight, first-missing, second-missing}
 use Rattle.promises.specs.Demand3.{LastQuad}
-use Rattle.promises.specs.Corners.{Written, Vertex}
+use Rattle.promises.specs.Corners.{usedBefore, Written, Joint}
 use Rattle.promises.specs.StraightRound.{DrawnAs, line, as-line, quad, Dropped, both-missing, splinesAfter, GoesTo, Filled, NoneEmpty}
 use Rattle.promises.specs.StraightRound.{OneKind, NeverShare, HasQuad}
 use Rattle.promises.specs.StraightRound.{KindTold, KindsTold, FirstQuad, RoundEnds, RoundsEnd, Meet, JointsStay}
+use Rattle.promises.specs.StraightRound.{LineAndQuad, line-first, quad-first, BeltEndsStay}
 use Rattle.promises.proofs.Flattened.{worldOf, finishedOf, Passed, passed}
 use Rattle.promises.proofs.Decoding.{capsOf, job-sound}
 use Rattle.promises.proofs.Arrivals.{Ends, ends}
 use Rattle.promises.proofs.Refusals.{next-is}
 use Rattle.promises.proofs.Joints.{taken, now, Pair, Opens}
 use Rattle.promises.proofs.Ends.{start-written, end-written}
-use Rattle.promises.proofs.Corners.{start, turned-in, turned-vertex}
+use Rattle.promises.proofs.Corners.{start, turned-in, turned-joint, rest, primitives-split}
 
 -- ---- what a primitive counts as is what it writes
 record Here (setting : Setting) (is : Kind) (from to : Point) (w w' : World) : Type 0 where
@@ -225,8 +228,8 @@ unlike-apart kind.Straight kind.Round n = refl
 unlike-apart kind.Round kind.Straight n = refl
 unlike-apart kind.Round kind.Round n = absurd (n refl)
 
-module _ (job : Job) (P : Passed job) (knife : job .setting ≡ Knife) (p : Point) (M : Meet job p) where
-  pair : Pair (job .setting) (capsOf job) (M .first) (M .second) p (λ (v : World). splineKindOf (lastOf v) ≡ M .one) (M .between)
+module _ (job : Job) (P : Passed job) (knife : job .setting ≡ Knife) (p q : Point) (M : Meet job p q) where
+  pair : Pair (job .setting) (capsOf job) (M .first) (M .second) p q (λ (v : World). splineKindOf (lastOf v) ≡ M .one) (M .between)
   pair =
       let setting = job .setting in
       let caps = capsOf job in
@@ -239,7 +242,7 @@ module _ (job : Job) (P : Passed job) (knife : job .setting ≡ Knife) (p : Poin
             (now A, ap splineKindOf (last-is v' (S' .waits (A .mark))) ∙ kind-here job P knife H S');
         nothing = λ v. dropped-run setting caps v (M .between) (M .dropped);
         no-mark = not-mark (M .second-drawn);
-        opens = λ v S d q.
+        opens = λ v S d holds.
             let H = here setting caps v (M .second-drawn) d S in
             record {
               kind = M .other;
@@ -248,17 +251,81 @@ module _ (job : Job) (P : Passed job) (knife : job .setting ≡ Knife) (p : Poin
               after = H .after;
               drew = H .drew;
               opens =
-                  opens-apart setting (M .other) (v .state) (lastOf v) (H .first) p
-                  (ap (λ (s : Setting). apartOf s (M .other) (splineKindOf (lastOf v))) knife ∙ ap (apartOf Knife (M .other)) q
+                  opens-apart setting (M .other) (v .state) (lastOf v) (H .first) q
+                  (ap (λ (s : Setting). apartOf s (M .other) (splineKindOf (lastOf v))) knife ∙ ap (apartOf Knife (M .other)) holds
                   ∙ unlike-apart (M .one) (M .other) (M .unlike));
             };
       }
 
 pub joints-stay : JointsStay
-joints-stay job h knife p M =
+joints-stay job h knife p q M =
     let P = passed job h in
-    subst (λ (f : Flattening). Vertex f p) (sym (P .result))
-    (turned-vertex job p (turned-in job P p _ (M .before) (M .between) (M .after) (pair job P knife p M) (M .split)))
+    subst (λ (f : Flattening). Joint f p q) (sym (P .result))
+    (turned-joint job p q (turned-in job P p q _ (M .before) (M .between) (M .after) (pair job P knife p q M) (M .split)))
+
+-- ---- a line and a quad among the commands
+meets : (job : Job) → Passed job → (i : ℕ) (p : Point) → LineAndQuad job i p → Meet job p p
+unfolding commandPrimitivesOf
+meets job P i _ (line-first L C) =
+    let c = job .columns in
+    let n = usedBefore job i in
+    record {
+      before = primitivesFrom c (take i (c .commands)) 0;
+      first = Line (storedPointOf c (n - 1)) (storedPointOf c n);
+      between = [];
+      second = Quad (storedPointOf c n) (storedPointOf c (n + 1)) (storedPointOf c (n + 2));
+      after = primitivesFrom c (rest job P i L) (n + 1 + 2);
+      split =
+          primitives-split job P i L
+          ∙ ap₂ (λ (x y : ℕ). primitivesFrom c (take i (c .commands)) 0
+          ++ (Line (storedPointOf c (n - 1)) (storedPointOf c n)
+          ∷ Quad (storedPointOf c x) (storedPointOf c (n + 1)) (storedPointOf c y) ∷ primitivesFrom c (rest job P i L) (n + 1 + 2)))
+          (back n) (on n);
+      dropped = λ d m. absurd (List·Memᴰ·not-nil m);
+      one = kind.Straight;
+      other = kind.Round;
+      unlike = λ e. not-both refl e;
+      start = _;
+      end = _;
+      first-drawn = line _ _;
+      second-drawn = quad _ _ _ C;
+    }
+  where
+    back : (n : ℕ) → n + 1 - 1 ≡ n
+    back n = omega arith
+
+    on : (n : ℕ) → n + 1 + 1 ≡ n + 2
+    on n = omega arith
+meets job P i _ (quad-first L C) =
+    let c = job .columns in
+    let n = usedBefore job i in
+    record {
+      before = primitivesFrom c (take i (c .commands)) 0;
+      first = Quad (storedPointOf c (n - 1)) (storedPointOf c n) (storedPointOf c (n + 1));
+      between = [];
+      second = Line (storedPointOf c (n + 1)) (storedPointOf c (n + 2));
+      after = primitivesFrom c (rest job P i L) (n + 2 + 1);
+      split =
+          primitives-split job P i L
+          ∙ ap (λ (x : ℕ). primitivesFrom c (take i (c .commands)) 0
+          ++ (Quad (storedPointOf c (n - 1)) (storedPointOf c n) (storedPointOf c (n + 1))
+          ∷ Line (storedPointOf c x) (storedPointOf c (n + 2)) ∷ primitivesFrom c (rest job P i L) (n + 2 + 1)))
+          (back n);
+      dropped = λ d m. absurd (List·Memᴰ·not-nil m);
+      one = kind.Round;
+      other = kind.Straight;
+      unlike = λ e. not-both e refl;
+      start = _;
+      end = _;
+      first-drawn = quad _ _ _ C;
+      second-drawn = line _ _;
+    }
+  where
+    back : (n : ℕ) → n + 2 - 1 ≡ n + 1
+    back n = omega arith
+
+pub belt-ends-stay : BeltEndsStay
+belt-ends-stay job h knife i p L = joints-stay job h knife p p (meets job (passed job h) i p L)
 
 -- ---- something goes to each spline
 record Drawn (p : Primitive) : Type 0 where

@@ -1,7 +1,7 @@
 -- 02, Two, the joint between straight and round: "In the knife setting a line and a quad must never share a spline, and a quad that 01 treats as a line counts as
 -- a line." What holds of every accepted drawing, and what users get by it: every such joint is a vertex of the cut. Proved in proofs/StraightRound. Assumes
 -- nothing.
-use Prim.Native.Nat.{ℕ, suc, _<_}
+use Prim.Native.Nat.{ℕ, suc, _+_, _-_, _<_}
 use mathlib.Core.Path.{_≡_}
 use mathlib.Core.Logic.{_≢_, _↔_}
 use mathlib.Core.Bool.{true}
@@ -17,6 +17,7 @@ use Rattle.primitives.specs.declared.Kind.the-variants as kind
 use Rattle.primitives.specs.declared.Primitive.{Primitive}
 use Rattle.primitives.specs.declared.Primitive.the-variants.{Line, Quad}
 use Rattle.primitives.specs.Splines.{splineKindOf}
+use Rattle.store.specs.Columns.{lineCommand, quadCommand, storedPointOf}
 use Rattle.tables.specs.Tables.{capacitiesOf, quadRowAt, quadStartOf, quadEndOf, splineAt}
 use Rattle.tables.specs.Run.{world, startState, runOf}
 use Rattle.tables.specs.Commands.{primitivesOf}
@@ -25,7 +26,7 @@ use Rattle.flatten.specs.Flatten.{Flattening}
 use Rattle.promises.specs.Accepted.{Job, flatteningOf, Accepted, stepsOf}
 use Rattle.promises.specs.FlattenAnswers.{legOf, Curved, Straight}
 use Rattle.promises.specs.Demand3.{splineOfQuad, LastQuad}
-use Rattle.promises.specs.Corners.{Written, Vertex}
+use Rattle.promises.specs.Corners.{usedBefore, TwoCommands, Written, Joint, Vertex}
 
 -- ---- what is drawn
 -- what a primitive counts as, and from where to where it goes
@@ -102,23 +103,41 @@ abbrev pub RoundsEnd : Type 0
 RoundsEnd = (job : Job) → Accepted job → job .setting ≡ Knife → (k : ℕ) → k < flatteningOf job .result .splines → RoundEnds (flatteningOf job) k
 
 -- ---- the joint
--- one after the other, but for what is dropped between them, come two primitives of unlike kinds that meet in p
-pub record Meet (job : Job) (p : Point) : Type 0 where
+-- one after the other, but for what is dropped between them, come two primitives of unlike kinds; the first ends in p, the second begins in q
+pub record Meet (job : Job) (p q : Point) : Type 0 where
   pub before : List Primitive
   pub first : Primitive
   pub between : List Primitive
   pub second : Primitive
   pub after : List Primitive
   pub split : primitivesOf (job .state) (job .columns) ≡ before ++ (first ∷ (between ++ (second ∷ after)))
-  pub dropped : (q : Primitive) → List·Memᴰ q between → Dropped q
+  pub dropped : (d : Primitive) → List·Memᴰ d between → Dropped d
   pub one : Kind
   pub other : Kind
   pub unlike : one ≢ other
   pub start : Point
   pub end : Point
   pub first-drawn : DrawnAs first one start p
-  pub second-drawn : DrawnAs second other p end
+  pub second-drawn : DrawnAs second other q end
 
--- "the meeting point gets no vertex and the knife takes a chord across it": now it gets one
+-- "the meeting point gets no vertex and the knife takes a chord across it": now a spline ends there, and its End is written
 abbrev pub JointsStay : Type 0
-JointsStay = (job : Job) → Accepted job → job .setting ≡ Knife → (p : Point) → Meet job p → Vertex (flatteningOf job) p
+JointsStay = (job : Job) → Accepted job → job .setting ≡ Knife → (p q : Point) → Meet job p q → Joint (flatteningOf job) p q
+
+-- ---- the same of two commands
+-- point n of the drawing, as stored
+abbrev pub pointIn : Job → ℕ → WeightedPoint
+pointIn job n = storedPointOf (job .columns) n
+
+-- commands i and i + 1 are a line and a quad with both angles, in either order; they meet in p
+pub data LineAndQuad (job : Job) (i : ℕ) : Point → Type 0 where
+  line-first : TwoCommands job i lineCommand quadCommand
+      → Curved (pointIn job (usedBefore job i)) (pointIn job (usedBefore job i + 1)) (pointIn job (usedBefore job i + 2))
+      → LineAndQuad job i (appliedOf (pointIn job (usedBefore job i)))
+  quad-first : TwoCommands job i quadCommand lineCommand
+      → Curved (pointIn job (usedBefore job i - 1)) (pointIn job (usedBefore job i)) (pointIn job (usedBefore job i + 1))
+      → LineAndQuad job i (appliedOf (pointIn job (usedBefore job i + 1)))
+
+-- "every joint of straight and round is a vertex of the cut"
+abbrev pub BeltEndsStay : Type 0
+BeltEndsStay = (job : Job) → Accepted job → job .setting ≡ Knife → (i : ℕ) (p : Point) → LineAndQuad job i p → Vertex (flatteningOf job) p
