@@ -1,11 +1,11 @@
 -- What a primitive that joins the last spline knows of it, and what makes one open a spline. Assumes nothing.
-use mathlib.Core.Path.{_≡_, refl, sym, ap, ap₂, _∙_}
+use mathlib.Core.Path.{_≡_, refl, sym}
 use mathlib.Core.Bool.{Bool, true, false, _||_, true≢false}
 use mathlib.Mathlib.Data.Bool.Basic.{or-eq-false-eq-eq-false-and-eq-false as or-false}
 use Rattle.point.specs.declared.Point.{Point}
 use Rattle.point.specs.declared.Angle.{Angle}
 use Rattle.point.specs.declared.Setting.{Setting}
-use Rattle.point.specs.declared.Setting.the-variants.{Screen, Knife}
+use Rattle.point.specs.declared.Setting.the-variants.{Knife}
 use Rattle.point.specs.Angle.{changedOf}
 use Rattle.primitives.specs.declared.State.{State}
 use Rattle.primitives.specs.declared.Kind.{Kind}

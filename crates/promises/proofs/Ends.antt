@@ -19,7 +19,7 @@ use Rattle.tables.specs.Run.{World}
 use Rattle.tables.proofs.Flags.{flagAt}
 use Rattle.walk.specs.Walk.{Item, item, startsOf, subdivisionsOf, stepSizeOf, stepsFrom, cursorAfter, splineItemsOf, walkFrom, walkOf, wordOf, wordsOf}
 use Rattle.evaluate.specs.Evaluate.{Finished, commandPointOf, itemPointOf, pointsOf}
-use Rattle.flatten.specs.Flatten.{Flattening, Output, over, writeOutput, walked}
+use Rattle.flatten.specs.Flatten.{Output, over, writeOutput, walked}
 use Rattle.promises.specs.Accepted.{Job}
 use Rattle.promises.specs.Corners.{Written}
 use Rattle.promises.proofs.Flattened.{worldOf, itemsIn, finishedOf}

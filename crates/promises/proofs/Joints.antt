@@ -1,6 +1,6 @@
 -- Two primitives, drawn one after the other, of which the second opens a spline, make a joint of two splines: one ends where the first primitive does, and has no
 -- flag, and the next begins where the second does. The rest of the run leaves a joint as it is. Two lines that turn are such a pair. Assumes nothing.
-use Prim.Native.Nat.{ℕ, suc, _+_, _-_, _≤_, _<_}
+use Prim.Native.Nat.{ℕ, suc, _-_, _≤_, _<_}
 use mathlib.Core.Path.{_≡_, refl, sym, ap, _∙_, subst}
 use mathlib.Core.Logic.{_⊎_, inl, inr}
 use mathlib.Core.Bool.{Bool, true, false, cond, true≢false}

@@ -24,7 +24,9 @@ pub mod QuarterRound
 pub mod Joints
 pub mod Ends
 pub mod Corners
+pub mod Counting
 pub mod StraightRound
+pub mod Filled
 pub mod Finite
 pub mod Slits
 pub mod LayoutLaws

@@ -1,45 +1,39 @@
 -- What one primitive answers: the answer of a push, by the tests that it makes; and it refuses exactly for the causes that the rules give. Assumes nothing.
 use Prim.Native.Nat.{ℕ, _+_, _≤_, _<_}
 use mathlib.Core.Path.{_≡_, refl, sym, ap, ap₂, _∙_, subst}
-use mathlib.Core.Logic.{_⊎_, inl, inr, _≢_}
-use mathlib.Core.Bool.{Bool, true, false, not, _&&_, cond, true≢false}
+use mathlib.Core.Logic.{_⊎_, inl, inr}
+use mathlib.Core.Bool.{Bool, true, false, not, _&&_, cond}
 use lib.Dec.{T, leb, leb→le, nleb→lt}
 use lib.Ieee.{Float, nan, lt, le, ofBits}
 use lib.Ieee.Bits.{is-true}
 use lib.Ieee.Scale.{finite}
 use borrow.Author.Tests.{le-leb, lt-leb}
-use Rattle.leaves.specs.Single.{_⊕_}
 use Rattle.leaves.specs.Whole.{limit32}
 use Rattle.answer.specs.declared.Answer.{Answer}
 use Rattle.answer.specs.declared.Answer.the-variants.{Done, TooManyPieces, QuadsFull, SplinesFull, SumTooLarge}
 use Rattle.answer.specs.Number.{isDone}
-use Rattle.point.specs.declared.Point.{Point}
 use Rattle.point.specs.declared.WeightedPoint.{WeightedPoint}
 use Rattle.point.specs.declared.Angle.{Angle}
 use Rattle.point.specs.declared.Angle.the-variants.{Missing, Known}
-use Rattle.point.specs.Point.{appliedOf, minusOf}
-use Rattle.point.specs.Angle.{angleOf}
+use Rattle.point.specs.Point.{appliedOf}
 use Rattle.point.specs.declared.Setting.{Setting}
 use Rattle.primitives.specs.declared.Capacities.{Capacities}
-use Rattle.primitives.specs.declared.State.{State}
-use Rattle.primitives.specs.declared.SplineRow.{SplineRow}
 use Rattle.primitives.specs.declared.SplineEdit.{SplineEdit}
 use Rattle.primitives.specs.declared.Primitive.{Primitive}
 use Rattle.primitives.specs.declared.Primitive.the-variants.{Contour, Line, Quad, Excess}
 use Rattle.primitives.specs.declared.Kind.the-variants as kind
 use Rattle.primitives.specs.declared.Edit.the-variants.{Keep, Extend, Bend}
-use Rattle.primitives.specs.declared.QuadRow.{QuadRow}
 use Rattle.primitives.specs.Quads.{curveOf}
 use Rattle.primitives.specs.Splines.{lineAngleOf, sumBefore, splineEditOf}
 use Rattle.primitives.specs.Plan.{refusedOf, markedOf, planLineOf, quadRowOf, planCurveOf, planLegsOf, planQuadOf, planOf}
 use Rattle.primitives.proofs.Opening.{joins}
-use Rattle.tables.specs.Run.{World, world, applyOf, pushOf}
+use Rattle.tables.specs.Run.{World, applyOf, pushOf}
 use Rattle.tables.proofs.Pushes.{lastOf, curve-bent}
 use Rattle.tables.proofs.RunningSums.{sum-number}
 use Rattle.tables.proofs.Sound.{Sound, sum-before}
 use Rattle.promises.specs.FlattenAnswers.{legOf, Curved, Straight, first-missing, second-missing, opensAt, sumWith, Refuses, too-many, quads-full}
 use Rattle.promises.specs.FlattenAnswers.{line-full, straight-full, curve-full, sum-over}
-use Rattle.promises.proofs.Telling.{Tells, tells-under}
+use Rattle.promises.proofs.Telling.{tells-under}
 
 module _ (setting : Setting) (caps : Capacities) (w : World) where
   full : Bool

@@ -4,10 +4,9 @@ use mathlib.Core.Path.{_≡_, sym, ap, _∙_, subst}
 use mathlib.Core.Logic.{_⊎_, inl, inr}
 use mathlib.Core.Bool.{Bool, true, false, cond}
 use mathlib.Core.List.{List, [], _∷_, List·Memᴰ, Memᴰ·append-left, Memᴰ·append-right}
-use Prim.Native.Nat.{ℕ, zero, suc, _+_, _-_, _*_, _≤_, _<_, zero-le}
-use native.Mathlib.Nat.{le-trans, le-of-eq, le-refl, le-of-lt, lt-of-lt-of-le, lt-of-le-of-lt, lt-irrefl, not-suc-le-zero, zero-add}
-use native.Mathlib.Decide.{decLt}
-use native.Mathlib.Omega.{arith, by-contra}
+use Prim.Native.Nat.{ℕ, suc, _+_, _-_, _*_, _≤_, _<_, zero-le}
+use native.Mathlib.Nat.{le-trans, le-of-eq, lt-of-lt-of-le, lt-of-le-of-lt, lt-irrefl, zero-add}
+use native.Mathlib.Omega.{arith}
 use lib.Dec.{T}
 use lib.Ieee.{Float}
 use lib.Ieee.Positive.{num, den}
@@ -19,7 +18,7 @@ use Rattle.primitives.specs.declared.Capacities.{Capacities}
 use Rattle.primitives.specs.declared.QuadRow.{QuadRow}
 use Rattle.tables.specs.Tables.{SplineTable, quadRowAt, splineAt}
 use Rattle.tables.specs.Run.{World}
-use Rattle.tables.proofs.Spans.{sumAt, ownerAt, Span}
+use Rattle.tables.proofs.Spans.{sumAt, Span}
 use Rattle.tables.proofs.Sound.{Sound, cut-le}
 use Rattle.tables.proofs.Owners.{Home, home, home-owner}
 use Rattle.walk.specs.Walk.{Item, item, subdivisionsOf, stepSizeOf, startsOf, stepsFrom, cursorFrom, cursorAfter, splineItemsOf, walkOf}

@@ -1,103 +1,53 @@
--- 02, Two: in the knife setting every spline is of one kind, a round one begins and ends at its quads, and where straight meets round there is a vertex.
+-- 02, Two: in the knife setting every spline is of one kind, a round one begins and ends at its quads, and where straight meets round there is a joint.
 -- The plan: what a primitive counts as says what it writes (`here`); a spline keeps its kind through the run, so the kind of what goes to it is the kind it ends
 -- with; and one of the other kind opens a spline, which is a joint as a corner is. Assumes nothing.
-use Prim.Native.Nat.{ℕ, suc, _+_, _-_, _≤_, _<_, zero-le}
+use Prim.Native.Nat.{ℕ, suc, _+_, _-_, _≤_, _<_}
 use mathlib.Core.Path.{_≡_, refl, sym, ap, ap₂, _∙_, subst}
-use mathlib.Core.Logic.{_⊎_, inl, inr, _≢_}
-use mathlib.Core.Bool.{Bool, true, false, cond}
-use mathlib.Core.List.{List, [], _∷_, _++_, List·Memᴰ, List·Memᴰ·head, List·Memᴰ·tail, List·Memᴰ·not-nil}
-use native.Mathlib.Nat.{le-trans, le-of-eq, le-refl, lt-of-lt-of-le, lt-of-le-of-lt, lt-irrefl}
-use native.Mathlib.Decide.{decLt}
-use native.Mathlib.Numerals.{add-one}
-use native.Mathlib.Omega.{arith, by-contra}
+use mathlib.Core.Logic.{inl, inr, _≢_}
+use mathlib.Core.Bool.{true}
+use mathlib.Core.List.{List, [], _∷_, _++_, List·Memᴰ·not-nil}
+use native.Mathlib.Nat.{le-of-eq, le-refl, lt-of-lt-of-le, lt-irrefl}
+use native.Mathlib.Omega.{arith}
 use lib.ListN.{take}
 use Rattle.answer.specs.Number.{isDone}
 use Rattle.command.specs.declared.PointCommand.the-variants.{Start, End}
 use Rattle.point.specs.declared.Point.{Point}
-use Rattle.point.specs.declared.WeightedPoint.{WeightedPoint}
-use Rattle.point.specs.declared.Angle.{Angle}
-use Rattle.point.specs.declared.Angle.the-variants.{Missing, Known}
 use Rattle.point.specs.declared.Setting.{Setting}
 use Rattle.point.specs.declared.Setting.the-variants.{Knife}
-use Rattle.point.specs.Point.{appliedOf}
-use Rattle.primitives.specs.declared.Capacities.{Capacities}
 use Rattle.primitives.specs.declared.Kind.{Kind}
 use Rattle.primitives.specs.declared.Kind.the-variants as kind
 use Rattle.primitives.specs.declared.Primitive.{Primitive}
-use Rattle.primitives.specs.declared.Primitive.the-variants.{Contour, Line, Quad, Excess}
-use Rattle.primitives.specs.Splines.{splineKindOf, apartOf, opensOf, splineEditOf}
-use Rattle.primitives.specs.Plan.{refusedOf, markedOf, planOf}
-use Rattle.primitives.specs.Shapes.{legsOf, quadShapeOf, shapeOf}
+use Rattle.primitives.specs.declared.Primitive.the-variants.{Line, Quad}
+use Rattle.primitives.specs.Splines.{splineKindOf, apartOf}
 use Rattle.primitives.proofs.Opening.{opens-apart}
-use Rattle.tables.specs.Tables.{capacitiesOf, quadRowAt, quadStartOf, quadEndOf, splineAt}
-use Rattle.tables.specs.Run.{World, applyOf, pushOf, runOf}
+use Rattle.tables.specs.Tables.{quadRowAt, quadStartOf, quadEndOf, splineAt}
+use Rattle.tables.specs.Run.{World, pushOf, runOf}
 use Rattle.store.specs.Columns.{storedPointOf}
 use Rattle.tables.specs.Commands.{commandPrimitivesOf, primitivesFrom, primitivesOf, tablesOf}
-use Rattle.tables.proofs.Pushes.{lastOf, isMark, Pushed, kept, marked, lined, bent, pushed}
+use Rattle.tables.proofs.Pushes.{lastOf, pushed}
 use Rattle.tables.proofs.Sound.{Sound, sound-push, sound-run, sound-start, last-is, cut-le}
 use Rattle.tables.proofs.Runs.{run-append}
 use Rattle.tables.proofs.Owners.{owned-round, round-quads, not-both}
-use Rattle.tables.proofs.Rounds.{First, Last, Rounds, rounds}
-use Rattle.tables.proofs.Drawn.{Drew, drew-straight, drew-round, after-drawn, dropped}
+use Rattle.tables.proofs.Rounds.{Rounds, rounds}
+use Rattle.tables.proofs.Drawn.{Drew, after-drawn, dropped}
 use Rattle.tables.proofs.KindLaws.{kindAt, drawn-kind, kinds-run}
-use Rattle.walk.specs.Walk.{startsOf, subdivisionsOf}
+use Rattle.walk.specs.Walk.{subdivisionsOf}
 use Rattle.flatten.specs.Flatten.{Flattening, walked}
-use Rattle.promises.specs.Accepted.{Job, flatteningOf, Accepted, stepsOf}
-use Rattle.promises.specs.FlattenAnswers.{legOf, Curved, Straight, first-missing, second-missing}
+use Rattle.promises.specs.Accepted.{Job}
 use Rattle.promises.specs.Demand3.{LastQuad}
 use Rattle.promises.specs.Corners.{usedBefore, Written, Joint}
-use Rattle.promises.specs.StraightRound.{DrawnAs, line, as-line, quad, Dropped, both-missing, splinesAfter, GoesTo, Filled, NoneEmpty}
-use Rattle.promises.specs.StraightRound.{OneKind, NeverShare, HasQuad}
+use Rattle.promises.specs.StraightRound.{line, quad, splinesAfter, GoesTo}
+use Rattle.promises.specs.StraightRound.{OneKind, NeverShare}
 use Rattle.promises.specs.StraightRound.{KindTold, KindsTold, FirstQuad, RoundEnds, RoundsEnd, Meet, JointsStay}
 use Rattle.promises.specs.StraightRound.{LineAndQuad, line-first, quad-first, BeltEndsStay}
 use Rattle.promises.proofs.Flattened.{worldOf, finishedOf, Passed, passed}
 use Rattle.promises.proofs.Decoding.{capsOf, job-sound}
-use Rattle.promises.proofs.Arrivals.{Ends, ends}
+use Rattle.promises.proofs.Arrivals.{ends}
 use Rattle.promises.proofs.Refusals.{next-is}
-use Rattle.promises.proofs.Joints.{taken, now, Pair, Opens}
+use Rattle.promises.proofs.Joints.{taken, now, Pair}
 use Rattle.promises.proofs.Ends.{start-written, end-written}
 use Rattle.promises.proofs.Corners.{start, turned-in, turned-joint, rest, primitives-split}
-
--- ---- what a primitive counts as is what it writes
-record Here (setting : Setting) (is : Kind) (from to : Point) (w w' : World) : Type 0 where
-  first : Angle
-  after : Angle
-  drew : Drew setting is from to first after w w'
-
-module _ (setting : Setting) (caps : Capacities) (w : World) where
-  here : {p : Primitive} {is : Kind} {from to : Point} → DrawnAs p is from to → isDone (pushOf setting caps p w .state .answer) ≡ true → Sound caps w
-      → Here setting is from to w (pushOf setting caps p w)
-  unfolding shapeOf quadShapeOf legsOf
-  here (line a b) d S = record { first = _; after = _; drew = drew-straight setting caps w (Line a b) (appliedOf a) (appliedOf b) refl d }
-  here (as-line a b c (first-missing y e f)) d S =
-      record { first = _; after = _; drew = drew-straight setting caps w (Quad a b c) (appliedOf a) (appliedOf c) (ap₂ (legsOf a b c) e f) d }
-  here (as-line a b c (second-missing x e f)) d S =
-      record { first = _; after = _; drew = drew-straight setting caps w (Quad a b c) (appliedOf a) (appliedOf c) (ap₂ (legsOf a b c) e f) d }
-  here (quad a b c C) d S =
-      record {
-        first = _;
-        after = _;
-        drew = drew-round setting caps w (Quad a b c) a b c _ _ (ap₂ (legsOf a b c) (C .first-leg) (C .second-leg)) d S;
-      }
-
-  dropped-push : (p : Primitive) → Dropped p → pushOf setting caps p w ≡ w
-  unfolding shapeOf quadShapeOf legsOf
-  dropped-push p (both-missing a b c e f) = dropped setting caps w (Quad a b c) (ap₂ (legsOf a b c) e f)
-
-  dropped-run : (ps : List Primitive) → ((p : Primitive) → List·Memᴰ p ps → Dropped p) → runOf setting caps ps w ≡ w
-  unfolding runOf
-  dropped-run [] h = refl
-  dropped-run (p ∷ ps) h =
-      ap (runOf setting caps ps) (go (isDone (w .state .answer))) ∙ dropped-run ps (λ q m. h q (List·Memᴰ·tail m))
-    where
-      go : (b : Bool) → cond b (pushOf setting caps p w) w ≡ w
-      go true = dropped-push p (h p (List·Memᴰ·head refl))
-      go false = refl
-
-not-mark : {p : Primitive} {is : Kind} {from to : Point} → DrawnAs p is from to → isMark p ≡ false
-not-mark (line a b) = refl
-not-mark (as-line a b c h) = refl
-not-mark (quad a b c h) = refl
+use Rattle.promises.proofs.Counting.{Here, here, dropped-run, not-mark}
 
 -- ---- the kind of a spline, by what goes to it
 module _ (job : Job) (P : Passed job) (knife : job .setting ≡ Knife) where
@@ -326,114 +276,3 @@ meets job P i _ (quad-first L C) =
 
 pub belt-ends-stay : BeltEndsStay
 belt-ends-stay job h knife i p L = joints-stay job h knife p p (meets job (passed job h) i p L)
-
--- ---- something goes to each spline
-record Drawn (p : Primitive) : Type 0 where
-  is : Kind
-  from : Point
-  to : Point
-  drawn : DrawnAs p is from to
-
-quad-drawn : (a b c : WeightedPoint) (x y : Angle) → legOf a b ≡ x → legOf b c ≡ y → Drawn (Quad a b c) ⊎ Dropped (Quad a b c)
-quad-drawn a b c Missing Missing e f = inr (both-missing a b c e f)
-quad-drawn a b c Missing (Known y) e f = inl (record { is = _; from = _; to = _; drawn = as-line a b c (first-missing y e f) })
-quad-drawn a b c (Known x) Missing e f = inl (record { is = _; from = _; to = _; drawn = as-line a b c (second-missing x e f) })
-quad-drawn a b c (Known x) (Known y) e f =
-    inl (record { is = _; from = _; to = _; drawn = quad a b c (record { first = x; second = y; first-leg = e; second-leg = f }) })
-
-more : (n : ℕ) → n ≤ suc n
-more n = omega arith
-
-module _ (setting : Setting) (caps : Capacities) where
-  -- a push opens at most one spline
-  one-more : (w : World) {b : Bool} {w' : World} → Pushed setting caps w b w' → w' .state .splines ≤ suc (w .state .splines)
-  unfolding refusedOf markedOf applyOf splineEditOf
-  one-more w (kept answer) = more (w .state .splines)
-  one-more w marked = more (w .state .splines)
-  one-more w (lined true start end angle A) = le-of-eq (add-one (w .state .splines))
-  one-more w (lined false start end angle A) = more (w .state .splines)
-  one-more w (bent true start end angle c row A B K fit R) = le-of-eq (add-one (w .state .splines))
-  one-more w (bent false start end angle c row A B K fit R) = more (w .state .splines)
-
-  -- only what is drawn opens one
-  opener : (p : Primitive) (w : World) → w .state .splines < pushOf setting caps p w .state .splines → Drawn p
-  unfolding pushOf planOf markedOf refusedOf applyOf
-  opener Contour w h = absurd (lt-irrefl (w .state .splines) h)
-  opener (Line a b) w h = record { is = _; from = _; to = _; drawn = line a b }
-  opener (Quad a b c) w h = elim (quad-drawn a b c (legOf a b) (legOf b c) refl refl) [
-    | inl D ↦ D
-    | inr D ↦ absurd (lt-irrefl (w .state .splines) (lt-of-lt-of-le h (le-of-eq (ap (λ (v : World). v .state .splines) (dropped-push setting caps w _ D)))))
-  ]
-  opener Excess w h = absurd (lt-irrefl (w .state .splines) h)
-
-  record Found (ps : List Primitive) (w : World) (k : ℕ) : Type 0 where
-    before : List Primitive
-    primitive : Primitive
-    after : List Primitive
-    split : ps ≡ before ++ (primitive ∷ after)
-    drawn : Drawn primitive
-    last : runOf setting caps (before ++ (primitive ∷ [])) w .state .splines ≡ suc k
-
-  found : (ps : List Primitive) (w : World) (k : ℕ) → isDone (runOf setting caps ps w .state .answer) ≡ true → w .state .splines ≤ k
-      → k < runOf setting caps ps w .state .splines → Found ps w k
-  unfolding runOf
-  found [] w k d l u = absurd (lt-irrefl k (lt-of-lt-of-le u l))
-  found (p ∷ ps) w k d l u = go (decLt k (v .state .splines)) (λ e f g. found ps v k e f g)
-    where
-      v : World
-      v = pushOf setting caps p w
-
-      N : (isDone (w .state .answer) ≡ true) × (isDone (v .state .answer) ≡ true) × (runOf setting caps (p ∷ ps) w ≡ runOf setting caps ps v)
-      N = taken setting caps p ps w d
-
-      go : Dec (k < v .state .splines)
-          → (isDone (runOf setting caps ps v .state .answer) ≡ true → v .state .splines ≤ k → k < runOf setting caps ps v .state .splines → Found ps v k)
-          → Found (p ∷ ps) w k
-      go (yes z) later =
-          record {
-            before = [];
-            primitive = p;
-            after = ps;
-            split = refl;
-            drawn = opener p w (lt-of-le-of-lt l z);
-            last =
-                ap (λ (x : World). x .state .splines) (next-is setting caps p [] w (N .0))
-                ∙ exact k (w .state .splines) (v .state .splines) l z (one-more w (pushed setting caps w p));
-          }
-        where
-          exact : (k n m : ℕ) → n ≤ k → k < m → m ≤ suc n → m ≡ suc k
-          exact k n m h i j = omega arith
-      go (no z) later =
-          let F =
-          later (ap (λ (x : World). isDone (x .state .answer)) (sym (N .2)) ∙ d) (by-contra (v .state .splines) k z)
-          (lt-of-lt-of-le u (le-of-eq (ap (λ (x : World). x .state .splines) (N .2)))) in
-          record {
-            before = p ∷ F .before;
-            primitive = F .primitive;
-            after = F .after;
-            split = ap (λ (x : List Primitive). p ∷ x) (F .split);
-            drawn = F .drawn;
-            last = ap (λ (x : World). x .state .splines) (next-is setting caps p (F .before ++ (F .primitive ∷ [])) w (N .0)) ∙ F .last;
-          }
-
-pub none-empty : NoneEmpty
-unfolding walked tablesOf splinesAfter
-none-empty job h k l =
-    let P = passed job h in
-    let F =
-    found (job .setting) (capsOf job) (primitivesOf (job .state) (job .columns)) (start job) k (P .done) zero-le
-    (subst (λ (f : Flattening). k < f .result .splines) (P .result) l) in
-    record {
-      is = F .drawn .is;
-      goes =
-          record {
-            before = F .before;
-            primitive = F .primitive;
-            after = F .after;
-            split = F .split;
-            start = F .drawn .from;
-            end = F .drawn .to;
-            drawn = F .drawn .drawn;
-            last = F .last;
-          };
-    }

@@ -1,7 +1,7 @@
 -- RULES, Answers, of flattening: each answer, if and only if what the rules say of the drawing, of what was pushed before, and of the buffers. Assumes nothing.
 use Prim.Native.Nat.{ℕ, _-_, _≤_, _<_}
 use mathlib.Core.Path.{_≡_}
-use mathlib.Core.Logic.{_⊎_, _≢_, _↔_}
+use mathlib.Core.Logic.{_≢_, _↔_}
 use mathlib.Core.Bool.{Bool, true}
 use mathlib.Core.List.{List, _++_, _∷_, List·Memᴰ}
 use lib.Dec.{T}
@@ -12,7 +12,6 @@ use Rattle.leaves.specs.Whole.{limit32}
 use Rattle.answer.specs.declared.Answer.{Answer}
 use Rattle.answer.specs.declared.Answer.the-variants.{Done, Unusable, TooManyPieces, QuadsFull, SplinesFull, SumTooLarge, OutputShort}
 use Rattle.answer.specs.Number.{isDone}
-use Rattle.point.specs.declared.Point.{Point}
 use Rattle.point.specs.declared.WeightedPoint.{WeightedPoint}
 use Rattle.point.specs.declared.Angle.{Angle}
 use Rattle.point.specs.declared.Angle.the-variants.{Missing, Known}
@@ -34,7 +33,7 @@ use Rattle.tables.specs.Tables.{capacitiesOf, lastSplineOf, quadRowAt}
 use Rattle.tables.specs.Past.{Past, QuadsPast, SplinesPast}
 use Rattle.tables.specs.Run.{World, world, runOf, startState}
 use Rattle.tables.specs.Commands.{cubicFrom, commandPrimitivesOf, primitivesOf, tablesOf}
-use Rattle.walk.specs.Walk.{Item, walkOf}
+use Rattle.walk.specs.Walk.{walkOf}
 use Rattle.flatten.specs.Flatten.{Output, Flattening, flattened, flattening}
 use Rattle.promises.specs.DrawingAnswers.{UnusableStore, Outside}
 use Rattle.promises.specs.Accepted.{Job, flatteningOf}

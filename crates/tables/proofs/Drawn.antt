@@ -1,6 +1,6 @@
 -- What a primitive does that is drawn, straight or round: the spline's row that it writes, by the test whether it opens a spline; and one that is dropped, which
 -- does nothing. Assumes nothing.
-use Prim.Native.Nat.{ℕ, suc, _+_, _-_, _≤_, _<_}
+use Prim.Native.Nat.{ℕ, suc, _+_, _-_, _<_}
 use mathlib.Core.Path.{_≡_, refl, sym, ap, _∙_, subst}
 use mathlib.Core.Bool.{Bool, true, false, not, _&&_, cond, true≢false}
 use native.Mathlib.Nat.{le-of-eq, lt-of-lt-of-le, lt-of-le-of-lt}
@@ -27,7 +27,6 @@ use Rattle.primitives.specs.declared.Kind.the-variants.{Straight, Round}
 use Rattle.primitives.specs.declared.Shape.{Shape}
 use Rattle.primitives.specs.declared.Shape.the-variants as shape
 use Rattle.primitives.specs.declared.SplineEdit.{SplineEdit}
-use Rattle.primitives.specs.declared.QuadRow.{QuadRow}
 use Rattle.primitives.specs.declared.Edit.{Edit}
 use Rattle.primitives.specs.declared.Edit.the-variants.{Keep, Extend, Bend}
 use Rattle.primitives.specs.Quads.{curveOf}

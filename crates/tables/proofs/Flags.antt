@@ -1,10 +1,10 @@
 -- The flags at every moment of a run: a spline is flagged exactly if it is the last one so far, or was the last one when a Move came.
 -- `ended m` says that m splines were there at a Move. The last spline was the last one at a Move exactly while a mark waits. Assumes nothing.
-use mathlib.Core.Path.{_≡_, refl, sym, ap, ap₂, _∙_, subst, subst₂}
+use mathlib.Core.Path.{_≡_, refl, sym, ap, _∙_, subst}
 use mathlib.Core.Logic.{_⊎_, inl, inr, _≢_}
 use mathlib.Core.List.{List, [], _∷_}
 use mathlib.Core.Bool.{Bool, true, false, not, cond, true≢false}
-use Prim.Native.Nat.{ℕ, zero, suc, _+_, _-_, _≤_, _<_, zero-le}
+use Prim.Native.Nat.{ℕ, suc, _-_, _≤_, _<_, zero-le}
 use native.Mathlib.Nat.{le-trans, le-of-eq, le-refl, le-of-lt, lt-of-lt-of-le, lt-of-le-of-lt, lt-irrefl, eq-or-lt-of-le, le-of-suc-le-suc, ne-of-lt}
 use native.Mathlib.Nat.{not-suc-le-zero}
 use native.Mathlib.Numerals.{add-one}
@@ -24,13 +24,12 @@ use Rattle.primitives.specs.declared.Kind.{Kind}
 use Rattle.primitives.specs.declared.Primitive.{Primitive}
 use Rattle.primitives.specs.declared.SplineRow.{SplineRow}
 use Rattle.primitives.specs.declared.SplineEdit.{SplineEdit}
-use Rattle.primitives.specs.declared.State.{State}
 use Rattle.primitives.specs.Splines.{splineEditOf}
 use Rattle.primitives.specs.Plan.{refusedOf, markedOf}
 use Rattle.tables.specs.Tables.{QuadTable, SplineTable, clearFlag, putSpline, splineAt}
 use Rattle.tables.specs.Run.{World, world, applyOf, pushOf, runOf, startState}
 use Rattle.tables.proofs.Pushes.{lastOf, isMark, Allowed, splineEdit, Pushed, kept, marked, lined, bent, pushed}
-use Rattle.tables.proofs.Sound.{Sound, sound-push, sound-run, last-is, pred-suc, pred-lt}
+use Rattle.tables.proofs.Sound.{Sound, sound-push, last-is, pred-suc, pred-lt}
 
 abbrev pub flagAt : SplineTable → ℕ → Bool
 flagAt s j = splineAt s j .contour

@@ -1,9 +1,9 @@
 -- In the knife setting a spline keeps its kind, and what goes to it is of that kind. Assumes nothing.
-use Prim.Native.Nat.{ℕ, suc, _+_, _-_, _<_}
-use mathlib.Core.Path.{_≡_, refl, sym, ap, ap₂, _∙_, subst}
+use Prim.Native.Nat.{ℕ, _-_, _<_}
+use mathlib.Core.Path.{_≡_, refl, sym, ap, _∙_, subst}
 use mathlib.Core.Logic.{_≢_}
 use mathlib.Core.List.{List, [], _∷_}
-use mathlib.Core.Bool.{Bool, true, false, cond, true≢false}
+use mathlib.Core.Bool.{Bool, true, false, cond}
 use native.Mathlib.Nat.{le-trans, le-of-eq, lt-of-lt-of-le, lt-of-le-of-lt, ne-of-lt}
 use native.Mathlib.Omega.{arith}
 use native.Mathlib.Decide.{ℕ-discrete}
@@ -23,7 +23,7 @@ use Rattle.primitives.specs.declared.SplineEdit.{SplineEdit}
 use Rattle.primitives.specs.Splines.{splineKindOf, opensOf, sumBefore, splineEditOf}
 use Rattle.primitives.specs.Plan.{refusedOf, markedOf}
 use Rattle.primitives.proofs.Opening.{joins, same-kind}
-use Rattle.tables.specs.Tables.{SplineTable, putQuad, quadRowAt, putSpline, splineAt}
+use Rattle.tables.specs.Tables.{putSpline, splineAt}
 use Rattle.tables.specs.Run.{World, world, applyOf, pushOf, runOf}
 use Rattle.tables.proofs.Pushes.{lastOf, Pushed, kept, marked, lined, bent, pushed}
 use Rattle.tables.proofs.RowLaws.{row-put}

@@ -1,11 +1,11 @@
 -- The spline that a quad belongs to, and what that says of the spline's sum: it is 0 exactly if the spline has no quad. Assumes nothing.
 use Prim.Native.Nat.{ℕ, zero, suc, _*_, _≤_, _<_}
 use mathlib.Core.Path.{_≡_, refl, sym, ap, _∙_, subst}
-use mathlib.Core.Logic.{_⊎_, inl, inr}
+use mathlib.Core.Logic.{inl, inr}
 use mathlib.Core.Bool.{Bool, true, false, _&&_, cond, true≢false}
 use native.Mathlib.Nat.{le-trans, le-of-eq, le-refl, le-of-lt, lt-of-lt-of-le, lt-of-le-of-lt, lt-irrefl, not-suc-le-zero, mul-pos, zero-mul}
 use native.Mathlib.Decide.{decLt}
-use native.Mathlib.Omega.{arith, by-contra}
+use native.Mathlib.Omega.{by-contra}
 use lib.Dec.{T, ltb→lt}
 use lib.Ieee.{Float, nan, inf, fin, up, down, eq, ofBits}
 use lib.Ieee.Fits.{up-pos}

@@ -1,21 +1,20 @@
 -- What one primitive does to the tables, in the few forms that laws about a run distinguish: nothing but the state changes, or a spline is opened or joined,
 -- with or without a quad whose own curvature is above 1. Assumes nothing.
-use mathlib.Core.Path.{_≡_, refl, sym, ap, _∙_, subst}
-use mathlib.Core.Logic.{_⊎_, inl, inr, _≢_}
+use mathlib.Core.Path.{_≡_, refl, sym, _∙_, subst}
+use mathlib.Core.Logic.{_≢_}
 use mathlib.Core.Bool.{Bool, true, false, not, _&&_, _||_, cond, true≢false}
-use Prim.Native.Nat.{ℕ, zero, suc, _+_, _*_, _≤_, _<_}
+use Prim.Native.Nat.{ℕ, _+_, _*_, _≤_, _<_}
 use native.Mathlib.Nat.{mul-one, one-mul, zero-lt-suc, le-trans, le-of-lt}
 use native.Mathlib.Omega.{arith}
-use lib.IntN.{ℤ, pos}
 use lib.Dec.{T, lit<, leb, ltb, eqb, nltb→le, lt→ltb, T-not}
 use lib.Ieee.{Float, nan, inf, fin, binary32, up, down, le, lt, eq, fits, ofBits}
 use lib.Ieee.Fits.{mul-fits, down-pos, eq→eqb}
-use lib.Ieee.Bits.{ofBits-fits, is-true}
+use lib.Ieee.Bits.{ofBits-fits}
 use lib.Ieee.Positive.{num, den, positive, first-pos}
 use lib.Ieee.Scale.{finite}
 use mir.Facts.{or-no}
 use borrow.Author.Tests.{leb-false}
-use Rattle.leaves.specs.Single.{_⊕_, _⊗_, one32, two32}
+use Rattle.leaves.specs.Single.{_⊕_, one32, two32}
 use Rattle.leaves.specs.Whole.{limit32}
 use Rattle.point.specs.declared.Point.{Point}
 use Rattle.primitives.specs.declared.Curve.{Curve}
@@ -29,7 +28,6 @@ use Rattle.point.specs.Point.{appliedOf, minusOf}
 use Rattle.point.specs.Angle.{angleOf}
 use Rattle.point.specs.declared.Setting.{Setting}
 use Rattle.primitives.specs.declared.Capacities.{Capacities}
-use Rattle.primitives.specs.declared.State.{State}
 use Rattle.primitives.specs.declared.Primitive.{Primitive}
 use Rattle.primitives.specs.declared.Primitive.the-variants.{Contour, Line, Quad, Excess}
 use Rattle.primitives.specs.declared.Kind.{Kind}

@@ -3,21 +3,21 @@
 -- The plan: `cut j` is the number of quads before spline j. A push keeps every spline but the last one, which is opened or joined; `put` says so once, for a
 -- spline t that is either the next one, just opened, or the last. `sound-push` is that for each form of a push, and `sound-run` goes through a list. Assumes
 -- nothing.
-use mathlib.Core.Path.{_≡_, refl, sym, ap, ap₂, _∙_, subst, subst₂}
-use mathlib.Core.Logic.{_⊎_, inl, inr, _≢_}
+use mathlib.Core.Path.{_≡_, refl, sym, ap, _∙_, subst, subst₂}
+use mathlib.Core.Logic.{inl, inr, _≢_}
 use mathlib.Core.List.{List, [], _∷_}
 use mathlib.Core.Bool.{Bool, true, false, cond, true≢false}
-use Prim.Native.Nat.{ℕ, zero, suc, _+_, _-_, _*_, _/_, _≤_, _<_, zero-le, min}
+use Prim.Native.Nat.{ℕ, zero, suc, _+_, _-_, _*_, _≤_, _<_, zero-le, min}
 use native.Mathlib.Nat.{le-trans, le-of-eq, le-refl, le-of-lt, lt-of-lt-of-le, lt-of-le-of-lt, lt-irrefl, eq-or-lt-of-le, le-of-suc-le-suc, min-le-left}
-use native.Mathlib.Nat.{min-le-right, not-le-of-lt, ne-of-lt, add-zero, add-sub-of-le, sub-le, not-suc-le-zero}
+use native.Mathlib.Nat.{min-le-right, ne-of-lt, add-zero, add-sub-of-le, sub-le, not-suc-le-zero}
 use native.Mathlib.Numerals.{add-one}
 use native.Mathlib.Omega.{arith}
-use lib.Dec.{T, leb, eqb, leb→le, le→leb, eqb·suc-zero}
+use lib.Dec.{T, leb, eqb, le→leb, eqb·suc-zero}
 use lib.Ieee.{Float, nan, le}
 use lib.Ieee.Bits.{is-true, is-false}
 use lib.Ieee.Positive.{num, den}
 use lib.Arith.{lt→nleb}
-use lib.ListN.{length, getD, set, length-set}
+use lib.ListN.{length, length-set}
 use lib.Seq.{getD-set-same, getD-set-other}
 use Rattle.facts.proofs.Numbers.{shift}
 use Rattle.leaves.specs.Single.{_⊕_, zero32}
@@ -40,9 +40,9 @@ use Rattle.primitives.specs.Plan.{refusedOf, markedOf}
 use Rattle.tables.specs.Tables.{QuadTable, SplineTable, quadCapacityOf, splineCapacityOf, capacitiesOf, putQuad, quadRowAt, clearFlag, putSpline}
 use Rattle.tables.specs.Tables.{splineAt, noSpline, lastSplineOf}
 use Rattle.tables.specs.Run.{World, world, applyOf, pushOf, runOf, startState}
-use Rattle.tables.proofs.RunningSums.{Bent, Sum, natural, zero-natural, zero-num, positive-natural}
-use Rattle.tables.proofs.Pushes.{lastOf, isMark, Allowed, splineEdit, RowOf, Pushed, kept, marked, lined, bent, pushed}
-use Rattle.tables.proofs.Spans.{Span, Agree, LastOf, same-sum, same-owner, span-none, span-agree, span-more, span-total}
+use Rattle.tables.proofs.RunningSums.{Bent, natural, zero-natural, zero-num, positive-natural}
+use Rattle.tables.proofs.Pushes.{lastOf, Allowed, splineEdit, RowOf, Pushed, kept, marked, lined, bent, pushed}
+use Rattle.tables.proofs.Spans.{Span, Agree, same-sum, same-owner, span-none, span-agree, span-more, span-total}
 use Rattle.tables.proofs.RowLaws.{row-put, row-stays, capacity-stays}
 
 -- the counts are within the capacities, and these within what the tables take
