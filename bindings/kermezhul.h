@@ -56,8 +56,13 @@ uint32_t kermezhul_build(KERMEZHUL_DRAWING);
 
 /* Flattens the drawing as it is, closed or not. setting: 0 for the screen, any other number for the knife. Nothing of the drawing is changed.
  *
- * The settings differ in two things. After a line without length the knife keeps the direction before it, and the screen forgets it: a corner at a doubled
+ * The settings differ in three things. After a line without length the knife keeps the direction before it, and the screen forgets it: a corner at a doubled
  * point is then lost. For the knife a reversal of direction is a corner, for the screen it is none: a line out and the same line back then lose their far end.
+ * For the knife a line and a quad never share a spline, for the screen they do if one runs smoothly into the other: the point where straight meets round is
+ * then lost, and a chord goes across it. Cubics become quads; a quad whose control point lies on its start or end is a line.
+ *
+ * So the knife needs more room: at each smooth joint of straight and round one spline more, and one End more in words and outputs. A line without length after
+ * a quad, or at a contour's start before one, has a spline too, whose End repeats the point unless a line goes on smoothly from there.
  *
  * The work tables: the quad table, as above, and the spline table of six columns, whose capacity is its shortest column. words, out_x, out_y and out_end take
  * one entry for each point; out_end is 1 at a contour's last point.

@@ -1,7 +1,9 @@
-/* Draws a belt end (a straight that runs into a half round) and a slit (a line out and the same line back), flattens them and prints their points.
- * In the knife setting the slit's far end is one of them, in the screen setting it is lost. `examples/run` builds and runs it. */
+/* Draws a belt end with cubics, a small one of lines and quads (straights that run smoothly into a round), and a slit (a line out and the same line back),
+ * flattens them and prints their points. In the knife setting the points where straight meets round are among them, and the slit's far end; in the screen
+ * setting they are lost. `examples/run` builds and runs it. */
 #include "../bindings/kermezhul.h"
 #include <stdio.h>
+#include <stdlib.h>
 
 #define POINTS 64
 #define QUADS 64
@@ -29,20 +31,28 @@ static void show(const char *name, uint32_t setting) {
     for (size_t i = 0; i < length; i++) printf("%9.4f %9.4f%s\n", out_x[i], out_y[i], end[i] == 1 ? "  end" : "");
 }
 
-int main(void) {
+static uint32_t belt_end(void) {
     uint32_t answer = kermezhul_fresh(DRAWING);
     if (answer == 0) answer = kermezhul_line_to(DRAWING, 100, 0);
     if (answer == 0) answer = kermezhul_cubic_to(DRAWING, 111.05f, 0, 120, 8.95f, 120, 20);
     if (answer == 0) answer = kermezhul_cubic_to(DRAWING, 120, 31.05f, 111.05f, 40, 100, 40);
     if (answer == 0) answer = kermezhul_line_to(DRAWING, 0, 40);
     if (answer == 0) answer = kermezhul_build(DRAWING);
-    if (answer != 0) {
-        printf("refused: %u\n", answer);
-        return 1;
-    }
-    show("belt end, knife setting", 1);
+    return answer;
+}
 
-    answer = kermezhul_fresh(DRAWING);
+static uint32_t straight_and_round(void) {
+    uint32_t answer = kermezhul_fresh(DRAWING);
+    if (answer == 0) answer = kermezhul_line_to(DRAWING, 10, 0);
+    if (answer == 0) answer = kermezhul_quad_to(DRAWING, 12, 0, 12, 2);
+    if (answer == 0) answer = kermezhul_quad_to(DRAWING, 12, 4, 10, 4);
+    if (answer == 0) answer = kermezhul_line_to(DRAWING, 0, 4);
+    if (answer == 0) answer = kermezhul_build(DRAWING);
+    return answer;
+}
+
+static uint32_t slit(void) {
+    uint32_t answer = kermezhul_fresh(DRAWING);
     if (answer == 0) answer = kermezhul_line_to(DRAWING, 10, 0);
     if (answer == 0) answer = kermezhul_line_to(DRAWING, 10, 5);
     if (answer == 0) answer = kermezhul_line_to(DRAWING, 5, 5);
@@ -50,10 +60,24 @@ int main(void) {
     if (answer == 0) answer = kermezhul_line_to(DRAWING, 10, 10);
     if (answer == 0) answer = kermezhul_line_to(DRAWING, 0, 10);
     if (answer == 0) answer = kermezhul_build(DRAWING);
-    if (answer != 0) {
-        printf("refused: %u\n", answer);
-        return 1;
-    }
+    return answer;
+}
+
+static void stop_if_refused(uint32_t answer) {
+    if (answer == 0) return;
+    printf("refused: %u\n", answer);
+    exit(1);
+}
+
+int main(void) {
+    stop_if_refused(belt_end());
+    show("belt end, knife setting", 1);
+
+    stop_if_refused(straight_and_round());
+    show("straight and round, screen setting", 0);
+    show("straight and round, knife setting", 1);
+
+    stop_if_refused(slit());
     show("slit, screen setting", 0);
     show("slit, knife setting", 1);
     return 0;

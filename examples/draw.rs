@@ -1,5 +1,6 @@
-//! Draws a belt end (a straight that runs into a half round) and a slit (a line out and the same line back), flattens them and prints their points.
-//! In the knife setting the slit's far end is one of them, in the screen setting it is lost.
+//! Draws a belt end with cubics, a small one of lines and quads (straights that run smoothly into a round), and a slit (a line out and the same line back),
+//! flattens them and prints their points. In the knife setting the points where straight meets round are among them, and the slit's far end; in the screen
+//! setting they are lost.
 //!
 //! `examples/run` builds and runs it.
 
@@ -51,6 +52,19 @@ fn main() {
         Call::Build,
     ];
     show(&belt_end, &[("belt end, knife setting", Setting::Knife)]);
+
+    let straight_and_round = [
+        Call::Line(10.0, 0.0),
+        Call::Quad([12.0, 0.0, 12.0, 2.0]),
+        Call::Quad([12.0, 4.0, 10.0, 4.0]),
+        Call::Line(0.0, 4.0),
+        Call::Build,
+    ];
+    let both = [
+        ("straight and round, screen setting", Setting::Screen),
+        ("straight and round, knife setting", Setting::Knife),
+    ];
+    show(&straight_and_round, &both);
 
     let slit = [
         Call::Line(10.0, 0.0),

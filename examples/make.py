@@ -6,8 +6,8 @@
 
 For each drawing below NAME.txt is its listing, NAME.out the program's output (by ../flatten) and NAME.svg a picture of both: the drawing as
 it is meant in brown, exact but for rational curves, which are drawn as 200 short lines, and over it the flattened points, joined as the knife
-joins them, a ring around the last point of a contour. The program has the screen setting alone, so the slit's picture has a second side, whose
-points are those of draw.out: what draw.c prints, which flattens in the knife setting by the library. Any browser shows the pictures.
+joins them, a red ring around the last point of a contour. The program has the screen setting alone, so the pictures of the drawings in TWICE have
+a second side, whose points are those of draw.out: what draw.c prints, which flattens in the knife setting by the library. Any browser shows them.
 """
 import math
 import os
@@ -53,6 +53,18 @@ DRAWINGS = {
     ],
     # a square with a slit from its right side to its middle: a line out and the same line back
     "slit": [("move", 0, 0), ("line", 10, 0), ("line", 10, 5), ("line", 5, 5), ("line", 10, 5), ("line", 10, 10), ("line", 0, 10)],
+    # a small belt end of lines and quads: each straight runs smoothly into the round
+    "straight-and-round": [("move", 0, 0), ("line", 10, 0), ("quad", 12, 0, 12, 2), ("quad", 12, 4, 10, 4), ("line", 0, 4)],
+}
+
+# the drawings that are drawn in both settings: what is said under each side, and the part that is drawn once more, enlarged (x, y, width, height)
+TWICE = {
+    "slit": (["the slit's far end is lost"], ["the slit's far end is kept"], None),
+    "straight-and-round": (
+        ["a chord where straight", "meets round (green rings)"],
+        ["a vertex where straight", "meets round (green rings)"],
+        (9.0, -0.25, 2.8, 1.1),
+    ),
 }
 
 
@@ -119,8 +131,22 @@ def extent(drawing, found):
     return min(x for x, _ in at), min(y for _, y in at), max(x for x, _ in at), max(y for _, y in at)
 
 
-def side(drawing, found, dot):
-    """The drawing and its points, where the dots have the radius dot."""
+def meetings(drawing):
+    """The points where a line and a curve follow each other."""
+    found = []
+    for (first, *v), (second, *_) in zip(drawing, drawing[1:]):
+        if "move" not in (first, second) and (first == "line") != (second == "line"):
+            last = min(len(v) // 2 * 2, 6)
+            found.append((v[last - 2], v[last - 1]))
+    return found
+
+
+def ring(x, y, dot, colour):
+    return f'<circle cx="{x:.4f}" cy="{y:.4f}" r="{2.2 * dot:.3f}" fill="none" stroke="{colour}" stroke-width="{0.6 * dot:.3f}"/>'
+
+
+def side(drawing, found, dot, ringed=()):
+    """The drawing and its points, where the dots have the radius dot; the points that are ringed get a green ring."""
     runs, run = [], []
     for x, y, end in found:
         run.append(f"{x:.4f},{y:.4f}")
@@ -135,8 +161,8 @@ def side(drawing, found, dot):
     for x, y, end in found:
         out.append(f'<circle cx="{x:.4f}" cy="{y:.4f}" r="{dot:.3f}" fill="#1d3557"/>')
         if end:
-            out.append(f'<circle cx="{x:.4f}" cy="{y:.4f}" r="{2.2 * dot:.3f}" fill="none" stroke="#c1121f" stroke-width="{0.6 * dot:.3f}"/>')
-    return out
+            out.append(ring(x, y, dot, "#c1121f"))
+    return out + [ring(x, y, dot, "#2a7d4f") for x, y in ringed]
 
 
 def label(x, y, size, text):
@@ -161,17 +187,31 @@ def picture(name, drawing, found):
     return sheet(name, left - m, top - m, right - left + 2 * m, bottom - top + 3 * m, shapes)
 
 
-def two_sides(name, drawing, sides):
-    """The drawing once for each list of points, side by side, with two lines of text under each."""
+def frame(x, y, wide, high, line):
+    return f'<rect x="{x:.3f}" y="{y:.3f}" width="{wide:.3f}" height="{high:.3f}" fill="none" stroke="#7a7a7a" stroke-width="{line:.3f}"/>'
+
+
+def two_sides(name, drawing, sides, part):
+    """The drawing once for each list of points, side by side, with lines of text under each. A part of it, if one is given, comes once more under the
+    drawing, enlarged to its width; then green rings mark where straight meets round."""
     left, top, right, bottom = extent(drawing, [p for found, _ in sides for p in found])
     wide = right - left
     m, step, shapes = wide * 0.09, wide * 1.25, []
+    dot, ringed, under = wide * 0.013, (), bottom
+    if part:
+        x, y, part_wide, part_high = part
+        dot, ringed, scale, at = wide * 0.009, meetings(drawing), wide / part_wide, bottom + 0.7 * m
+        under = at + part_high * scale
     for i, (found, lines) in enumerate(sides):
         shapes.append(f'<g transform="translate({i * step:.3f} 0)">')
-        shapes += side(drawing, found, wide * 0.013)
-        shapes += [label(left, bottom + (1.2 + 0.8 * k) * m, wide * 0.055, text) for k, text in enumerate(lines)]
+        shapes += side(drawing, found, dot, ringed)
+        if part:
+            shapes.append(frame(*part, 0.3 * dot))
+            shapes.append(f'<svg x="{left:.3f}" y="{at:.3f}" width="{wide:.3f}" height="{part_high * scale:.3f}" viewBox="{x} {y} {part_wide} {part_high}">')
+            shapes += [*side(drawing, found, dot * 1.3 / scale, ringed), "</svg>", frame(left, at, wide, part_high * scale, 0.3 * dot)]
+        shapes += [label(left, under + (1.2 + 0.8 * k) * m, wide * 0.055, text) for k, text in enumerate(lines)]
         shapes.append("</g>")
-    return sheet(name, left - m, top - m, (len(sides) - 1) * step + wide + 2 * m, bottom - top + 3.6 * m, shapes)
+    return sheet(name, left - m, top - m, (len(sides) - 1) * step + wide + 2 * m, under - top + (2 + 0.8 * len(sides[0][1])) * m, shapes)
 
 
 def read(name):
@@ -186,13 +226,14 @@ def write(folder, name, text):
 
 def drawn(name, drawing):
     found = points(read(name + ".out"))
-    if name != "slit":
+    if name not in TWICE:
         return picture(name, drawing, found)
-    kept = knife(read("draw.out"), "slit, knife setting")
+    before, after, part = TWICE[name]
+    kept = knife(read("draw.out"), name.replace("-", " ") + ", knife setting")
     return two_sides(name, drawing, [
-        (found, ["before, and still in the screen setting:", f"{len(found)} points; the slit's far end is lost"]),
-        (kept, ["after, in the knife setting:", f"{len(kept)} points; the slit's far end is kept"]),
-    ])
+        (found, ["before, and still in the screen setting:", f"{len(found)} points; {before[0]}", *before[1:]]),
+        (kept, ["after, in the knife setting:", f"{len(kept)} points; {after[0]}", *after[1:]]),
+    ], part)
 
 
 def outputs():

@@ -174,13 +174,19 @@ impl Columns<'_> {
     }
 }
 
-/// What counts as a corner. The settings differ in nothing else.
+/// What opens a spline, and so is a vertex of the cut. The settings differ in nothing else.
 #[derive(Clone, Copy, Debug, PartialEq, Eq)]
 pub enum Setting {
     /// A line without length forgets the direction before it, so that a corner at a doubled point is lost. A reversal of direction is no corner, so that a
-    /// line out and the same line back lose their far end.
+    /// line out and the same line back lose their far end. A straight that runs smoothly into a round shares its spline, so that the point where they meet
+    /// is lost, and a chord goes across it.
     Screen,
-    /// A line without length keeps the direction before it. A reversal of direction is a corner: a line out and the same line back keep their far end.
+    /// A line without length keeps the direction before it. A reversal of direction is a corner: a line out and the same line back keep their far end. A line
+    /// and a quad never share a spline, so that the point where straight meets round is a vertex. Cubics become quads; a quad whose control point lies on its
+    /// start or end is a line.
+    ///
+    /// So more room is needed: at each smooth joint of straight and round one spline more in [`Splines`], and one End more in [`Output`]. A line without
+    /// length after a quad, or at a contour's start before one, has a spline too, whose End repeats the point unless a line goes on smoothly from there.
     Knife,
 }
 

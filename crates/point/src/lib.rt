@@ -23,7 +23,8 @@ pub struct Point {
     pub y: f32,
 }
 
-// The screen setting is the Rust's. In the knife setting a line without angle keeps the last angle, and a reversal is a corner.
+// The screen setting is the Rust's. In the knife setting a line without angle keeps the last angle, a reversal is a corner,
+// and a line and a quad never share a spline.
 pub enum Setting {
     Screen,
     Knife,
