@@ -82,6 +82,9 @@ pub const KIND_IN_CUBIC: usize = 35;
 pub const KIND_DROPPED: usize = 36;
 pub const JOINED_DROPPED: usize = 37;
 
+/// What no drawing does.
+pub const NEVER: [usize; 2] = [NOT_FINITE, SCREEN_ONLY];
+
 thread_local!(static COUNTS: RefCell<[u64; NAMES.len()]> = const { RefCell::new([0; NAMES.len()]) });
 
 pub fn count(i: usize) {

@@ -824,6 +824,18 @@ mod tests {
     }
 
     #[test]
+    fn a_cubic_is_split_by_a_piece_that_is_a_line() {
+        // four pieces: a quad and a line out, a line and a quad back
+        let calls = [Call::Cubic(p(50.0, 0.0), p(50.0, 0.0), p(0.0, 0.0))];
+        knife_gives(
+            &calls,
+            &[0x7f80_0000, 0x3f80_0000, 0xff80_0000, 0xff80_0001, 0xff80_0002, 0x3f80_0000, 0xffc0_0003],
+            &[0.0, 16.406_25f32, 28.125, 37.5, 28.125, 16.406_25, 0.0].map(f32::to_bits),
+            &[0; 7],
+        );
+    }
+
+    #[test]
     fn seven_where_the_kind_opens_a_spline() {
         let (st, c) = drawn(&[Call::Line(p(4.0, 0.0)), Call::Quad(p(5.0, 0.0), p(5.0, 1.0))]).unwrap();
         for (setting, answer) in [(Setting::Screen, 0), (Setting::Knife, 7)] {
