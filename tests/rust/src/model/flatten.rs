@@ -596,6 +596,21 @@ fn parted(splines: &[Spline], quads: &[Quad]) -> bool {
     })
 }
 
+/// No line is in a spline with quads: it begins where its first quad does and ends where its last one does, bit for bit. The others have no quad.
+fn apart(splines: &[Spline], quads: &[Quad]) -> bool {
+    let same = |a: P, b: P| (a.x.to_bits(), a.y.to_bits()) == (b.x.to_bits(), b.y.to_bits());
+    let mut end = 0;
+    splines.iter().all(|s| {
+        let own = &quads[end..end + s.quads];
+        end += s.quads;
+        match (s.kind, own) {
+            (Kind::Straight, []) => true,
+            (Kind::Round, [first, ..]) => same(s.start, first.points[0].applied()) && same(s.end, own[own.len() - 1].points[2].applied()),
+            _ => false,
+        }
+    })
+}
+
 fn step_point(quads: &[Quad], size: f32, p: usize, i: usize) -> P {
     count(cover::STEP);
     let q = &quads[i];
@@ -693,9 +708,7 @@ pub fn flatten_with(pieces: Pieces, setting: Setting, st: State, c: &Columns, q:
     if n > o.room() as u64 {
         return Flattened { answer: 9, ..counts };
     }
-    if setting == Setting::Knife {
-        assert!(splines.iter().all(|s| (s.kind == Kind::Round) == (s.quads > 0)), "a line and a quad share a spline");
-    }
+    assert!(setting == Setting::Screen || apart(&splines, &quads), "a line and a quad share a spline");
     let items = walk(&splines, &quads);
     assert_eq!(items.len() as u64, n);
     for (i, item) in items.iter().enumerate() {
