@@ -1,7 +1,7 @@
 //! Copies the original Rust to OUT_DIR, unchanged, and adds to `path.rs` a child module that reaches its private items.
 //! Parts of that module are cut out of the Rust's own text, so that nothing is imitated: the loop of `PathData::segments` over the
-//! commands, how `push_cubic` counts its pieces, and how two angles are compared. `path_knife.rs` is the same text with two places changed: one statement of
-//! `push_line`, and the difference of two angles.
+//! commands, how `push_cubic` counts its pieces, and how two angles are compared. `path_knife.rs` is the same text with three things changed: one statement of
+//! `push_line`, the difference of two angles, and that a line and a quad never share a spline.
 
 use std::{env, fs, path::PathBuf};
 
@@ -48,6 +48,42 @@ const FULL: &str = "
                 }
 ";
 
+/// `last_spline_or_insert_with` is told whether a quad or a line calls it, and asks for a new spline where the last one is of the other kind: a spline's curvature
+/// is 0 exactly while it has no quad. Each change has where it begins and ends, the Rust's text and the knife's.
+const KINDS: [[&str; 4]; 4] = [
+    [
+        "impl Primitives {",
+        "where",
+        "
+        point: Point,
+        f: F,
+",
+        "
+        point: Point,
+        round: bool,
+        f: F,
+",
+    ],
+    [
+        "fn last_spline_or_insert_with<F>",
+        "pub fn push_contour(",
+        "spline.new_spline_needed(angle_changed, point)",
+        "spline.new_spline_needed(angle_changed || round != (spline.curvature != 0.0), point)",
+    ],
+    [
+        "pub fn push_line(",
+        "pub fn push_quad(",
+        "self.last_spline_or_insert_with(angle, p0, |contour| Spline {",
+        "self.last_spline_or_insert_with(angle, p0, false, |contour| Spline {",
+    ],
+    [
+        "pub fn push_quad(",
+        "pub fn push_cubic(",
+        "self.last_spline_or_insert_with(in_angle, p0, |contour| Spline {",
+        "self.last_spline_or_insert_with(in_angle, p0, true, |contour| Spline {",
+    ],
+];
+
 fn main() {
     let here = PathBuf::from(env::var("CARGO_MANIFEST_DIR").unwrap());
     // real_rayon/ is a folder deeper
@@ -73,16 +109,18 @@ fn main() {
 
     let path = read("path.rs");
     let probe = fs::read_to_string(tests.join("src/probe.txt")).unwrap();
-    let with_probe = |text: &str| {
+    // `line` is what a line tells `last_spline_or_insert_with` of itself
+    let with_probe = |text: &str, line: &str| {
         let commands = between(text, "pub fn segments(&mut self)", "if self.segments.is_none() {", "self.segments = Some(");
         let pieces = between(text, "pub fn push_cubic(", "{", "let incr = ");
         let difference = between(text, "fn diff(a0: f32, a1: f32) -> f32", "{", "\n            }");
-        let probe = probe.replace("/*COMMANDS*/", commands).replace("/*PIECES*/", pieces).replace("/*DIFFERENCE*/", difference);
+        let probe = probe.replace("/*COMMANDS*/", commands).replace("/*PIECES*/", pieces).replace("/*DIFFERENCE*/", difference).replace("/*LINE*/", line);
         format!("{text}\n{probe}")
     };
-    fs::write(out.join("path.rs"), with_probe(&path)).unwrap();
+    fs::write(out.join("path.rs"), with_probe(&path, "")).unwrap();
 
     let knife = changed(&path, "pub fn push_line(", "pub fn push_quad(", "self.last_angle = angle;", "self.last_angle = angle.or(self.last_angle);");
     let knife = changed(&knife, "fn diff(a0: f32, a1: f32) -> f32", "let angle_changed = ", FOLDED, FULL);
-    fs::write(out.join("path_knife.rs"), with_probe(&knife)).unwrap();
+    let knife = KINDS.iter().fold(knife, |text, [from, to, old, new]| changed(&text, from, to, old, new));
+    fs::write(out.join("path_knife.rs"), with_probe(&knife, "false,")).unwrap();
 }

@@ -41,6 +41,7 @@ pub struct Counts {
     pub refused: [u64; 12],
     pub calls: u64,
     pub points: u64,
+    pub screen_points: u64,
     pub settings_differ: u64,
     pub mismatches: u64,
 }
@@ -174,6 +175,9 @@ fn compare_flattenings(
         let seen = see[i]();
         same_flattening(f, room, &seen).map_err(|e| format!("{setting:?}: {e}"))?;
         n.points += f.points as u64;
+        if setting == Setting::Screen {
+            n.screen_points += f.points as u64;
+        }
         if !differ {
             match setting {
                 Setting::Screen => n.screen += 1,

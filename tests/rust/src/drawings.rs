@@ -6,7 +6,7 @@ use crate::{
     seen::Store,
 };
 
-pub const KINDS: [&str; 15] = [
+pub const KINDS: [&str; 16] = [
     "whole numbers",
     "numbers to 100",
     "huge numbers",
@@ -22,7 +22,11 @@ pub const KINDS: [&str; 15] = [
     "rounded shapes",
     "steps about a tenth of 0.0625",
     "slits and turns across ±π",
+    "joints of straight and round",
 ];
+
+/// The kind with joints of straight and round, the last one.
+pub const JOINTS: usize = 15;
 
 /// A random kind: those with very many points come an eighth as often as the others.
 pub fn kind(rng: &mut Rng) -> usize {
@@ -47,6 +51,7 @@ pub fn random(rng: &mut Rng, k: usize) -> Vec<Call> {
         10 => smooth(rng),
         12 => rounded(rng),
         14 => out_and_back(rng),
+        JOINTS => straight_and_round(rng),
         _ => mixed(rng, k),
     }
 }
@@ -359,6 +364,83 @@ fn out_and_back(rng: &mut Rng) -> Vec<Call> {
     calls
 }
 
+/// Lines, quads and cubics that mostly go on in the direction before them, so that only their kinds part them: with lines without length, quads that are lines,
+/// straight or dropped, and cubics so small that some of their pieces are lines.
+fn straight_and_round(rng: &mut Rng) -> Vec<Call> {
+    use std::f64::consts::FRAC_PI_4;
+    let mut at = if rng.one_in(2) { p(0.0, 0.0) } else { p(coordinate(rng, 1), coordinate(rng, 1)) };
+    let mut calls = vec![Call::Move(at)];
+    let mut angle = if rng.one_in(2) { FRAC_PI_4 * rng.below(8) as f64 } else { rng.between(0.0, 7.0) };
+    let scale = rng.pick(&[0.05, 1.0, 10.0, 300.0]);
+    let go = |at: P, angle: f64, len: f64| p((at.x as f64 + len * angle.cos()) as f32, (at.y as f64 + len * angle.sin()) as f32);
+    for _ in 0..2 + rng.below(16) {
+        angle += match rng.below(12) {
+            0 => rng.between(-0.0015, 0.0015),
+            1 => rng.between(-3.2, 3.2),
+            _ => 0.0,
+        };
+        let l = scale * rng.between(0.1, 1.0);
+        let next = go(at, angle, l);
+        let bend = rng.between(-1.5, 1.5);
+        match rng.below(16) {
+            0..=3 => {
+                calls.push(Call::Line(next));
+                at = next;
+            }
+            // without length, or about 2^-23 long
+            4 => calls.push(Call::Line(at)),
+            5 => {
+                at = p(at.x + f32::EPSILON * rng.between(-1.5, 1.5) as f32, at.y);
+                calls.push(Call::Line(at));
+            }
+            6..=8 => {
+                angle += bend;
+                at = go(next, angle, l);
+                calls.push(if rng.one_in(5) { Call::RatQuad(next, at, weight(rng)) } else { Call::Quad(next, at) });
+            }
+            9 => {
+                at = go(next, angle, l * rng.between(0.2, 2.0));
+                calls.push(Call::Quad(next, at));
+            }
+            10 => {
+                calls.push(if rng.one_in(2) { Call::Quad(at, next) } else { Call::Quad(next, next) });
+                at = next;
+            }
+            11 => calls.push(if rng.one_in(3) { Call::RatQuad(at, at, weight(rng)) } else { Call::Quad(at, at) }),
+            12 => {
+                let a = next;
+                let b = go(a, angle + bend, l);
+                angle += 2.0 * bend;
+                at = go(b, angle, l);
+                calls.push(if rng.one_in(5) { Call::RatCubic(a, b, at, weight(rng), weight(rng)) } else { Call::Cubic(a, b, at) });
+            }
+            13 => {
+                let tiny = |rng: &mut Rng| go(at, angle + if rng.one_in(2) { 0.0 } else { bend }, 0.01 * l * rng.unit());
+                let (a, b, c) = (tiny(rng), tiny(rng), tiny(rng));
+                calls.push(Call::RatCubic(a, b, c, rng.pick(&[1.0, 8.0, 64.0]), rng.pick(&[1.0, 16.0, 64.0])));
+                at = c;
+            }
+            14 if rng.one_in(3) => {
+                // to where it is, or elsewhere
+                at = if rng.one_in(2) { at } else { go(next, angle, l) };
+                calls.push(Call::Move(at));
+            }
+            14 if rng.one_in(3) => {
+                calls.push(Call::Build);
+                at = calls.iter().rev().find_map(|c| if let Call::Move(a) = c { Some(*a) } else { None }).unwrap();
+            }
+            _ => {
+                calls.push(Call::Line(next));
+                at = next;
+            }
+        }
+    }
+    if !rng.one_in(5) {
+        calls.push(Call::Build);
+    }
+    calls
+}
+
 /// Straight quads of length 1 in a row: the sum 65,536 is accepted, one quad more gives answer 8. Too long for the fixed lists.
 pub fn long_rows() -> Vec<Vec<Call>> {
     let row = |n: u16| (0..n).map(|i| Call::Quad(p(i as f32 + 0.5, 0.0), p(i as f32 + 1.0, 0.0))).collect();
@@ -372,10 +454,11 @@ fn add_both(out: &mut Vec<Vec<Call>>, calls: Vec<Call>) {
     out.push(built);
 }
 
-/// Drawings made for one rule each, and the slits.
+/// Drawings made for one rule each, the slits, and the joints of straight and round.
 pub fn directed() -> Vec<Vec<Call>> {
     let mut out = by_rule();
     out.extend(slits());
+    out.extend(joints());
     out
 }
 
@@ -593,6 +676,113 @@ pub fn slits() -> Vec<Vec<Call>> {
             add(vec![Line(p(-10.0, 0.0)), Line(p(-20.0, -y)), Line(p(-30.0, 0.0))]);
             add(vec![Quad(p(-5.0, 0.5 * y), p(-10.0, y)), Quad(p(-15.0, 0.5 * y), p(-20.0, 0.0))]);
             add(vec![Cubic(p(-5.0, 0.0), p(-10.0, y), p(-20.0, y)), Cubic(p(-30.0, y), p(-35.0, 0.0), p(-40.0, 0.0))]);
+        }
+    }
+    out
+}
+
+/// Joints of straight and round: lines that run smoothly into quads and back, and all that counts as one or the other. The first are the examples.
+pub fn joints() -> Vec<Vec<Call>> {
+    use Call::*;
+    let mut out: Vec<Vec<Call>> = Vec::new();
+    let mut add = |calls: Vec<Call>| add_both(&mut out, calls);
+    add(vec![Line(p(4.0, 0.0)), Quad(p(5.0, 0.0), p(5.0, 1.0))]);
+    add(vec![Line(p(10.0, 0.0)), Quad(p(12.0, 0.0), p(12.0, 2.0)), Quad(p(12.0, 4.0), p(10.0, 4.0)), Line(p(0.0, 4.0))]);
+    // out and back along a line: of its four pieces the two that meet at the far end are lines
+    add(vec![Cubic(p(50.0, 0.0), p(50.0, 0.0), p(0.0, 0.0))]);
+    // what goes on straight from 10 to 20, between a line or a quad before and a line or a quad after
+    let x = |t: f32| p(t, 0.0);
+    let between: [&[Call]; 14] = [
+        &[Line(x(20.0))],
+        &[Quad(x(15.0), x(20.0))],
+        &[Line(x(10.0)), Line(x(20.0))],
+        &[Line(x(10.0)), Quad(x(15.0), x(20.0))],
+        &[Line(x(20.0)), Line(x(20.0))],
+        &[Quad(x(15.0), x(20.0)), Line(x(20.0))],
+        &[Quad(x(10.0), x(10.0)), Line(x(20.0))],
+        &[Quad(x(10.0), x(10.0)), Quad(x(15.0), x(20.0))],
+        &[Line(x(20.0)), Quad(x(20.0), x(20.0))],
+        &[Quad(x(15.0), x(20.0)), Quad(x(20.0), x(20.0)), Quad(x(20.0), x(20.0))],
+        &[Quad(x(10.0), x(20.0))],
+        &[Quad(x(20.0), x(20.0))],
+        &[Cubic(x(13.0), x(17.0), x(20.0))],
+        &[RatQuad(x(10.0), x(20.0), 2.0), Move(x(20.0))],
+    ];
+    for middle in between {
+        for before in [&[Line(x(10.0))][..], &[Quad(x(5.0), x(10.0))]] {
+            for after in [&[Line(x(30.0))][..], &[Quad(x(25.0), x(30.0))], &[Quad(x(30.0), p(30.0, 10.0)), Line(p(30.0, 20.0))]] {
+                add([before, middle, after].concat());
+            }
+        }
+    }
+
+    let slanted = [(3.0f32, 4.0f32), (-7.0, 2.0), (0.3, -0.9), (-1.0, 0.0001)];
+    let straight = [(1.0f32, 0.0f32), (0.0, 1.0), (-1.0, 0.0), (0.0, -1.0), (1.0, 1.0), (-1.0, 1.0)];
+    for (x, y) in straight.into_iter().chain(slanted) {
+        for r in [0.1f32, 1.0, 10.0, 777.7] {
+            let on = |t: f32, u: f32| p(r * (t * x - u * y), r * (t * y + u * x));
+            let at = |t: f32| on(t, 0.0);
+            // straight into round, and back
+            add(vec![Line(at(1.0)), Quad(at(2.0), on(2.0, 1.0))]);
+            add(vec![Quad(at(1.0), on(1.0, 1.0)), Line(on(1.0, 2.0))]);
+            add(vec![Line(at(1.0)), Quad(at(2.0), on(2.0, 1.0)), Line(on(2.0, 2.0)), Quad(on(2.0, 3.0), on(1.0, 3.0)), Line(on(0.0, 3.0))]);
+            add(vec![Quad(at(1.0), on(1.0, 1.0)), Line(on(1.0, 2.0)), Quad(on(1.0, 3.0), on(2.0, 3.0))]);
+            add(vec![Line(at(1.0)), Cubic(at(1.6), on(2.0, 0.4), on(2.0, 1.0)), Line(on(2.0, 2.0))]);
+            add(vec![Line(at(1.0)), RatQuad(at(2.0), on(2.0, 1.0), std::f32::consts::FRAC_1_SQRT_2), Line(on(2.0, 2.0))]);
+            // belt ends and stadiums, by quads, rational quads and cubics
+            let half = |how: u32, t: f32, u: f32, s: f32| {
+                let (k, w) = (0.552_284_75f32, std::f32::consts::FRAC_1_SQRT_2);
+                match how {
+                    0 => vec![Quad(on(t + s, u), on(t + s, u + s)), Quad(on(t + s, u + 2.0 * s), on(t, u + 2.0 * s))],
+                    1 => vec![RatQuad(on(t + s, u), on(t + s, u + s), w), RatQuad(on(t + s, u + 2.0 * s), on(t, u + 2.0 * s), w)],
+                    _ => vec![
+                        Cubic(on(t + k * s, u), on(t + s, u + s - k * s), on(t + s, u + s)),
+                        Cubic(on(t + s, u + s + k * s), on(t + k * s, u + 2.0 * s), on(t, u + 2.0 * s)),
+                    ],
+                }
+            };
+            for how in 0..3 {
+                add([vec![Line(at(5.0))], half(how, 5.0, 0.0, 1.0), vec![Line(on(0.0, 2.0))]].concat());
+                add([vec![Line(at(5.0))], half(how, 5.0, 0.0, 1.0), vec![Line(on(0.0, 2.0))], half(how, 0.0, 2.0, -1.0)].concat());
+                // with a doubled point at each joint
+                add([vec![Line(at(5.0)), Line(at(5.0))], half(how, 5.0, 0.0, 1.0), vec![Line(on(5.0, 2.0)), Line(on(0.0, 2.0))]].concat());
+                add([vec![Line(at(5.0)), Quad(at(5.0), at(5.0))], half(how, 5.0, 0.0, 1.0), vec![Quad(on(5.0, 2.0), on(5.0, 2.0)), Line(on(0.0, 2.0))]].concat());
+            }
+            // cubics out and back along a line, some of 2, 4, 6 and 8 pieces, of which the middle ones are lines
+            for far in [5.0, 50.0, 250.0, 600.0] {
+                let (a, b) = (at(far / r), at(-1.0));
+                add(vec![Cubic(a, a, at(0.0))]);
+                add(vec![Move(b), Line(at(0.0)), Cubic(a, a, at(0.0)), Line(b)]);
+                add(vec![Move(b), Quad(at(-0.5), at(0.0)), Cubic(a, a, at(0.0)), Quad(at(-0.5), b), Cubic(b, b, b)]);
+            }
+            // after a Move the mark opens, whatever the last spline was of
+            for (a, b) in [(Line(at(1.0)), Quad(at(0.5), at(1.0))), (Quad(at(0.5), at(1.0)), Line(at(1.0)))] {
+                for next in [[Line(at(2.0)), Line(at(3.0))], [Quad(at(1.5), at(2.0)), Quad(at(2.5), at(3.0))], [Line(at(2.0)), Quad(at(2.5), at(3.0))]] {
+                    add(vec![a, Move(at(1.0)), next[0], next[1]]);
+                    add(vec![b, Move(at(1.0)), Move(at(1.0)), Quad(at(1.0), at(1.0)), next[0], next[1]]);
+                    add(vec![a, Build, Move(at(1.0)), Line(at(1.0)), next[0], next[1], b]);
+                }
+            }
+            // lines about 2^-23 long after a quad, and quads one of whose legs is as short
+            for e in [0.5, 1.0, 1.5] {
+                let q = |t: f32| p(at(t).x + e * f32::EPSILON, at(t).y);
+                add(vec![Quad(at(-0.5), at(0.0)), Line(q(0.0)), Line(at(1.0))]);
+                add(vec![Line(at(-1.0)), Line(at(0.0)), Quad(q(0.0), at(1.0)), Quad(at(1.5), at(2.0))]);
+            }
+        }
+    }
+    // a few of the small cubics of which some pieces are lines, near 0 and far from it, with a line or a quad on either side
+    let mut rng = Rng(2);
+    for from in [p(0.0, 0.0), p(1.0, 1.0), p(1000.0, 3.0), p(50_000.0, -40_000.0)] {
+        for _ in 0..60 {
+            let size = 2f32.powi(-(rng.below(14) as i32)) * 0.1;
+            let near = |rng: &mut Rng| p(from.x + size * rng.below(9) as f32, from.y + if rng.one_in(2) { 0.0 } else { size * rng.below(9) as f32 });
+            let (a, b, c) = (near(&mut rng), near(&mut rng), near(&mut rng));
+            let cubic = RatCubic(if rng.one_in(3) { from } else { a }, if rng.one_in(3) { a } else { b }, c, rng.pick(&[1.0, 64.0]), rng.pick(&[8.0, 64.0]));
+            let before = p(from.x - 2.0, from.y);
+            let after = p(c.x + 2.0, c.y);
+            add(vec![Move(before), Line(from), cubic, Line(after)]);
+            add(vec![Move(before), Quad(p(from.x - 1.0, from.y), from), cubic, Quad(p(c.x + 1.0, c.y), after)]);
         }
     }
     out

@@ -1,11 +1,11 @@
-//! Compares the model with the original on directed and random drawings. Its status is not 0 on any mismatch.
+//! Compares the model with the original on directed and random drawings. Its status is not 0 on any mismatch, nor if a rule decided nothing.
 //!
 //! compare [DRAWINGS [SEED]], or the variables KERMEZHUL_DRAWINGS and KERMEZHUL_SEED.
 
 use against_rust::{
     number,
     against::{compare_drawing, compare_store, Counts, Room},
-    drawings::{by_hand, directed, kind, long_rows, random, rational_difference, DIFFERENT, KINDS},
+    drawings::{by_hand, directed, kind_below, long_rows, random, rational_difference, DIFFERENT, JOINTS, KINDS},
     call::{p, Call},
     model::{self, cover, flatten::{exact_pieces, pieces_of}},
     original::screen,
@@ -41,7 +41,8 @@ fn main() {
     }
 
     let directed = directed();
-    println!("{} directed drawings, {drawings} random ones, seed {seed}", directed.len());
+    let joints = drawings / 8;
+    println!("{} directed drawings, {drawings} random ones and {joints} with joints of straight and round, seed {seed}", directed.len());
     for calls in &directed {
         tell(compare_drawing(calls, true, &mut room, &mut n));
     }
@@ -59,9 +60,15 @@ fn main() {
             tell(compare_store(&store, &calls, &mut room, &mut n));
             continue;
         }
-        let k = kind(&mut rng);
+        let k = kind_below(&mut rng, JOINTS);
         by_kind[k] += 1;
         let calls = random(&mut rng, k);
+        tell(compare_drawing(&calls, i % 64 == 0, &mut room, &mut n));
+    }
+    // they come last, so that the random ones before are the same as without them
+    for i in 0..joints {
+        by_kind[JOINTS] += 1;
+        let calls = random(&mut rng, JOINTS);
         tell(compare_drawing(&calls, i % 64 == 0, &mut room, &mut n));
     }
     for (name, count) in KINDS.iter().zip(by_kind) {
@@ -69,21 +76,27 @@ fn main() {
     }
     println!("{:9}  stores made by hand", n.by_hand);
     println!("what decided in the model (screen and knife together):");
-    for (name, count) in cover::NAMES.iter().zip(cover::counts()) {
+    let mut unmet = 0;
+    for (i, (name, count)) in cover::NAMES.iter().zip(cover::counts()).enumerate() {
         println!("{count:11}  {name}");
+        // the directed drawings meet each but one
+        if i != cover::MINUS0 && (count == 0) != cover::NEVER.contains(&i) {
+            println!("UNMET {name}: {count}");
+            unmet += 1;
+        }
     }
     for (answer, count) in n.refused.iter().enumerate().filter(|(_, c)| **c > 0) {
         println!("{count:9}  flattenings that the port refuses with {answer}, and the original does not");
     }
     println!("{:9}  drawings by calls ({} calls), {} stores made by hand", n.drawings, n.calls, n.by_hand);
     println!("{:9}  compared whole in the screen setting, {} in the knife setting; {} of them with other words in the knife setting", n.screen, n.knife, n.settings_differ);
-    println!("{:9}  points compared", n.points);
+    println!("{:9}  points compared, {} of them in the screen setting", n.points, n.screen_points);
     println!(
         "{:9}  cubics, {} of them cut differently ({} into more pieces than the original, {} into fewer), in {} drawings",
         n.cubics, n.differing_cubics, n.more, n.fewer, n.differing_drawings
     );
     println!("{:9}  mismatches, in {:.1} s", n.mismatches, start.elapsed().as_secs_f64());
-    if n.mismatches > 0 {
+    if n.mismatches > 0 || unmet > 0 {
         std::process::exit(1);
     }
 }

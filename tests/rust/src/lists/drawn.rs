@@ -4,7 +4,7 @@ use super::row;
 use crate::{
     against::{compare_drawing, drawn, Counts, Room},
     call::{p, Call, P},
-    drawings::{by_rule, kind, kind_below, random, slits},
+    drawings::{by_rule, joints, kind, kind_below, random, slits},
     model::{cover, flatten::{exact_pieces, pieces_of}, QUAD_ROW},
     original::{knife, screen},
     rng::Rng,
@@ -76,6 +76,10 @@ struct Limits {
 const SMALL: Limits = Limits { points: 40, quads: 10, words: 40 };
 const LARGE: Limits = Limits { points: 200, quads: 126, words: 1000 };
 
+/// As many drawings from the first on, and the joints after them, are flattened with full columns: with those in the knife setting between them they are FULL of
+/// `flatten_cases`.
+const FULL: usize = 240;
+
 fn fits(calls: &[Call], l: &Limits) -> bool {
     let Ok((st, c)) = drawn(calls) else { return false };
     if st.points > l.points {
@@ -125,7 +129,7 @@ pub fn fixed() -> String {
         compare_drawing(&calls, true, &mut room, &mut n).expect("the model agrees");
         let after = cover::counts();
         let decided: Vec<usize> = (0..after.len()).filter(|i| after[*i] > before[*i]).collect();
-        // the knife's difference of angles chooses none here: its drawings come last
+        // the knife's rules choose none here: their drawings are chosen last
         if always || decided.iter().any(|i| *i < cover::SLIT && seen_often[*i] < often) {
             for i in decided {
                 seen_often[i] += 1;
@@ -155,6 +159,11 @@ pub fn fixed() -> String {
     }
     // the first slits are examples; 151 is odd too. They are listed in the knife setting alone
     let slits = slits().into_iter().enumerate().filter(|(i, calls)| consider(calls.clone(), *i < 8 || i % 151 == 0, &SMALL, 0)).count();
+    // joints of straight and round, in both settings. They are chosen last, so that the others stay, and listed among those that are flattened with full columns
+    let of_joints = |i: usize| i < 6 || i < 174 && i % 7 == 0 || i % 151 == 0;
+    let joints = joints().into_iter().enumerate().filter(|(i, calls)| consider(calls.clone(), of_joints(*i), &SMALL, 0)).count();
+    let last = chosen.split_off(chosen.len() - joints);
+    chosen.splice(FULL..FULL, last);
 
     let mut text = String::new();
     let (mut screens, mut knives) = (0, 0);
@@ -162,16 +171,21 @@ pub fn fixed() -> String {
         let store = screen::store(calls);
         let [a, b] = [screen::flatten(calls), knife::flatten(calls)];
         let slit = i + slits >= chosen.len();
+        let joint = (FULL..FULL + joints).contains(&i);
         if !slit {
             drawing(&mut text, 0, calls, &store, &a);
             screens += 1;
         }
-        if slit || a.words != b.words {
+        if slit || joint || a.words != b.words {
             drawing(&mut text, 1, calls, &store, &b);
             knives += 1;
         }
+        if i + 1 == FULL + joints {
+            println!("the first {} drawings, {screens} of them in the screen setting, are flattened with full columns", screens + knives);
+        }
     }
     println!("{} drawings for flatten_cases, {screens} in the screen setting and {knives} in the knife setting", screens + knives);
+    println!("{joints:6} drawings  joints of straight and round, in both settings");
     println!("{slits:6} drawings  slits and turns across ±π");
     for (name, often) in cover::NAMES.iter().zip(seen_often) {
         println!("{often:6} drawings  {name}");

@@ -2,7 +2,7 @@
 
 use std::cell::RefCell;
 
-pub const NAMES: [&str; 31] = [
+pub const NAMES: [&str; 38] = [
     "splines opened by a contour mark",
     "splines opened by an angle",
     "splines opened by a gap",
@@ -34,6 +34,13 @@ pub const NAMES: [&str; 31] = [
     "turns of the knife where 2π less the turn is the smaller one",
     "  of them no change",
     "turns that are a change for the screen and none for the knife",
+    "splines of the knife opened by the other kind alone",
+    "  of them by a line after a quad",
+    "  of them by a quad after a line",
+    "  of them by a line without an angle",
+    "  of them between two pieces of a cubic",
+    "  of them after a dropped quad",
+    "primitives of the knife joined to a spline after a dropped quad",
 ];
 
 pub const MARK: usize = 0;
@@ -67,13 +74,23 @@ pub const SLIT: usize = 27;
 pub const AROUND: usize = 28;
 pub const ACROSS: usize = 29;
 pub const SCREEN_ONLY: usize = 30;
+pub const KIND: usize = 31;
+pub const LINE_AFTER_QUAD: usize = 32;
+pub const QUAD_AFTER_LINE: usize = 33;
+pub const KIND_NO_ANGLE: usize = 34;
+pub const KIND_IN_CUBIC: usize = 35;
+pub const KIND_DROPPED: usize = 36;
+pub const JOINED_DROPPED: usize = 37;
 
-thread_local!(static COUNTS: RefCell<[u64; 31]> = const { RefCell::new([0; 31]) });
+/// What no drawing does.
+pub const NEVER: [usize; 2] = [NOT_FINITE, SCREEN_ONLY];
+
+thread_local!(static COUNTS: RefCell<[u64; NAMES.len()]> = const { RefCell::new([0; NAMES.len()]) });
 
 pub fn count(i: usize) {
     COUNTS.with(|c| c.borrow_mut()[i] += 1);
 }
 
-pub fn counts() -> [u64; 31] {
+pub fn counts() -> [u64; NAMES.len()] {
     COUNTS.with(|c| *c.borrow())
 }

@@ -204,8 +204,16 @@ fn inv_curvature(k: f32) -> f32 {
     k * (1.0 - c + (k * k).mul_add(0.25, c * c).sqrt())
 }
 
+/// What opened a spline. A quad that is treated as a line is straight; a quad whose own curvature is replaced by 2 is round.
+#[derive(Clone, Copy, Debug, PartialEq, Eq)]
+enum Kind {
+    Straight,
+    Round,
+}
+
 #[derive(Clone, Copy, Debug)]
 struct Spline {
+    kind: Kind,
     sum: f32,
     start: P,
     end: P,
@@ -287,11 +295,14 @@ struct Run {
     splines: Vec<Spline>,
     quads: Vec<Quad>,
     pieces: Pieces,
+    /// only for counting: a dropped quad comes right before, and how many pieces of the present cubic were taken
+    after_dropped: bool,
+    in_cubic: Option<u64>,
 }
 
 impl Run {
-    /// Whether a primitive that starts here in this direction opens a spline.
-    fn opens(&self, direction: Option<f32>, start: P) -> bool {
+    /// Whether a primitive of this kind that starts here in this direction opens a spline.
+    fn opens(&self, kind: Kind, direction: Option<f32>, start: P) -> bool {
         if self.mark {
             count(cover::MARK);
             return true;
@@ -308,18 +319,38 @@ impl Run {
             count(cover::GAP);
             return true;
         }
+        // "In the knife setting a line and a quad must never share a spline."
+        if self.setting == Setting::Knife && self.splines.last().unwrap().kind != kind {
+            count(cover::KIND);
+            count(if kind == Kind::Straight { cover::LINE_AFTER_QUAD } else { cover::QUAD_AFTER_LINE });
+            if direction.is_none() {
+                count(cover::KIND_NO_ANGLE);
+            }
+            if self.in_cubic.is_some_and(|taken| taken > 0) {
+                count(cover::KIND_IN_CUBIC);
+            }
+            if self.after_dropped {
+                count(cover::KIND_DROPPED);
+            }
+            return true;
+        }
         count(cover::JOINED);
+        if self.setting == Setting::Knife && self.after_dropped {
+            count(cover::JOINED_DROPPED);
+        }
         false
     }
 
     /// Opens a spline, or goes on with the last.
-    fn take(&mut self, opens: bool, start: P, end: P) {
+    fn take(&mut self, kind: Kind, opens: bool, start: P, end: P) {
+        self.after_dropped = false;
+        self.in_cubic = self.in_cubic.map(|taken| taken + 1);
         if opens {
             if !self.mark {
                 self.splines.last_mut().unwrap().flag = false;
             }
             self.mark = false;
-            self.splines.push(Spline { sum: 0.0, start, end, flag: true, quads: 0 });
+            self.splines.push(Spline { kind, sum: 0.0, start, end, flag: true, quads: 0 });
         } else {
             self.splines.last_mut().unwrap().end = end;
         }
@@ -328,11 +359,11 @@ impl Run {
     fn line(&mut self, a: W, b: W) -> Result<(), u8> {
         let (start, end) = (a.applied(), b.applied());
         let own = angle(minus(end, start));
-        let opens = self.opens(own, start);
+        let opens = self.opens(Kind::Straight, own, start);
         if opens && self.splines.len() >= self.spline_room {
             return Err(7);
         }
-        self.take(opens, start, end);
+        self.take(Kind::Straight, opens, start, end);
         if own.is_none() {
             count(cover::NO_ANGLE);
             if self.last.is_some() {
@@ -355,6 +386,7 @@ impl Run {
         match (into, out) {
             (None, None) => {
                 count(cover::DROPPED);
+                self.after_dropped = true;
                 return Ok(());
             }
             (None, _) | (_, None) => {
@@ -379,7 +411,7 @@ impl Run {
             count(cover::CURVED);
         }
 
-        let opens = self.opens(into, p0);
+        let opens = self.opens(Kind::Round, into, p0);
         let before = if opens { 0.0 } else { self.splines.last().unwrap().sum };
         let sum = before + own;
         if self.quads.len() >= self.quad_room {
@@ -391,7 +423,7 @@ impl Run {
         if !(sum <= 65_536.0) {
             return Err(8);
         }
-        self.take(opens, p0, p2);
+        self.take(Kind::Round, opens, p0, p2);
         let n = self.splines.len();
         let spline = &mut self.splines[n - 1];
         spline.sum = sum;
@@ -423,6 +455,7 @@ impl Run {
             .applied()
         };
         let mut start = p[0].applied();
+        self.in_cubic = Some(0);
         for i in 1..=n {
             let t = i as f32 * incr;
             let end = at(t);
@@ -434,6 +467,7 @@ impl Run {
             self.quad([W::plain(start), W::plain(control), W::plain(end)])?;
             start = end;
         }
+        self.in_cubic = None;
         Ok(())
     }
 }
@@ -562,6 +596,21 @@ fn parted(splines: &[Spline], quads: &[Quad]) -> bool {
     })
 }
 
+/// No line is in a spline with quads: it begins where its first quad does and ends where its last one does, bit for bit. The others have no quad.
+fn apart(splines: &[Spline], quads: &[Quad]) -> bool {
+    let same = |a: P, b: P| (a.x.to_bits(), a.y.to_bits()) == (b.x.to_bits(), b.y.to_bits());
+    let mut end = 0;
+    splines.iter().all(|s| {
+        let own = &quads[end..end + s.quads];
+        end += s.quads;
+        match (s.kind, own) {
+            (Kind::Straight, []) => true,
+            (Kind::Round, [first, ..]) => same(s.start, first.points[0].applied()) && same(s.end, own[own.len() - 1].points[2].applied()),
+            _ => false,
+        }
+    })
+}
+
 fn step_point(quads: &[Quad], size: f32, p: usize, i: usize) -> P {
     count(cover::STEP);
     let q = &quads[i];
@@ -618,6 +667,8 @@ pub fn flatten_with(pieces: Pieces, setting: Setting, st: State, c: &Columns, q:
         splines: Vec::new(),
         quads: Vec::new(),
         pieces,
+        after_dropped: false,
+        in_cubic: None,
     };
     let mut answer = 0;
     let mut used = 0;
@@ -657,6 +708,7 @@ pub fn flatten_with(pieces: Pieces, setting: Setting, st: State, c: &Columns, q:
     if n > o.room() as u64 {
         return Flattened { answer: 9, ..counts };
     }
+    assert!(setting == Setting::Screen || apart(&splines, &quads), "a line and a quad share a spline");
     let items = walk(&splines, &quads);
     assert_eq!(items.len() as u64, n);
     for (i, item) in items.iter().enumerate() {
@@ -730,6 +782,79 @@ mod tests {
     fn the_knife_keeps_the_far_end_of_p5() {
         let calls = [Call::Line(p(10.0, 0.0)), Call::Line(p(4.0, 0.0))];
         knife_gives(&calls, &[0x7f80_0000, 0xff80_0000, 0xffc0_0001], &[0, 0x4120_0000, 0], &[0; 3]);
+    }
+
+    #[test]
+    fn a_straight_that_runs_into_a_round() {
+        let calls = [Call::Line(p(4.0, 0.0)), Call::Quad(p(5.0, 0.0), p(5.0, 1.0))];
+        knife_gives(
+            &calls,
+            &[0x7f80_0000, 0xff80_0000, 0x3f41_e1c5, 0x3f41_e1c5, 0xff80_0001, 0xffc0_0002],
+            &[0, 0x4080_0000, 0x4092_0a39, 0x409c_4fc1, 0x40a0_0000, 0],
+            &[0, 0, 0x3dec_0fc1, 0x3edf_5c6e, 0x3f80_0000, 0],
+        );
+        // without the rule, as on the screen, the two share a spline
+        let (st, c) = drawn(&[&calls[..], &[Call::Build]].concat()).unwrap();
+        let (mut q, mut s, mut o) = (QuadTable::with_room(1), SplineTable::with_room(2), Output::with_room(5));
+        let f = flatten(Setting::Screen, st, &c, &mut q, &mut s, &mut o);
+        assert_eq!((f.answer, &o.words[..f.points]), (0, &[0x7f80_0000, 0x3f41_e1c5, 0x3f41_e1c5, 0xff80_0000, 0xffc0_0001][..]));
+    }
+
+    #[test]
+    fn a_belt_end() {
+        let calls = [
+            Call::Line(p(10.0, 0.0)),
+            Call::Quad(p(12.0, 0.0), p(12.0, 2.0)),
+            Call::Quad(p(12.0, 4.0), p(10.0, 4.0)),
+            Call::Line(p(0.0, 4.0)),
+        ];
+        let step = 0x3f6b_0537;
+        let words = [0x7f80_0000, 0xff80_0000, step, step, step, step, step, step, 0xff80_0001, 0xff80_0002, 0xffc0_0003];
+        let seen = knife::flatten(&[&calls[..], &[Call::Build]].concat());
+        assert_eq!(seen.words, words);
+        // both joints of straight and round are vertices
+        assert_eq!(([seen.x[1], seen.y[1]], [seen.x[8], seen.y[8]]), ([10.0, 0.0], [10.0, 4.0]));
+        let bits = |column: &[f32]| column.iter().map(|v| v.to_bits()).collect::<Vec<_>>();
+        knife_gives(&calls, &words, &bits(&seen.x), &bits(&seen.y));
+    }
+
+    #[test]
+    fn a_line_without_length_after_a_quad_repeats_its_end() {
+        let calls = [Call::Quad(p(5.0, 0.0), p(10.0, 0.0)), Call::Line(p(10.0, 0.0)), Call::Line(p(20.0, 0.0))];
+        knife_gives(
+            &calls[..2],
+            &[0x7f80_0000, 0x3f80_0000, 0xff80_0000, 0xff80_0001, 0xffc0_0002],
+            &[0, 0x40a0_0000, 0x4120_0000, 0x4120_0000, 0],
+            &[0; 5],
+        );
+        // the next line goes on with it
+        knife_gives(
+            &calls,
+            &[0x7f80_0000, 0x3f80_0000, 0xff80_0000, 0xff80_0001, 0xffc0_0002],
+            &[0, 0x40a0_0000, 0x4120_0000, 0x41a0_0000, 0],
+            &[0; 5],
+        );
+    }
+
+    #[test]
+    fn a_cubic_is_split_by_a_piece_that_is_a_line() {
+        // four pieces: a quad and a line out, a line and a quad back
+        let calls = [Call::Cubic(p(50.0, 0.0), p(50.0, 0.0), p(0.0, 0.0))];
+        knife_gives(
+            &calls,
+            &[0x7f80_0000, 0x3f80_0000, 0xff80_0000, 0xff80_0001, 0xff80_0002, 0x3f80_0000, 0xffc0_0003],
+            &[0.0, 16.406_25f32, 28.125, 37.5, 28.125, 16.406_25, 0.0].map(f32::to_bits),
+            &[0; 7],
+        );
+    }
+
+    #[test]
+    fn seven_where_the_kind_opens_a_spline() {
+        let (st, c) = drawn(&[Call::Line(p(4.0, 0.0)), Call::Quad(p(5.0, 0.0), p(5.0, 1.0))]).unwrap();
+        for (setting, answer) in [(Setting::Screen, 0), (Setting::Knife, 7)] {
+            let (mut q, mut s, mut o) = (QuadTable::with_room(1), SplineTable::with_room(1), Output::with_room(5));
+            assert_eq!(flatten(setting, st, &c, &mut q, &mut s, &mut o).answer, answer);
+        }
     }
 
     #[test]
