@@ -1,11 +1,11 @@
--- What a primitive that joins the last spline knows of it, and what makes one open a spline. Assumes nothing.
+-- What a primitive that joins the last spline knows of it, and what makes one open a spline; on the screen its kind does not. Assumes nothing.
 use mathlib.Core.Path.{_≡_, refl, sym}
 use mathlib.Core.Bool.{Bool, true, false, _||_, true≢false}
 use mathlib.Mathlib.Data.Bool.Basic.{or-eq-false-eq-eq-false-and-eq-false as or-false}
 use Rattle.point.specs.declared.Point.{Point}
 use Rattle.point.specs.declared.Angle.{Angle}
 use Rattle.point.specs.declared.Setting.{Setting}
-use Rattle.point.specs.declared.Setting.the-variants.{Knife}
+use Rattle.point.specs.declared.Setting.the-variants.{Screen, Knife}
 use Rattle.point.specs.Angle.{changedOf}
 use Rattle.primitives.specs.declared.State.{State}
 use Rattle.primitives.specs.declared.Kind.{Kind}
@@ -20,6 +20,15 @@ same-kind Straight Straight h = refl
 same-kind Straight Round h = absurd (true≢false h)
 same-kind Round Straight h = absurd (true≢false h)
 same-kind Round Round h = refl
+
+pub screen-opens : (kind : Kind) (st : State) (last : SplineRow) (angle : Angle) (start : Point)
+    → opensOf Screen kind st last angle start ≡ st .mark || changedOf Screen (st .last) angle || farOf start last
+unfolding opensOf apartOf
+screen-opens kind st last angle start = go (st .mark || changedOf Screen (st .last) angle || farOf start last)
+  where
+    go : (x : Bool) → x || false ≡ x
+    go true = refl
+    go false = refl
 
 module _ (setting : Setting) (kind : Kind) (st : State) (last : SplineRow) (angle : Angle) (start : Point) where
   -- no mark waits, and the last spline is of the same kind as far as the setting asks for it

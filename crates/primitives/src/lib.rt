@@ -59,7 +59,7 @@ pub struct Curve {
     pub curvature: f32,
 }
 
-// What a line or a quad is, and what a spline has; a quad that is treated as a line is straight.
+// A line is straight, and so is a quad that is treated as one; any other quad is round. For the knife a spline is of one kind.
 pub enum Kind {
     Straight,
     Round,
