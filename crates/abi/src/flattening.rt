@@ -37,6 +37,8 @@ pub extern "C" fn kermezhul_flatten(
     p2x: &mut [f32],
     p2y: &mut [f32],
     contour: &mut [u8],
+    first_quad: &mut [usize],
+    quad_count: &mut [u32],
     words: &mut [u32],
     out_x: &mut [f32],
     out_y: &mut [f32],
@@ -45,7 +47,7 @@ pub extern "C" fn kermezhul_flatten(
     quads: &mut usize,
     length: &mut usize,
 ) -> u32
-    ensures { λ r. ⌜ flatReply r (now (splines .exit)) (now (quads .exit)) (now (length .exit)) (quadTable (now («quad_rows» .exit)) (now («partial_splines» .exit))) (splineTable (now (curvature .exit)) (now (p0x .exit)) (now (p0y .exit)) (now (p2x .exit)) (now (p2y .exit)) (now (contour .exit))) (output (now (words .exit)) (now («out_x» .exit)) (now («out_y» .exit)) (now («out_end» .exit))) ≡ flatReplyOf (flattenOf (settingOf setting) (stateAt points used opening) (columns (now (x .entry)) (now (y .entry)) (now (weight .entry)) (now (commands .entry))) (quadTable (now («quad_rows» .entry)) (now («partial_splines» .entry))) (splineTable (now (curvature .entry)) (now (p0x .entry)) (now (p0y .entry)) (now (p2x .entry)) (now (p2y .entry)) (now (contour .entry))) (output (now (words .entry)) (now («out_x» .entry)) (now («out_y» .entry)) (now («out_end» .entry)))) ⌝ }
+    ensures { λ r. ⌜ flatReply r (now (splines .exit)) (now (quads .exit)) (now (length .exit)) (quadTable (now («quad_rows» .exit)) (now («partial_splines» .exit))) (splineTable (now (curvature .exit)) (now (p0x .exit)) (now (p0y .exit)) (now (p2x .exit)) (now (p2y .exit)) (now (contour .exit)) (now («first_quad» .exit)) (now («quad_count» .exit))) (output (now (words .exit)) (now («out_x» .exit)) (now («out_y» .exit)) (now («out_end» .exit))) ≡ flatReplyOf (flattenOf (settingOf setting) (stateAt points used opening) (columns (now (x .entry)) (now (y .entry)) (now (weight .entry)) (now (commands .entry))) (quadTable (now («quad_rows» .entry)) (now («partial_splines» .entry))) (splineTable (now (curvature .entry)) (now (p0x .entry)) (now (p0y .entry)) (now (p2x .entry)) (now (p2y .entry)) (now (contour .entry)) (now («first_quad» .entry)) (now («quad_count» .entry))) (output (now (words .entry)) (now («out_x» .entry)) (now («out_y» .entry)) (now («out_end» .entry)))) ⌝ }
 {
     let st = StoreState {
         points,
@@ -67,6 +69,8 @@ pub extern "C" fn kermezhul_flatten(
         p2x,
         p2y,
         contour,
+        first_quad,
+        quad_count,
         words,
         out_x,
         out_y,

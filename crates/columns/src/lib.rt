@@ -22,6 +22,15 @@ pub fn read_u32(column: &[u32], i: usize) -> u32
     0
 }
 
+pub fn read_usize(column: &[usize], i: usize) -> usize
+    ensures { λ r. ⌜ r ≡ getD (now (column .entry)) i 0 ⌝ }
+{
+    if i < column.len() {
+        return column[i];
+    }
+    0
+}
+
 pub fn read_u8(column: &[u8], i: usize) -> u8
     ensures { λ r. ⌜ r ≡ getD (now (column .entry)) i 0 ⌝ }
 {
@@ -40,6 +49,14 @@ pub fn put_f32(column: &mut [f32], i: usize, v: f32)
 }
 
 pub fn put_u32(column: &mut [u32], i: usize, v: u32)
+    ensures { λ _. ⌜ now (column .exit) ≡ set (now (column .entry)) i v ⌝ }
+{
+    if i < column.len() {
+        column[i] = v;
+    }
+}
+
+pub fn put_usize(column: &mut [usize], i: usize, v: usize)
     ensures { λ _. ⌜ now (column .exit) ≡ set (now (column .entry)) i v ⌝ }
 {
     if i < column.len() {

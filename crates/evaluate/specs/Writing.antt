@@ -10,10 +10,12 @@ use Rattle.command.specs.declared.PointCommand.the-variants.{Start, Incr, End}
 use Rattle.command.specs.Packing.{packOf}
 use Rattle.columns.specs.Flags.{flagByteOf}
 use Rattle.point.specs.declared.Point.{Point}
+use Rattle.point.specs.declared.Setting.{Setting}
+use Rattle.point.specs.declared.Setting.the-variants.{Screen, Knife}
 use Rattle.primitives.specs.declared.QuadRow.{QuadRow}
 use Rattle.primitives.specs.declared.SplineRow.{SplineRow}
 use Rattle.tables.specs.Tables.{SplineTable, splineAt}
-use Rattle.walk.specs.Walk.{cursorAt, startsOf}
+use Rattle.walk.specs.Walk.{cursorStartOf, cursorAt, startsOf}
 use Rattle.walk.specs.Length.{stepsOf, sizeOf}
 use Rattle.evaluate.specs.declared.Place.{Place}
 use Rattle.evaluate.specs.Evaluate.{Finished, finished, stepQuadOf, stepPointOf}
@@ -51,23 +53,24 @@ writeStepsFrom rows size (suc n) p from o =
 unfoldable pub writeStepsOf : (ℕ → QuadRow) → Float → ℕ → Place → Output → Written
 writeStepsOf rows size n from o = writeStepsFrom rows size n 1 from o
 
--- "and by one after each spline with m over 0"
-unfoldable pub endPlaceOf : Float → Place → Place
-endPlaceOf sum from = placeAt (from .at + 1) (cond (eqb (wholeUpOf sum) 0) (from .cursor) (from .cursor + 1))
+-- "and by one after each spline with m over 0". For the knife the next spline begins at its own first quad, so the cursor may stay.
+unfoldable pub endCursorOf : Setting → Float → ℕ → ℕ
+endCursorOf Screen sum cursor = cond (eqb (wholeUpOf sum) 0) cursor (cursor + 1)
+endCursorOf Knife sum cursor = cursor
 
-unfoldable pub writeSplineOf : (ℕ → QuadRow) → ℕ → Bool → SplineRow → Place → Output → Written
-writeSplineOf rows k starts row from o =
-    let a = writeStartOf starts k (row .p0) from o in
+unfoldable pub writeSplineOf : Setting → (ℕ → QuadRow) → ℕ → Bool → SplineRow → Place → Output → Written
+writeSplineOf setting rows k starts row from o =
+    let a = writeStartOf starts k (row .p0) (placeAt (from .at) (cursorStartOf setting row (from .cursor))) o in
     let b = writeStepsOf rows (sizeOf (row .curvature)) (stepsOf (row .curvature)) (a .place) (a .output) in
     let o' = writeEntryOf (b .place .at) (packOf (End k (row .contour))) (finished (row .p2) (row .contour)) (b .output) in
-    written o' (endPlaceOf (row .curvature) (b .place))
+    written o' (placeAt (b .place .at + 1) (endCursorOf setting (row .curvature) (b .place .cursor)))
 
 -- n splines from spline k on
-unfoldable pub writeWalkFrom : (ℕ → QuadRow) → SplineTable → ℕ → ℕ → Place → Output → Output
-writeWalkFrom rows s zero k from o = o
-writeWalkFrom rows s (suc n) k from o =
-    let w = writeSplineOf rows k (startsOf s k) (splineAt s k) from o in
-    writeWalkFrom rows s n (k + 1) (w .place) (w .output)
+unfoldable pub writeWalkFrom : Setting → (ℕ → QuadRow) → SplineTable → ℕ → ℕ → Place → Output → Output
+writeWalkFrom setting rows s zero k from o = o
+writeWalkFrom setting rows s (suc n) k from o =
+    let w = writeSplineOf setting rows k (startsOf s k) (splineAt s k) from o in
+    writeWalkFrom setting rows s n (k + 1) (w .place) (w .output)
 
-unfoldable pub writeWalkOf : (ℕ → QuadRow) → SplineTable → ℕ → Output → Output
-writeWalkOf rows s n o = writeWalkFrom rows s n 0 (placeAt 0 0) o
+unfoldable pub writeWalkOf : Setting → (ℕ → QuadRow) → SplineTable → ℕ → Output → Output
+writeWalkOf setting rows s n o = writeWalkFrom setting rows s n 0 (placeAt 0 0) o

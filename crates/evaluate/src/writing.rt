@@ -1,10 +1,11 @@
 // The pass that writes: words and points together, in the order of the walk, after its length was tested.
 ghost use mathlib.Core.Path.{_≡_};
 ghost use Prim.Native.Nat.{_≤_};
+ghost use Rattle.point.specs.declared.Setting.the-variants.{Screen};
 ghost use Rattle.tables.specs.Tables.{quadTable, splineTable, quadRowAt};
 ghost use Rattle.evaluate.specs.Evaluate.{finished};
 ghost use Rattle.evaluate.specs.Output.{output, fitsOutput};
-ghost use Rattle.evaluate.specs.Writing.{written, writeEntryOf, writeStartOf, writeStepsOf, endPlaceOf, writeSplineOf, writeWalkOf};
+ghost use Rattle.evaluate.specs.Writing.{written, writeEntryOf, writeStartOf, writeStepsOf, endCursorOf, writeSplineOf, writeWalkOf};
 ghost use Rattle.evaluate.specs.Delivery.{delivery, deliverOf};
 use crate::Delivered;
 use crate::Place;
@@ -97,18 +98,21 @@ fn write_steps(
     Place { at, cursor }
 }
 
-// The place after a spline's End: past its last quad, if it has one.
-fn end_place(sum: f32, from: Place) -> Place
-    requires { ⌜ (from .at ≤ 0x4000_0000_0002_0000) × (from .cursor ≤ 0x4000_0000_0002_0000) ⌝ }
-    ensures { λ r. ⌜ r ≡ endPlaceOf sum from ⌝ }
+// The cursor after a spline: on the screen past its last quad, if it has one. For the knife it stays, since the next spline sets it; a first quad lent by hand may
+// be any number, and one more than that may wrap.
+fn end_cursor(setting: Setting, sum: f32, cursor: usize) -> usize
+    requires { ⌜ (setting ≡ Screen → cursor ≤ 0x4000_0000_0002_0000) ⌝ }
+    ensures { λ r. ⌜ r ≡ endCursorOf setting sum cursor ⌝ }
 {
-    let at = from.at + 1;
-    let cursor = from.cursor;
-    if leaves::whole_up(sum) == 0 {
-        return Place { at, cursor };
+    match setting {
+        Setting::Screen => {
+            if leaves::whole_up(sum) == 0 {
+                return cursor;
+            }
+            cursor + 1
+        }
+        Setting::Knife => cursor,
     }
-    let next = cursor + 1;
-    Place { at, cursor: next }
 }
 
 // Spline k, with a Start or without.
@@ -119,17 +123,22 @@ fn write_spline(
     out_x: &mut [f32],
     out_y: &mut [f32],
     out_end: &mut [u8],
+    setting: Setting,
     k: u32,
     starts: bool,
     row: SplineRow,
     from: Place,
 ) -> Place
-    requires { ⌜ (from .at ≤ 0x4000_0000_0000_0000) × (from .cursor ≤ 0x4000_0000_0000_0000) ⌝ }
-    ensures { λ r. ⌜ written (output (now (words .exit)) (now («out_x» .exit)) (now («out_y» .exit)) (now («out_end» .exit))) r ≡ writeSplineOf (quadRowAt (quadTable (now («quad_rows» .entry)) (now («partial_splines» .entry)))) k starts row from (output (now (words .entry)) (now («out_x» .entry)) (now («out_y» .entry)) (now («out_end» .entry))) ⌝ }
+    requires { ⌜ (from .at ≤ 0x4000_0000_0000_0000) × (setting ≡ Screen → from .cursor ≤ 0x4000_0000_0000_0000) ⌝ }
+    ensures { λ r. ⌜ written (output (now (words .exit)) (now («out_x» .exit)) (now («out_y» .exit)) (now («out_end» .exit))) r ≡ writeSplineOf setting (quadRowAt (quadTable (now («quad_rows» .entry)) (now («partial_splines» .entry)))) k starts row from (output (now (words .entry)) (now («out_x» .entry)) (now («out_y» .entry)) (now («out_end» .entry))) ⌝ }
 {
     let sum = row.curvature;
     let first = row.p0;
-    let start = write_start(words, out_x, out_y, out_end, starts, k, first, from);
+    let begin = Place {
+        at: from.at,
+        cursor: walk::cursor_start(setting, row, from.cursor),
+    };
+    let start = write_start(words, out_x, out_y, out_end, starts, k, first, begin);
     let size = walk::size(sum);
     let n = walk::steps(sum);
     let to = write_steps(
@@ -147,7 +156,11 @@ fn write_spline(
     let word = PointCommand::End(k as usize, flag).pack();
     let end = row.p2;
     write_entry(words, out_x, out_y, out_end, to.at, word, end, flag);
-    end_place(sum, to)
+    let at = to.at + 1;
+    Place {
+        at,
+        cursor: end_cursor(setting, sum, to.cursor),
+    }
 }
 
 // All splines. The place stays small: at most 65,538 entries for each of fewer than 2^32.
@@ -160,20 +173,43 @@ fn write_walk(
     p2x: &[f32],
     p2y: &[f32],
     contour: &[u8],
+    first_quad: &[usize],
+    quad_count: &[u32],
     words: &mut [u32],
     out_x: &mut [f32],
     out_y: &mut [f32],
     out_end: &mut [u8],
+    setting: Setting,
     n: u32,
 )
-    ensures { λ _. ⌜ output (now (words .exit)) (now («out_x» .exit)) (now («out_y» .exit)) (now («out_end» .exit)) ≡ writeWalkOf (quadRowAt (quadTable (now («quad_rows» .entry)) (now («partial_splines» .entry)))) (splineTable (now (curvature .entry)) (now (p0x .entry)) (now (p0y .entry)) (now (p2x .entry)) (now (p2y .entry)) (now (contour .entry))) n (output (now (words .entry)) (now («out_x» .entry)) (now («out_y» .entry)) (now («out_end» .entry))) ⌝ }
+    ensures { λ _. ⌜ output (now (words .exit)) (now («out_x» .exit)) (now («out_y» .exit)) (now («out_end» .exit)) ≡ writeWalkOf setting (quadRowAt (quadTable (now («quad_rows» .entry)) (now («partial_splines» .entry)))) (splineTable (now (curvature .entry)) (now (p0x .entry)) (now (p0y .entry)) (now (p2x .entry)) (now (p2y .entry)) (now (contour .entry)) (now («first_quad» .entry)) (now («quad_count» .entry))) n (output (now (words .entry)) (now («out_x» .entry)) (now («out_y» .entry)) (now («out_end» .entry))) ⌝ }
 {
-    let mut last = spline_at(curvature, p0x, p0y, p2x, p2y, contour, 0);
+    let mut last = spline_at(
+        curvature,
+        p0x,
+        p0y,
+        p2x,
+        p2y,
+        contour,
+        first_quad,
+        quad_count,
+        0,
+    );
     let mut place = Place { at: 0, cursor: 0 };
     let mut k: u32 = 0;
     let mut left = n;
     while left > 0 {
-        let row = spline_at(curvature, p0x, p0y, p2x, p2y, contour, k as usize);
+        let row = spline_at(
+            curvature,
+            p0x,
+            p0y,
+            p2x,
+            p2y,
+            contour,
+            first_quad,
+            quad_count,
+            k as usize,
+        );
         let starts = walk::starts_after(k, last, row);
         place = write_spline(
             quad_rows,
@@ -182,6 +218,7 @@ fn write_walk(
             out_x,
             out_y,
             out_end,
+            setting,
             k,
             starts,
             row,
@@ -203,7 +240,7 @@ fn holds(words: &[u32], out_x: &[f32], out_y: &[f32], out_end: &[u8], length: u6
         & (length <= out_end.len() as u64)
 }
 
-// The walk over n splines, written if it fits. It is the same in both settings.
+// The walk over n splines, written if it fits.
 pub fn deliver(
     quad_rows: &[f32],
     partial_splines: &[u32],
@@ -213,6 +250,8 @@ pub fn deliver(
     p2x: &[f32],
     p2y: &[f32],
     contour: &[u8],
+    first_quad: &[usize],
+    quad_count: &[u32],
     words: &mut [u32],
     out_x: &mut [f32],
     out_y: &mut [f32],
@@ -220,9 +259,19 @@ pub fn deliver(
     setting: Setting,
     n: u32,
 ) -> Delivered
-    ensures { λ r. ⌜ delivery (r .fits) (r .points) (output (now (words .exit)) (now («out_x» .exit)) (now («out_y» .exit)) (now («out_end» .exit))) ≡ deliverOf setting (quadRowAt (quadTable (now («quad_rows» .entry)) (now («partial_splines» .entry)))) (splineTable (now (curvature .entry)) (now (p0x .entry)) (now (p0y .entry)) (now (p2x .entry)) (now (p2y .entry)) (now (contour .entry))) n (output (now (words .entry)) (now («out_x» .entry)) (now («out_y» .entry)) (now («out_end» .entry))) ⌝ }
+    ensures { λ r. ⌜ delivery (r .fits) (r .points) (output (now (words .exit)) (now («out_x» .exit)) (now («out_y» .exit)) (now («out_end» .exit))) ≡ deliverOf setting (quadRowAt (quadTable (now («quad_rows» .entry)) (now («partial_splines» .entry)))) (splineTable (now (curvature .entry)) (now (p0x .entry)) (now (p0y .entry)) (now (p2x .entry)) (now (p2y .entry)) (now (contour .entry)) (now («first_quad» .entry)) (now («quad_count» .entry))) n (output (now (words .entry)) (now («out_x» .entry)) (now («out_y» .entry)) (now («out_end» .entry))) ⌝ }
 {
-    let length = walk::walk_length(curvature, p0x, p0y, p2x, p2y, contour, n);
+    let length = walk::walk_length(
+        curvature,
+        p0x,
+        p0y,
+        p2x,
+        p2y,
+        contour,
+        first_quad,
+        quad_count,
+        n,
+    );
     if !holds(&words[..], &out_x[..], &out_y[..], &out_end[..], length) {
         return Delivered {
             fits: false,
@@ -238,10 +287,13 @@ pub fn deliver(
         p2x,
         p2y,
         contour,
+        first_quad,
+        quad_count,
         words,
         out_x,
         out_y,
         out_end,
+        setting,
         n,
     );
     Delivered {

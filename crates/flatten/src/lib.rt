@@ -32,12 +32,14 @@ pub fn flatten(
     p2x: &mut [f32],
     p2y: &mut [f32],
     contour: &mut [u8],
+    first_quad: &mut [usize],
+    quad_count: &mut [u32],
     words: &mut [u32],
     out_x: &mut [f32],
     out_y: &mut [f32],
     out_end: &mut [u8],
 ) -> Flattened
-    ensures { λ r. ⌜ flattening r (quadTable (now («quad_rows» .exit)) (now («partial_splines» .exit))) (splineTable (now (curvature .exit)) (now (p0x .exit)) (now (p0y .exit)) (now (p2x .exit)) (now (p2y .exit)) (now (contour .exit))) (output (now (words .exit)) (now («out_x» .exit)) (now («out_y» .exit)) (now («out_end» .exit))) ≡ flattenOf setting st (columns (now (x .entry)) (now (y .entry)) (now (weight .entry)) (now (commands .entry))) (quadTable (now («quad_rows» .entry)) (now («partial_splines» .entry))) (splineTable (now (curvature .entry)) (now (p0x .entry)) (now (p0y .entry)) (now (p2x .entry)) (now (p2y .entry)) (now (contour .entry))) (output (now (words .entry)) (now («out_x» .entry)) (now («out_y» .entry)) (now («out_end» .entry))) ⌝ }
+    ensures { λ r. ⌜ flattening r (quadTable (now («quad_rows» .exit)) (now («partial_splines» .exit))) (splineTable (now (curvature .exit)) (now (p0x .exit)) (now (p0y .exit)) (now (p2x .exit)) (now (p2y .exit)) (now (contour .exit)) (now («first_quad» .exit)) (now («quad_count» .exit))) (output (now (words .exit)) (now («out_x» .exit)) (now («out_y» .exit)) (now («out_end» .exit))) ≡ flattenOf setting st (columns (now (x .entry)) (now (y .entry)) (now (weight .entry)) (now (commands .entry))) (quadTable (now («quad_rows» .entry)) (now («partial_splines» .entry))) (splineTable (now (curvature .entry)) (now (p0x .entry)) (now (p0y .entry)) (now (p2x .entry)) (now (p2y .entry)) (now (contour .entry)) (now («first_quad» .entry)) (now («quad_count» .entry))) (output (now (words .entry)) (now («out_x» .entry)) (now («out_y» .entry)) (now («out_end» .entry))) ⌝ }
 {
     if !store::drawable(x, y, weight, commands, st) {
         return refused(Answer::Unusable, 0, 0);
@@ -55,6 +57,8 @@ pub fn flatten(
         p2x,
         p2y,
         contour,
+        first_quad,
+        quad_count,
         setting,
         st,
     );
@@ -71,6 +75,8 @@ pub fn flatten(
         &p2x[..],
         &p2y[..],
         &contour[..],
+        &first_quad[..],
+        &quad_count[..],
         words,
         out_x,
         out_y,

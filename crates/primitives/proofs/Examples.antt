@@ -55,7 +55,7 @@ room = record { quads = 8; splines = 8 }
 
 -- a spline from (0,0) to the point end with this sum
 abbrev ended : Point → Float → SplineRow
-ended end sum = record { curvature = sum; p0 = P 0 0; p2 = end; contour = true }
+ended end sum = record { curvature = sum; p0 = P 0 0; p2 = end; contour = true; «first_quad» = 0; «quad_count» = 0 }
 
 unfoldable pub stateAfter : Edit → State
 stateAfter (Keep st) = st

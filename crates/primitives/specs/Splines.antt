@@ -1,5 +1,5 @@
 -- RULES, Opening and Lines: when a primitive opens a spline, and the spline's row and the state after it. Assumes nothing.
-use Prim.Native.Nat.{ℕ, _+_, _-_}
+use Prim.Native.Nat.{ℕ, _+_, _-_, min}
 use mathlib.Core.Bool.{Bool, true, false, not, _||_, cond}
 use lib.Ieee.{Float, le, eq}
 use Rattle.leaves.specs.Single.{f32, zero32}
@@ -57,19 +57,25 @@ lineAngleOf Knife last (Known a) = Known a
 unfoldable pub sumBefore : Bool → SplineRow → Float
 sumBefore opens last = cond opens zero32 (last .curvature)
 
+-- how many quads a spline has that begins with quad `first` and goes on to the last one stored. That is at most 65,535; on a row made by hand, whose first quad may
+-- be any number, it is 0 if there is none, and the largest u32 if there are more.
+unfoldable pub quadCountOf : ℕ → ℕ → ℕ
+quadCountOf first quads = min (quads - first) 0xffff_ffff
+
 -- "The mark moves to the new spline. Every primitive sets the spline's end." If no mark waits, the new spline takes over the flag of the one before.
+-- 02, Six: "The spline record shall carry its first quad and its number of quads". It opens at the next quad's number; `quads` are those stored after the primitive.
 unfoldable pub splineEditOf : Bool → State → SplineRow → Point → Point → Float → ℕ → Angle → SplineEdit
 splineEditOf true st last start end sum quads angle =
     record {
       clears = not (st .mark);
       at = st .splines;
-      row = record { curvature = sum; p0 = start; p2 = end; contour = true };
+      row = record { curvature = sum; p0 = start; p2 = end; contour = true; «first_quad» = st .quads; «quad_count» = quadCountOf (st .quads) quads };
       next = stateOf Done (st .splines + 1) quads false angle;
     }
 splineEditOf false st last start end sum quads angle =
     record {
       clears = false;
       at = st .splines - 1;
-      row = record { curvature = sum; p0 = last .p0; p2 = end; contour = last .contour };
+      row = record { curvature = sum; p0 = last .p0; p2 = end; contour = last .contour; «first_quad» = last .«first_quad»; «quad_count» = quadCountOf (last .«first_quad») quads };
       next = stateOf Done (st .splines) quads false angle;
     }

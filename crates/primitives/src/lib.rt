@@ -89,12 +89,14 @@ pub struct QuadRow {
     pub spline: u32,
 }
 
-// One row of the spline table: curvature is its sum.
+// One row of the spline table: curvature is its sum; its quads are the quad_count ones from first_quad on.
 pub struct SplineRow {
     pub curvature: f32,
     pub p0: Point,
     pub p2: Point,
     pub contour: bool,
+    pub first_quad: usize,
+    pub quad_count: u32,
 }
 
 // The row that goes to spline `at`; `clears` takes the flag of the spline before it.

@@ -11,10 +11,13 @@ use point::changed;
 ghost use mathlib.Core.Bool.{true};
 ghost use mathlib.Core.Path.{_≡_};
 ghost use Prim.Native.Nat.{_-_, _<_};
-ghost use Rattle.primitives.specs.Splines.{farOf, splineKindOf, apartOf, opensOf, lineAngleOf, sumBefore, splineEditOf};
+ghost use Rattle.primitives.specs.Splines.{farOf, splineKindOf, apartOf, opensOf, lineAngleOf, sumBefore, quadCountOf, splineEditOf};
 
 // The square of MAX_ERROR, 0.0625.
 const MAX_ERROR_SQUARED: f32 = 0.00390625;
+
+// The largest u32.
+const MAX_COUNT: usize = 0xffff_ffff;
 
 // The rounded root reaches 0.0625 exactly when the square reaches 0.0625 squared, so no root is needed.
 fn far(start: Point, last: SplineRow) -> bool
@@ -96,6 +99,20 @@ pub fn below(n: usize) -> usize
     if n == 0 { 0 } else { n - 1 }
 }
 
+// How many of the quads stored so far a spline has whose first is this one. On a row made by hand the number may not fit: then it is the largest that does.
+fn quad_count(first: usize, quads: usize) -> u32
+    ensures { λ r. ⌜ r ≡ quadCountOf first quads ⌝ }
+{
+    if quads < first {
+        return 0;
+    }
+    let count = quads - first;
+    if count < MAX_COUNT {
+        return count as u32;
+    }
+    MAX_COUNT as u32
+}
+
 // Callers first refuse a spline past the capacity, so the count plus one does not wrap.
 pub fn spline_edit(
     opens: bool,
@@ -116,6 +133,8 @@ pub fn spline_edit(
             p0: start,
             p2: end,
             contour: true,
+            first_quad: st.quads,
+            quad_count: quad_count(st.quads, quads),
         };
         let splines = st.splines + 1;
         let next = State {
@@ -139,6 +158,8 @@ pub fn spline_edit(
         p0,
         p2: end,
         contour: last.contour,
+        first_quad: last.first_quad,
+        quad_count: quad_count(last.first_quad, quads),
     };
     let next = State {
         answer: Answer::Done,

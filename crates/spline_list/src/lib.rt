@@ -30,11 +30,23 @@ pub fn row_at<'c>(
     p2x: &'c [f32],
     p2y: &'c [f32],
     contour: &'c [u8],
+    first_quad: &'c [usize],
+    quad_count: &'c [u32],
     i: usize,
 ) -> SplineRow
-    ensures { λ r. ⌜ r ≡ splineAt (splineTable (now (curvature .entry)) (now (p0x .entry)) (now (p0y .entry)) (now (p2x .entry)) (now (p2y .entry)) (now (contour .entry))) i ⌝ }
+    ensures { λ r. ⌜ r ≡ splineAt (splineTable (now (curvature .entry)) (now (p0x .entry)) (now (p0y .entry)) (now (p2x .entry)) (now (p2y .entry)) (now (contour .entry)) (now («first_quad» .entry)) (now («quad_count» .entry))) i ⌝ }
 {
-    tables::spline_at(curvature, p0x, p0y, p2x, p2y, contour, i)
+    tables::spline_at(
+        curvature,
+        p0x,
+        p0y,
+        p2x,
+        p2y,
+        contour,
+        first_quad,
+        quad_count,
+        i,
+    )
 }
 
 // Writes a record to row i of the columns; a column that ends before it stays as it was.
@@ -45,10 +57,12 @@ pub fn put_row(
     p2x: &mut [f32],
     p2y: &mut [f32],
     contour: &mut [u8],
+    first_quad: &mut [usize],
+    quad_count: &mut [u32],
     i: usize,
     v: SplineRow,
 )
-    ensures { λ _. ⌜ splineTable (now (curvature .exit)) (now (p0x .exit)) (now (p0y .exit)) (now (p2x .exit)) (now (p2y .exit)) (now (contour .exit)) ≡ putRowOf (splineTable (now (curvature .entry)) (now (p0x .entry)) (now (p0y .entry)) (now (p2x .entry)) (now (p2y .entry)) (now (contour .entry))) i v ⌝ }
+    ensures { λ _. ⌜ splineTable (now (curvature .exit)) (now (p0x .exit)) (now (p0y .exit)) (now (p2x .exit)) (now (p2y .exit)) (now (contour .exit)) (now («first_quad» .exit)) (now («quad_count» .exit)) ≡ putRowOf (splineTable (now (curvature .entry)) (now (p0x .entry)) (now (p0y .entry)) (now (p2x .entry)) (now (p2y .entry)) (now (contour .entry)) (now («first_quad» .entry)) (now («quad_count» .entry))) i v ⌝ }
 {
     put_f32(curvature, i, v.curvature);
     put_f32(p0x, i, v.p0.x);
@@ -68,6 +82,8 @@ fn agree(
     p2x: usize,
     p2y: usize,
     contour: usize,
+    first_quad: usize,
+    quad_count: usize,
 ) -> bool
     ensures { λ r. ⌜ r ≡ agreeOf n list curvature p0x p0y p2x p2y contour ⌝ }
 {
@@ -114,9 +130,11 @@ pub fn fill<'l, 'c>(
     p2x: &'c [f32],
     p2y: &'c [f32],
     contour: &'c [u8],
+    first_quad: &'c [usize],
+    quad_count: &'c [u32],
     n: usize,
 ) -> Copied
-    ensures { λ r. ⌜ (r ≡ outcomeOf (equalOf (now (list .entry)) (splineTable (now (curvature .entry)) (now (p0x .entry)) (now (p0y .entry)) (now (p2x .entry)) (now (p2y .entry)) (now (contour .entry))) n)) × (now (list .exit) ≡ fillOf (splineTable (now (curvature .entry)) (now (p0x .entry)) (now (p0y .entry)) (now (p2x .entry)) (now (p2y .entry)) (now (contour .entry))) n (now (list .entry))) ⌝ }
+    ensures { λ r. ⌜ (r ≡ outcomeOf (equalOf (now (list .entry)) (splineTable (now (curvature .entry)) (now (p0x .entry)) (now (p0y .entry)) (now (p2x .entry)) (now (p2y .entry)) (now (contour .entry)) (now («first_quad» .entry)) (now («quad_count» .entry))) n)) × (now (list .exit) ≡ fillOf (splineTable (now (curvature .entry)) (now (p0x .entry)) (now (p0y .entry)) (now (p2x .entry)) (now (p2y .entry)) (now (contour .entry)) (now («first_quad» .entry)) (now («quad_count» .entry))) n (now (list .entry))) ⌝ }
 {
     let agreed = agree(
         n,
@@ -127,11 +145,23 @@ pub fn fill<'l, 'c>(
         p2x.len(),
         p2y.len(),
         contour.len(),
+        first_quad.len(),
+        quad_count.len(),
     );
     let m = count(agreed, n);
     let mut i: usize = 0;
     while i < m {
-        list[i] = row_at(curvature, p0x, p0y, p2x, p2y, contour, i);
+        list[i] = row_at(
+            curvature,
+            p0x,
+            p0y,
+            p2x,
+            p2y,
+            contour,
+            first_quad,
+            quad_count,
+            i,
+        );
         i += 1;
     }
     outcome(agreed)
@@ -146,9 +176,11 @@ pub fn spread(
     p2x: &mut [f32],
     p2y: &mut [f32],
     contour: &mut [u8],
+    first_quad: &mut [usize],
+    quad_count: &mut [u32],
     n: usize,
 ) -> Copied
-    ensures { λ r. ⌜ (r ≡ outcomeOf (equalOf (now (list .entry)) (splineTable (now (curvature .entry)) (now (p0x .entry)) (now (p0y .entry)) (now (p2x .entry)) (now (p2y .entry)) (now (contour .entry))) n)) × (splineTable (now (curvature .exit)) (now (p0x .exit)) (now (p0y .exit)) (now (p2x .exit)) (now (p2y .exit)) (now (contour .exit)) ≡ spreadOf (now (list .entry)) n (splineTable (now (curvature .entry)) (now (p0x .entry)) (now (p0y .entry)) (now (p2x .entry)) (now (p2y .entry)) (now (contour .entry)))) ⌝ }
+    ensures { λ r. ⌜ (r ≡ outcomeOf (equalOf (now (list .entry)) (splineTable (now (curvature .entry)) (now (p0x .entry)) (now (p0y .entry)) (now (p2x .entry)) (now (p2y .entry)) (now (contour .entry)) (now («first_quad» .entry)) (now («quad_count» .entry))) n)) × (splineTable (now (curvature .exit)) (now (p0x .exit)) (now (p0y .exit)) (now (p2x .exit)) (now (p2y .exit)) (now (contour .exit)) (now («first_quad» .exit)) (now («quad_count» .exit)) ≡ spreadOf (now (list .entry)) n (splineTable (now (curvature .entry)) (now (p0x .entry)) (now (p0y .entry)) (now (p2x .entry)) (now (p2y .entry)) (now (contour .entry)) (now («first_quad» .entry)) (now («quad_count» .entry)))) ⌝ }
 {
     let agreed = agree(
         n,
@@ -159,6 +191,8 @@ pub fn spread(
         p2x.len(),
         p2y.len(),
         contour.len(),
+        first_quad.len(),
+        quad_count.len(),
     );
     let m = count(agreed, n);
     let mut i: usize = 0;

@@ -22,3 +22,5 @@ pub record SplinesPast (n : ℕ) (old new : SplineTable) : Type 0 where
   pub p2x : Past n (old .p2x) (new .p2x)
   pub p2y : Past n (old .p2y) (new .p2y)
   pub contour : Past n (old .contour) (new .contour)
+  pub first-quad : Past n (old .first-quad) (new .first-quad)
+  pub quad-count : Past n (old .quad-count) (new .quad-count)

@@ -22,7 +22,7 @@ pub record QuadTable : Type 0 where
   pub rows : List Float
   pub partial-splines : List ℕ
 
--- curvature is the spline's sum; contour has its flags
+-- curvature is the spline's sum; contour has its flags; first-quad and quad-count say which quads are its own
 pub record SplineTable : Type 0 where
   pub curvature : List Float
   pub p0x : List Float
@@ -30,13 +30,15 @@ pub record SplineTable : Type 0 where
   pub p2x : List Float
   pub p2y : List Float
   pub contour : List ℕ
+  pub first-quad : List ℕ
+  pub quad-count : List ℕ
 
 abbrev pub quadTable : List Float → List ℕ → QuadTable
 quadTable rows partial-splines = record { rows = rows; partial-splines = partial-splines }
 
-abbrev pub splineTable : List Float → List Float → List Float → List Float → List Float → List ℕ → SplineTable
-splineTable curvature p0x p0y p2x p2y contour =
-    record { curvature = curvature; p0x = p0x; p0y = p0y; p2x = p2x; p2y = p2y; contour = contour }
+abbrev pub splineTable : List Float → List Float → List Float → List Float → List Float → List ℕ → List ℕ → List ℕ → SplineTable
+splineTable curvature p0x p0y p2x p2y contour first-quad quad-count =
+    record { curvature = curvature; p0x = p0x; p0y = p0y; p2x = p2x; p2y = p2y; contour = contour; first-quad = first-quad; quad-count = quad-count }
 
 -- how many rows are whole; an incomplete row at the end is never read and never written
 abbrev pub wholeRowsOf : List Float → ℕ
@@ -54,7 +56,9 @@ splineCapacityOf s =
     (min (length (s .p0x))
     (min (length (s .p0y))
     (min (length (s .p2x))
-    (min (length (s .p2y)) (length (s .contour)))))))
+    (min (length (s .p2y))
+    (min (length (s .contour))
+    (min (length (s .first-quad)) (length (s .quad-count)))))))))
 
 unfoldable pub capacitiesOf : QuadTable → SplineTable → Capacities
 capacitiesOf q s = record { quads = quadCapacityOf q; splines = splineCapacityOf s }
@@ -123,6 +127,8 @@ putSpline s edit =
       p2x = set (s .p2x) k (row .p2 .x);
       p2y = set (s .p2y) k (row .p2 .y);
       contour = set (clearFlag (edit .clears) (s .contour) k) k (flagByteOf (row .contour));
+      first-quad = set (s .first-quad) k (row .«first_quad»);
+      quad-count = set (s .quad-count) k (row .«quad_count»);
     }
 
 unfoldable pub splineAt : SplineTable → ℕ → SplineRow
@@ -132,11 +138,14 @@ splineAt s k =
       p0 = pointAt (getD (s .p0x) k nan) (getD (s .p0y) k nan);
       p2 = pointAt (getD (s .p2x) k nan) (getD (s .p2y) k nan);
       contour = isFlagOf (getD (s .contour) k 0);
+      «first_quad» = getD (s .first-quad) k 0;
+      «quad_count» = getD (s .quad-count) k 0;
     }
 
 -- the spline that is given as the last one if there is none yet; a mark waits then, so it decides nothing
 abbrev pub noSpline : SplineRow
-noSpline = record { curvature = zero32; p0 = pointAt zero32 zero32; p2 = pointAt zero32 zero32; contour = false }
+noSpline =
+    record { curvature = zero32; p0 = pointAt zero32 zero32; p2 = pointAt zero32 zero32; contour = false; «first_quad» = 0; «quad_count» = 0 }
 
 unfoldable pub lastSplineOf : SplineTable → ℕ → SplineRow
 lastSplineOf s n = cond (eqb n 0) noSpline (splineAt s (n - 1))

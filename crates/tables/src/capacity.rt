@@ -30,10 +30,13 @@ pub fn spline_capacity(
     p2x: &[f32],
     p2y: &[f32],
     contour: &[u8],
+    first_quad: &[usize],
+    quad_count: &[u32],
 ) -> u32
-    ensures { λ r. ⌜ r ≡ splineCapacityOf (splineTable (now (curvature .entry)) (now (p0x .entry)) (now (p0y .entry)) (now (p2x .entry)) (now (p2y .entry)) (now (contour .entry))) ⌝ }
+    ensures { λ r. ⌜ r ≡ splineCapacityOf (splineTable (now (curvature .entry)) (now (p0x .entry)) (now (p0y .entry)) (now (p2x .entry)) (now (p2y .entry)) (now (contour .entry)) (now («first_quad» .entry)) (now («quad_count» .entry))) ⌝ }
 {
-    let ends = least(p2x.len(), least(p2y.len(), contour.len()));
+    let ranges = least(first_quad.len(), quad_count.len());
+    let ends = least(p2x.len(), least(p2y.len(), least(contour.len(), ranges)));
     let rows = least(curvature.len(), least(p0x.len(), least(p0y.len(), ends)));
     let capacity = least(PointCommand::INDEX_LIMIT, rows);
     capacity as u32

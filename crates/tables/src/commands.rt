@@ -88,6 +88,8 @@ fn push_command(
     p2x: &mut [f32],
     p2y: &mut [f32],
     contour: &mut [u8],
+    first_quad: &mut [usize],
+    quad_count: &mut [u32],
     setting: Setting,
     caps: Capacities,
     st: State,
@@ -95,7 +97,7 @@ fn push_command(
     j: usize,
 ) -> State
     requires { ⌜ j < 2 ^ 63 ⌝ }
-    ensures { λ r. ⌜ world r (quadTable (now («quad_rows» .exit)) (now («partial_splines» .exit))) (splineTable (now (curvature .exit)) (now (p0x .exit)) (now (p0y .exit)) (now (p2x .exit)) (now (p2y .exit)) (now (contour .exit))) ≡ runOf setting caps (commandPrimitivesOf (columns (now (x .entry)) (now (y .entry)) (now (weight .entry)) []) k j) (world st (quadTable (now («quad_rows» .entry)) (now («partial_splines» .entry))) (splineTable (now (curvature .entry)) (now (p0x .entry)) (now (p0y .entry)) (now (p2x .entry)) (now (p2y .entry)) (now (contour .entry)))) ⌝ }
+    ensures { λ r. ⌜ world r (quadTable (now («quad_rows» .exit)) (now («partial_splines» .exit))) (splineTable (now (curvature .exit)) (now (p0x .exit)) (now (p0y .exit)) (now (p2x .exit)) (now (p2y .exit)) (now (contour .exit)) (now («first_quad» .exit)) (now («quad_count» .exit))) ≡ runOf setting caps (commandPrimitivesOf (columns (now (x .entry)) (now (y .entry)) (now (weight .entry)) []) k j) (world st (quadTable (now («quad_rows» .entry)) (now («partial_splines» .entry))) (splineTable (now (curvature .entry)) (now (p0x .entry)) (now (p0y .entry)) (now (p2x .entry)) (now (p2y .entry)) (now (contour .entry)) (now («first_quad» .entry)) (now («quad_count» .entry)))) ⌝ }
 {
     if k < CUBIC {
         let p = command_primitive(x, y, weight, k, j);
@@ -108,6 +110,8 @@ fn push_command(
             p2x,
             p2y,
             contour,
+            first_quad,
+            quad_count,
             setting,
             caps,
             st,
@@ -124,6 +128,8 @@ fn push_command(
         p2x,
         p2y,
         contour,
+        first_quad,
+        quad_count,
         setting,
         caps,
         st,
@@ -145,10 +151,12 @@ pub fn fill(
     p2x: &mut [f32],
     p2y: &mut [f32],
     contour: &mut [u8],
+    first_quad: &mut [usize],
+    quad_count: &mut [u32],
     setting: Setting,
     store: StoreState,
 ) -> State
-    ensures { λ r. ⌜ world r (quadTable (now («quad_rows» .exit)) (now («partial_splines» .exit))) (splineTable (now (curvature .exit)) (now (p0x .exit)) (now (p0y .exit)) (now (p2x .exit)) (now (p2y .exit)) (now (contour .exit))) ≡ tablesOf setting store (columns (now (x .entry)) (now (y .entry)) (now (weight .entry)) (now (commands .entry))) (quadTable (now («quad_rows» .entry)) (now («partial_splines» .entry))) (splineTable (now (curvature .entry)) (now (p0x .entry)) (now (p0y .entry)) (now (p2x .entry)) (now (p2y .entry)) (now (contour .entry))) ⌝ }
+    ensures { λ r. ⌜ world r (quadTable (now («quad_rows» .exit)) (now («partial_splines» .exit))) (splineTable (now (curvature .exit)) (now (p0x .exit)) (now (p0y .exit)) (now (p2x .exit)) (now (p2y .exit)) (now (contour .exit)) (now («first_quad» .exit)) (now («quad_count» .exit))) ≡ tablesOf setting store (columns (now (x .entry)) (now (y .entry)) (now (weight .entry)) (now (commands .entry))) (quadTable (now («quad_rows» .entry)) (now («partial_splines» .entry))) (splineTable (now (curvature .entry)) (now (p0x .entry)) (now (p0y .entry)) (now (p2x .entry)) (now (p2y .entry)) (now (contour .entry)) (now («first_quad» .entry)) (now («quad_count» .entry))) ⌝ }
 {
     let caps = Capacities {
         quads: quad_capacity(&quad_rows[..], &partial_splines[..]),
@@ -159,6 +167,8 @@ pub fn fill(
             &p2x[..],
             &p2y[..],
             &contour[..],
+            &first_quad[..],
+            &quad_count[..],
         ),
     };
     let n = least(store.commands, commands.len());
@@ -186,6 +196,8 @@ pub fn fill(
             p2x,
             p2y,
             contour,
+            first_quad,
+            quad_count,
             setting,
             caps,
             state,

@@ -12,9 +12,11 @@ use columns::is_flag;
 use columns::put_f32;
 use columns::put_u8;
 use columns::put_u32;
+use columns::put_usize;
 use columns::read_f32;
 use columns::read_u8;
 use columns::read_u32;
+use columns::read_usize;
 use point::Point;
 use primitives::QuadRow;
 use primitives::SplineEdit;
@@ -172,9 +174,11 @@ pub fn put_spline(
     p2x: &mut [f32],
     p2y: &mut [f32],
     contour: &mut [u8],
+    first_quad: &mut [usize],
+    quad_count: &mut [u32],
     edit: SplineEdit,
 )
-    ensures { λ _. ⌜ splineTable (now (curvature .exit)) (now (p0x .exit)) (now (p0y .exit)) (now (p2x .exit)) (now (p2y .exit)) (now (contour .exit)) ≡ putSpline (splineTable (now (curvature .entry)) (now (p0x .entry)) (now (p0y .entry)) (now (p2x .entry)) (now (p2y .entry)) (now (contour .entry))) edit ⌝ }
+    ensures { λ _. ⌜ splineTable (now (curvature .exit)) (now (p0x .exit)) (now (p0y .exit)) (now (p2x .exit)) (now (p2y .exit)) (now (contour .exit)) (now («first_quad» .exit)) (now («quad_count» .exit)) ≡ putSpline (splineTable (now (curvature .entry)) (now (p0x .entry)) (now (p0y .entry)) (now (p2x .entry)) (now (p2y .entry)) (now (contour .entry)) (now («first_quad» .entry)) (now («quad_count» .entry))) edit ⌝ }
 {
     let k = edit.at as usize;
     put_f32(curvature, k, edit.row.curvature);
@@ -184,6 +188,8 @@ pub fn put_spline(
     put_f32(p2y, k, edit.row.p2.y);
     clear_flag(edit.clears, contour, k);
     put_u8(contour, k, flag_byte(edit.row.contour));
+    put_usize(first_quad, k, edit.row.first_quad);
+    put_u32(quad_count, k, edit.row.quad_count);
 }
 
 pub fn spline_at(
@@ -193,9 +199,11 @@ pub fn spline_at(
     p2x: &[f32],
     p2y: &[f32],
     contour: &[u8],
+    first_quad: &[usize],
+    quad_count: &[u32],
     k: usize,
 ) -> SplineRow
-    ensures { λ r. ⌜ r ≡ splineAt (splineTable (now (curvature .entry)) (now (p0x .entry)) (now (p0y .entry)) (now (p2x .entry)) (now (p2y .entry)) (now (contour .entry))) k ⌝ }
+    ensures { λ r. ⌜ r ≡ splineAt (splineTable (now (curvature .entry)) (now (p0x .entry)) (now (p0y .entry)) (now (p2x .entry)) (now (p2y .entry)) (now (contour .entry)) (now («first_quad» .entry)) (now («quad_count» .entry))) k ⌝ }
 {
     SplineRow {
         curvature: read_f32(curvature, k),
@@ -208,6 +216,8 @@ pub fn spline_at(
             y: read_f32(p2y, k),
         },
         contour: is_flag(read_u8(contour, k)),
+        first_quad: read_usize(first_quad, k),
+        quad_count: read_u32(quad_count, k),
     }
 }
 
@@ -219,9 +229,11 @@ pub fn last_spline(
     p2x: &[f32],
     p2y: &[f32],
     contour: &[u8],
+    first_quad: &[usize],
+    quad_count: &[u32],
     n: u32,
 ) -> SplineRow
-    ensures { λ r. ⌜ r ≡ lastSplineOf (splineTable (now (curvature .entry)) (now (p0x .entry)) (now (p0y .entry)) (now (p2x .entry)) (now (p2y .entry)) (now (contour .entry))) n ⌝ }
+    ensures { λ r. ⌜ r ≡ lastSplineOf (splineTable (now (curvature .entry)) (now (p0x .entry)) (now (p0y .entry)) (now (p2x .entry)) (now (p2y .entry)) (now (contour .entry)) (now («first_quad» .entry)) (now («quad_count» .entry))) n ⌝ }
 {
     if n == 0 {
         return SplineRow {
@@ -229,7 +241,19 @@ pub fn last_spline(
             p0: Point { x: 0.0, y: 0.0 },
             p2: Point { x: 0.0, y: 0.0 },
             contour: false,
+            first_quad: 0,
+            quad_count: 0,
         };
     }
-    spline_at(curvature, p0x, p0y, p2x, p2y, contour, below(n as usize))
+    spline_at(
+        curvature,
+        p0x,
+        p0y,
+        p2x,
+        p2y,
+        contour,
+        first_quad,
+        quad_count,
+        below(n as usize),
+    )
 }

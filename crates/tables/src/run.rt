@@ -31,19 +31,41 @@ fn apply(
     p2x: &mut [f32],
     p2y: &mut [f32],
     contour: &mut [u8],
+    first_quad: &mut [usize],
+    quad_count: &mut [u32],
     edit: Edit,
 ) -> State
-    ensures { λ r. ⌜ world r (quadTable (now («quad_rows» .exit)) (now («partial_splines» .exit))) (splineTable (now (curvature .exit)) (now (p0x .exit)) (now (p0y .exit)) (now (p2x .exit)) (now (p2y .exit)) (now (contour .exit))) ≡ applyOf edit (quadTable (now («quad_rows» .entry)) (now («partial_splines» .entry))) (splineTable (now (curvature .entry)) (now (p0x .entry)) (now (p0y .entry)) (now (p2x .entry)) (now (p2y .entry)) (now (contour .entry))) ⌝ }
+    ensures { λ r. ⌜ world r (quadTable (now («quad_rows» .exit)) (now («partial_splines» .exit))) (splineTable (now (curvature .exit)) (now (p0x .exit)) (now (p0y .exit)) (now (p2x .exit)) (now (p2y .exit)) (now (contour .exit)) (now («first_quad» .exit)) (now («quad_count» .exit))) ≡ applyOf edit (quadTable (now («quad_rows» .entry)) (now («partial_splines» .entry))) (splineTable (now (curvature .entry)) (now (p0x .entry)) (now (p0y .entry)) (now (p2x .entry)) (now (p2y .entry)) (now (contour .entry)) (now («first_quad» .entry)) (now («quad_count» .entry))) ⌝ }
 {
     match edit {
         Edit::Keep(st) => st,
         Edit::Extend(spline) => {
-            put_spline(curvature, p0x, p0y, p2x, p2y, contour, spline);
+            put_spline(
+                curvature,
+                p0x,
+                p0y,
+                p2x,
+                p2y,
+                contour,
+                first_quad,
+                quad_count,
+                spline,
+            );
             spline.next
         }
         Edit::Bend(spline, i, row) => {
             put_quad(quad_rows, partial_splines, i, row);
-            put_spline(curvature, p0x, p0y, p2x, p2y, contour, spline);
+            put_spline(
+                curvature,
+                p0x,
+                p0y,
+                p2x,
+                p2y,
+                contour,
+                first_quad,
+                quad_count,
+                spline,
+            );
             spline.next
         }
     }
@@ -59,12 +81,14 @@ pub fn push(
     p2x: &mut [f32],
     p2y: &mut [f32],
     contour: &mut [u8],
+    first_quad: &mut [usize],
+    quad_count: &mut [u32],
     setting: Setting,
     caps: Capacities,
     st: State,
     p: Primitive,
 ) -> State
-    ensures { λ r. ⌜ world r (quadTable (now («quad_rows» .exit)) (now («partial_splines» .exit))) (splineTable (now (curvature .exit)) (now (p0x .exit)) (now (p0y .exit)) (now (p2x .exit)) (now (p2y .exit)) (now (contour .exit))) ≡ runOf setting caps (p ∷ []) (world st (quadTable (now («quad_rows» .entry)) (now («partial_splines» .entry))) (splineTable (now (curvature .entry)) (now (p0x .entry)) (now (p0y .entry)) (now (p2x .entry)) (now (p2y .entry)) (now (contour .entry)))) ⌝ }
+    ensures { λ r. ⌜ world r (quadTable (now («quad_rows» .exit)) (now («partial_splines» .exit))) (splineTable (now (curvature .exit)) (now (p0x .exit)) (now (p0y .exit)) (now (p2x .exit)) (now (p2y .exit)) (now (contour .exit)) (now («first_quad» .exit)) (now («quad_count» .exit))) ≡ runOf setting caps (p ∷ []) (world st (quadTable (now («quad_rows» .entry)) (now («partial_splines» .entry))) (splineTable (now (curvature .entry)) (now (p0x .entry)) (now (p0y .entry)) (now (p2x .entry)) (now (p2y .entry)) (now (contour .entry)) (now («first_quad» .entry)) (now («quad_count» .entry)))) ⌝ }
 {
     let answer = st.answer;
     if !is_done(answer) {
@@ -77,6 +101,8 @@ pub fn push(
         &p2x[..],
         &p2y[..],
         &contour[..],
+        &first_quad[..],
+        &quad_count[..],
         st.splines,
     );
     let edit = plan(setting, caps, st, last, p);
@@ -89,6 +115,8 @@ pub fn push(
         p2x,
         p2y,
         contour,
+        first_quad,
+        quad_count,
         edit,
     )
 }
@@ -103,12 +131,14 @@ pub fn push_cubic(
     p2x: &mut [f32],
     p2y: &mut [f32],
     contour: &mut [u8],
+    first_quad: &mut [usize],
+    quad_count: &mut [u32],
     setting: Setting,
     caps: Capacities,
     st: State,
     c: Cubic,
 ) -> State
-    ensures { λ r. ⌜ world r (quadTable (now («quad_rows» .exit)) (now («partial_splines» .exit))) (splineTable (now (curvature .exit)) (now (p0x .exit)) (now (p0y .exit)) (now (p2x .exit)) (now (p2y .exit)) (now (contour .exit))) ≡ runOf setting caps (cubicQuadsOf c) (world st (quadTable (now («quad_rows» .entry)) (now («partial_splines» .entry))) (splineTable (now (curvature .entry)) (now (p0x .entry)) (now (p0y .entry)) (now (p2x .entry)) (now (p2y .entry)) (now (contour .entry)))) ⌝ }
+    ensures { λ r. ⌜ world r (quadTable (now («quad_rows» .exit)) (now («partial_splines» .exit))) (splineTable (now (curvature .exit)) (now (p0x .exit)) (now (p0y .exit)) (now (p2x .exit)) (now (p2y .exit)) (now (contour .exit)) (now («first_quad» .exit)) (now («quad_count» .exit))) ≡ runOf setting caps (cubicQuadsOf c) (world st (quadTable (now («quad_rows» .entry)) (now («partial_splines» .entry))) (splineTable (now (curvature .entry)) (now (p0x .entry)) (now (p0y .entry)) (now (p2x .entry)) (now (p2y .entry)) (now (contour .entry)) (now («first_quad» .entry)) (now («quad_count» .entry)))) ⌝ }
 {
     let n = cubic_pieces(c);
     if n > MAX_PIECES {
@@ -121,6 +151,8 @@ pub fn push_cubic(
             p2x,
             p2y,
             contour,
+            first_quad,
+            quad_count,
             setting,
             caps,
             st,
@@ -146,6 +178,8 @@ pub fn push_cubic(
             p2x,
             p2y,
             contour,
+            first_quad,
+            quad_count,
             setting,
             caps,
             state,

@@ -7,6 +7,7 @@ use lib.Ieee.{Float, lt}
 use Rattle.leaves.specs.Single.{_⊘_, whole32}
 use Rattle.leaves.specs.Whole.{wholeUpOf}
 use Rattle.point.specs.declared.Setting.{Setting}
+use Rattle.point.specs.declared.Setting.the-variants.{Screen, Knife}
 use Rattle.point.specs.Point.{minusOf, lenOf}
 use Rattle.command.specs.declared.PointCommand.{PointCommand}
 use Rattle.command.specs.declared.PointCommand.the-variants.{Start, Incr, End}
@@ -40,6 +41,11 @@ startsAfterOf k last row = eqb k 0 || last .contour || lt maxError (lenOf (minus
 unfoldable pub startsOf : SplineTable → ℕ → Bool
 startsOf s k = startsAfterOf k (splineAt s (k - 1)) (splineAt s k)
 
+-- The cursor begins a spline where the one before left it. 02, Six: "in the knife setting the cursor begins each spline at that first quad".
+unfoldable pub cursorStartOf : Setting → SplineRow → ℕ → ℕ
+cursorStartOf Screen row cursor = cursor
+cursorStartOf Knife row cursor = row .«first_quad»
+
 -- "The quad cursor goes on by one at step p when p exceeds the cursor's sum"
 abbrev pub cursorAtOf : Float → Float → ℕ → ℕ
 cursorAtOf sum p cursor = cond (lt sum p) (cursor + 1) cursor
@@ -72,7 +78,9 @@ splineItemsOf rows s k cursor =
 -- n splines from spline k on
 unfoldable pub walkFrom : Setting → (ℕ → QuadRow) → SplineTable → ℕ → ℕ → ℕ → List Item
 walkFrom setting rows s zero k cursor = []
-walkFrom setting rows s (suc n) k cursor = splineItemsOf rows s k cursor ++ walkFrom setting rows s n (k + 1) (cursorAfter rows s k cursor)
+walkFrom setting rows s (suc n) k cursor =
+    let start = cursorStartOf setting (splineAt s k) cursor in
+    splineItemsOf rows s k start ++ walkFrom setting rows s n (k + 1) (cursorAfter rows s k start)
 
 unfoldable pub walkOf : Setting → (ℕ → QuadRow) → SplineTable → ℕ → List Item
 walkOf setting rows s n = walkFrom setting rows s n 0 0

@@ -2,8 +2,9 @@
 // `populate_buffers` of path.rs does.
 ghost use mathlib.Core.Path.{_≡_};
 ghost use Rattle.tables.specs.Tables.{splineTable, sumAtOf};
-ghost use Rattle.walk.specs.Walk.{startsAfterOf, cursorAtOf};
+ghost use Rattle.walk.specs.Walk.{startsAfterOf, cursorStartOf, cursorAtOf};
 ghost use Rattle.walk.specs.Length.{stepsOf, sizeOf, splineLengthOf, walkLengthOf};
+use point::Setting;
 use primitives::SplineRow;
 use tables::spline_at;
 use tables::sum_at;
@@ -37,6 +38,16 @@ pub fn size(sum: f32) -> f32
     sum / m as f32
 }
 
+// Where the cursor begins a spline; `cursor` is where the spline before left it.
+pub fn cursor_start(setting: Setting, row: SplineRow, cursor: usize) -> usize
+    ensures { λ r. ⌜ r ≡ cursorStartOf setting row cursor ⌝ }
+{
+    match setting {
+        Setting::Screen => cursor,
+        Setting::Knife => row.first_quad,
+    }
+}
+
 // The cursor for step p: it goes on by one, and no further, if p exceeds the sum of its quad.
 pub fn cursor_at(quad_rows: &[f32], p: f32, cursor: usize) -> usize
     ensures { λ r. ⌜ r ≡ cursorAtOf (sumAtOf (now («quad_rows» .entry)) cursor) p cursor ⌝ }
@@ -66,16 +77,38 @@ pub fn walk_length(
     p2x: &[f32],
     p2y: &[f32],
     contour: &[u8],
+    first_quad: &[usize],
+    quad_count: &[u32],
     n: u32,
 ) -> u64
-    ensures { λ r. ⌜ r ≡ walkLengthOf (splineTable (now (curvature .entry)) (now (p0x .entry)) (now (p0y .entry)) (now (p2x .entry)) (now (p2y .entry)) (now (contour .entry))) n ⌝ }
+    ensures { λ r. ⌜ r ≡ walkLengthOf (splineTable (now (curvature .entry)) (now (p0x .entry)) (now (p0y .entry)) (now (p2x .entry)) (now (p2y .entry)) (now (contour .entry)) (now («first_quad» .entry)) (now («quad_count» .entry))) n ⌝ }
 {
     let mut total: u64 = 0;
-    let mut last = spline_at(curvature, p0x, p0y, p2x, p2y, contour, 0);
+    let mut last = spline_at(
+        curvature,
+        p0x,
+        p0y,
+        p2x,
+        p2y,
+        contour,
+        first_quad,
+        quad_count,
+        0,
+    );
     let mut k: u32 = 0;
     let mut left = n;
     while left > 0 {
-        let row = spline_at(curvature, p0x, p0y, p2x, p2y, contour, k as usize);
+        let row = spline_at(
+            curvature,
+            p0x,
+            p0y,
+            p2x,
+            p2y,
+            contour,
+            first_quad,
+            quad_count,
+            k as usize,
+        );
         total += spline_length(k, last, row);
         last = row;
         k += 1;
