@@ -14,6 +14,8 @@ pub record SplineLengths (a b : SplineTable) : Type 0 where
   pub p2x : length (a .p2x) ≡ length (b .p2x)
   pub p2y : length (a .p2y) ≡ length (b .p2y)
   pub contour : length (a .contour) ≡ length (b .contour)
+  pub first-quad : length (a .first-quad) ≡ length (b .first-quad)
+  pub quad-count : length (a .quad-count) ≡ length (b .quad-count)
 
 pub quads-same : (a : QuadTable) → QuadLengths a a
 quads-same a = record { rows = refl; partial-splines = refl }
@@ -22,7 +24,7 @@ pub quads-then : {a b c : QuadTable} → QuadLengths a b → QuadLengths b c →
 quads-then r s = record { rows = r .rows ∙ s .rows; partial-splines = r .partial-splines ∙ s .partial-splines }
 
 pub splines-same : (a : SplineTable) → SplineLengths a a
-splines-same a = record { curvature = refl; p0x = refl; p0y = refl; p2x = refl; p2y = refl; contour = refl }
+splines-same a = record { curvature = refl; p0x = refl; p0y = refl; p2x = refl; p2y = refl; contour = refl; first-quad = refl; quad-count = refl }
 
 pub splines-then : {a b c : SplineTable} → SplineLengths a b → SplineLengths b c → SplineLengths a c
 splines-then r s = record {
@@ -32,4 +34,6 @@ splines-then r s = record {
   p2x = r .p2x ∙ s .p2x;
   p2y = r .p2y ∙ s .p2y;
   contour = r .contour ∙ s .contour;
+  first-quad = r .first-quad ∙ s .first-quad;
+  quad-count = r .quad-count ∙ s .quad-count;
 }

@@ -291,7 +291,7 @@ skip a b c h = omega arith
 module _ (q : QuadTable) (s : SplineTable) where
   pub splines-room : (splineCapacityOf s ≤ length (s .curvature)) × (splineCapacityOf s ≤ length (s .contour)) × (splineCapacityOf s ≤ indexLimit)
   unfolding splineCapacityOf
-  splines-room = (skip _ _ _ (min-le-left _ _), skip _ _ _ (skip _ _ _ (skip _ _ _ (skip _ _ _ (skip _ _ _ (min-le-right _ _))))), min-le-left _ _)
+  splines-room = (skip _ _ _ (min-le-left _ _), skip _ _ _ (skip _ _ _ (skip _ _ _ (skip _ _ _ (skip _ _ _ (skip _ _ _ (min-le-left _ _)))))), min-le-left _ _)
 
   pub sound-start : Sound (capacitiesOf q s) (world startState q s)
   unfolding capacitiesOf

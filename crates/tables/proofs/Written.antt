@@ -43,7 +43,7 @@ unfolding quadRowAt numberAt
 row-not-whole q i e = rw e
 
 pub spline-put :
-    (s : SplineTable) (edit : SplineEdit) {curvature p0x p0y p2x p2y : List Float} {contour cleared : List ℕ} {byte : ℕ}
+    (s : SplineTable) (edit : SplineEdit) {curvature p0x p0y p2x p2y : List Float} {contour cleared first-quad quad-count : List ℕ} {byte : ℕ}
     → curvature ≡ set (s .curvature) (edit .at) (edit .row .curvature)
     → p0x ≡ set (s .p0x) (edit .at) (edit .row .p0 .x)
     → p0y ≡ set (s .p0y) (edit .at) (edit .row .p0 .y)
@@ -52,6 +52,8 @@ pub spline-put :
     → cleared ≡ clearFlag (edit .clears) (s .contour) (edit .at)
     → byte ≡ flagByteOf (edit .row .contour)
     → contour ≡ set cleared (edit .at) byte
-    → splineTable curvature p0x p0y p2x p2y contour ≡ putSpline s edit
+    → first-quad ≡ set (s .first-quad) (edit .at) (edit .row .«first_quad»)
+    → quad-count ≡ set (s .quad-count) (edit .at) (edit .row .«quad_count»)
+    → splineTable curvature p0x p0y p2x p2y contour first-quad quad-count ≡ putSpline s edit
 unfolding putSpline
-spline-put s edit e1 e2 e3 e4 e5 e6 e7 e8 = rw (e1, e2, e3, e4, e5, e8, e6, e7)
+spline-put s edit e1 e2 e3 e4 e5 e6 e7 e8 e9 e10 = rw (e1, e2, e3, e4, e5, e8, e6, e7, e9, e10)

@@ -13,34 +13,34 @@ still-near : (j : ℕ) → j < 2 ^ 62 + 256 → j < 2 ^ 63
 still-near j h = omega arith
 
 abbrev Inv-loop : tie.InvT-loop
-Inv-loop x y weight commands quad-rows₀ partial-splines₀ curvature₀ p0x₀ p0y₀ p2x₀ p2y₀ contour₀ setting caps n state₀ going₀ i₀ j₀
-    quad-rows partial-splines curvature p0x p0y p2x p2y contour state going i j =
+Inv-loop x y weight commands quad-rows₀ partial-splines₀ curvature₀ p0x₀ p0y₀ p2x₀ p2y₀ contour₀ first-quad₀ quad-count₀ setting caps n state₀ going₀ i₀ j₀
+    quad-rows partial-splines curvature p0x p0y p2x p2y contour first-quad quad-count state going i j =
     Taking setting caps (columns x y weight commands) n
-    (world state₀ (quadTable quad-rows₀ partial-splines₀) (splineTable curvature₀ p0x₀ p0y₀ p2x₀ p2y₀ contour₀))
-    (world state (quadTable quad-rows partial-splines) (splineTable curvature p0x p0y p2x p2y contour))
+    (world state₀ (quadTable quad-rows₀ partial-splines₀) (splineTable curvature₀ p0x₀ p0y₀ p2x₀ p2y₀ contour₀ first-quad₀ quad-count₀))
+    (world state (quadTable quad-rows partial-splines) (splineTable curvature p0x p0y p2x p2y contour first-quad quad-count))
     i j going
 
 abbrev μ-loop : tie.MeasureT-loop
-μ-loop x y weight commands quad-rows₀ partial-splines₀ curvature₀ p0x₀ p0y₀ p2x₀ p2y₀ contour₀ setting caps n state₀ going₀ i₀ j₀
-    quad-rows partial-splines curvature p0x p0y p2x p2y contour state going i j =
+μ-loop x y weight commands quad-rows₀ partial-splines₀ curvature₀ p0x₀ p0y₀ p2x₀ p2y₀ contour₀ first-quad₀ quad-count₀ setting caps n state₀ going₀ i₀ j₀
+    quad-rows partial-splines curvature p0x p0y p2x p2y contour first-quad quad-count state going i j =
     n - i
 
 -- ---- the places
 
 abbrev at-capacities : tie.After-spline-capacity Inv-loop μ-loop → tie.After-quad-capacity Inv-loop μ-loop
-at-capacities c = c .before .before .before .before .before .before .before
+at-capacities c = c .before .before .before .before .before .before .before .before .before
 
 abbrev at-start : tie.After-quad-capacity Inv-loop μ-loop → tie.Start Inv-loop μ-loop
-at-start c = c .before .before .before .before .before .before .before .before .before .before .before .before .before .before .before
+at-start c = c .before .before .before .before .before .before .before .before .before .before .before .before .before .before .before .before .before
 
 abbrev at-push : tie.After-is-done Inv-loop μ-loop → tie.After-push-command Inv-loop μ-loop
-at-push c = c .before .before .before .before .before .before .before .before .before .before .before .before .before .before .before .before .before
+at-push c = c .before .before .before .before .before .before .before .before .before .before .before .before .before .before .before .before .before .before .before .before .before
 
 abbrev at-read : tie.After-push-command Inv-loop μ-loop → tie.After-read-u8 Inv-loop μ-loop
-at-read c = c .before .before .before .before .before .before .before .before .before
+at-read c = c .before .before .before .before .before .before .before .before .before .before .before
 
-abbrev read-before : tie.After-push-command-arg8 Inv-loop μ-loop → tie.After-read-u8 Inv-loop μ-loop
-read-before c = c .before .before .before .before .before .before .before .before
+abbrev read-before : tie.After-push-command-arg10 Inv-loop μ-loop → tie.After-read-u8 Inv-loop μ-loop
+read-before c = c .before .before .before .before .before .before .before .before .before .before
 
 -- ---- the needs
 
@@ -94,6 +94,8 @@ loop-again c =
       p2x = k .1 .1 .1 .1 .1 .0;
       p2y = k .1 .1 .1 .1 .1 .1 .0;
       contour = k .1 .1 .1 .1 .1 .1 .1 .0;
+      first-quad = k .1 .1 .1 .1 .1 .1 .1 .1 .0;
+      quad-count = k .1 .1 .1 .1 .1 .1 .1 .1 .1 .0;
     })
 
 same-length : tie.Need-same-length Inv-loop μ-loop
@@ -120,6 +122,12 @@ same-length-7 c = c .before .loop .inv .splines .p2y
 same-length-8 : tie.Need-same-length-8 Inv-loop μ-loop
 same-length-8 c = c .before .loop .inv .splines .contour
 
+same-length-9 : tie.Need-same-length-9 Inv-loop μ-loop
+same-length-9 c = c .before .loop .inv .splines .first-quad
+
+same-length-10 : tie.Need-same-length-10 Inv-loop μ-loop
+same-length-10 c = c .before .loop .inv .splines .quad-count
+
 -- The tables at entry are written out, since the prover needs gigabytes to find them.
 returns : tie.Need-returns Inv-loop μ-loop
 returns c =
@@ -129,7 +137,7 @@ returns c =
     let a = at-start q .args in
     filled _ _ _
     (quadTable (a .quad-rows .now) (a .partial-splines .now))
-    (splineTable (a .curvature .now) (a .p0x .now) (a .p0y .now) (a .p2x .now) (a .p2y .now) (a .contour .now))
+    (splineTable (a .curvature .now) (a .p0x .now) (a .p0y .now) (a .p2x .now) (a .p2y .now) (a .contour .now) (a .first-quad .now) (a .quad-count .now))
     _ _ _ _ _ _ _ (c .before .loop .inv) (c .loop-test .left) (q .quad-capacity .ensures) (s .spline-capacity .ensures) (l .least .ensures)
 
 pub fill-spec : {M : Type 1} → statement M
@@ -157,4 +165,6 @@ fill-spec =
     same-length-6
     same-length-7
     same-length-8
+    same-length-9
+    same-length-10
     returns)

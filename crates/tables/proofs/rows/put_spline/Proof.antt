@@ -31,6 +31,12 @@ flag-byte-requires c κs = search needs
 put-u8-requires : tie.Need-put-u8-requires
 put-u8-requires c κs = search needs
 
+put-usize-requires : tie.Need-put-usize-requires
+put-usize-requires c κs = search needs
+
+put-u32-requires : tie.Need-put-u32-requires
+put-u32-requires c κs = search needs
+
 same-length : tie.Need-same-length
 same-length c = search needs
 
@@ -49,18 +55,27 @@ same-length-5 c = search needs
 same-length-6 : tie.Need-same-length-6
 same-length-6 c = search needs
 
+same-length-7 : tie.Need-same-length-7
+same-length-7 c = search needs
+
+same-length-8 : tie.Need-same-length-8
+same-length-8 c = search needs
+
 returns : tie.Need-returns
 returns c =
-    let byte-put = c .before .before in
+    let counted : tie.After-put-u32 = search in
+    let first : tie.After-put-usize = search in
+    let byte-put : tie.After-put-u8 = search in
     let byte-made = byte-put .before in
-    let cleared = byte-made .before .before .before .before in
-    let p2y-put = cleared .before .before .before .before in
-    let p2x-put = p2y-put .before .before .before .before in
-    let p0y-put = p2x-put .before .before .before .before in
-    let p0x-put = p0y-put .before .before .before .before in
-    let curvature-put = p0x-put .before .before .before .before in
+    let cleared : tie.After-clear-flag = search in
+    let p2y-put : tie.After-put-f325 = search in
+    let p2x-put : tie.After-put-f324 = search in
+    let p0y-put : tie.After-put-f323 = search in
+    let p0x-put : tie.After-put-f322 = search in
+    let curvature-put : tie.After-put-f32 = search in
     spline-put _ _ (curvature-put .put-f32 .ensures) (p0x-put .put-f322 .ensures) (p0y-put .put-f323 .ensures) (p2x-put .put-f324 .ensures)
-    (p2y-put .put-f325 .ensures) (cleared .clear-flag .ensures) (byte-made .flag-byte .ensures) (byte-put .put-u8 .ensures)
+    (p2y-put .put-f325 .ensures) (cleared .clear-flag .ensures) (byte-made .flag-byte .ensures) (byte-put .put-u8 .ensures) (first .put-usize .ensures)
+    (counted .put-u32 .ensures)
 
 pub put-spline-spec : {M : Type 1} → statement M
 put-spline-spec =
@@ -75,10 +90,14 @@ put-spline-spec =
     clear-flag-requires
     flag-byte-requires
     put-u8-requires
+    put-usize-requires
+    put-u32-requires
     same-length
     same-length-2
     same-length-3
     same-length-4
     same-length-5
     same-length-6
+    same-length-7
+    same-length-8
     returns)

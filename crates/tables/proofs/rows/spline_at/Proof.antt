@@ -25,6 +25,12 @@ read-u8-requires c κs = search needs
 is-flag-requires : tie.Need-is-flag-requires
 is-flag-requires c κs = search needs
 
+read-usize-requires : tie.Need-read-usize-requires
+read-usize-requires c κs = search needs
+
+read-u32-requires : tie.Need-read-u32-requires
+read-u32-requires c κs = search needs
+
 returns : tie.Need-returns
 unfolding splineAt
 returns c = cc
@@ -40,4 +46,6 @@ spline-at-spec =
     read-f32-requires-5
     read-u8-requires
     is-flag-requires
+    read-usize-requires
+    read-u32-requires
     returns)

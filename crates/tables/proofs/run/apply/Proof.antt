@@ -43,20 +43,20 @@ same-length-5 c = search needs
 same-length-6 : tie.Need-same-length-6
 same-length-6 c = search needs
 
-abbrev at-put-spline : tie.After-result → tie.After-put-spline
-at-put-spline c = c .before .before .before .before .before .before .before .before .before .before .before .before .before
-
-abbrev at-edit2 : tie.After-put-spline → tie.After-edit2
-at-edit2 c = c .before .before .before .before .before .before .before .before
-
-returns-2 : tie.Need-returns-2
-returns-2 c = let p = at-put-spline c in extends _ _ (at-edit2 p .edit2 .given .1) (p .put-spline .ensures)
-
 same-length-7 : tie.Need-same-length-7
 same-length-7 c = search needs
 
 same-length-8 : tie.Need-same-length-8
 same-length-8 c = search needs
+
+abbrev at-put-spline : tie.After-result → tie.After-put-spline
+at-put-spline c = c .before .before .before .before .before .before .before .before .before .before .before .before .before .before .before .before .before
+
+abbrev at-edit2 : tie.After-put-spline → tie.After-edit2
+at-edit2 c = c .before .before .before .before .before .before .before .before .before .before
+
+returns-2 : tie.Need-returns-2
+returns-2 c = let p = at-put-spline c in extends _ _ (at-edit2 p .edit2 .given .1) (p .put-spline .ensures)
 
 same-length-9 : tie.Need-same-length-9
 same-length-9 c = search needs
@@ -76,11 +76,23 @@ same-length-13 c = search needs
 same-length-14 : tie.Need-same-length-14
 same-length-14 c = search needs
 
+same-length-15 : tie.Need-same-length-15
+same-length-15 c = search needs
+
+same-length-16 : tie.Need-same-length-16
+same-length-16 c = search needs
+
+same-length-17 : tie.Need-same-length-17
+same-length-17 c = search needs
+
+same-length-18 : tie.Need-same-length-18
+same-length-18 c = search needs
+
 abbrev at-put-spline2 : tie.After-result2 → tie.After-put-spline2
-at-put-spline2 c = c .before .before .before .before .before .before .before .before .before .before .before .before .before
+at-put-spline2 c = c .before .before .before .before .before .before .before .before .before .before .before .before .before .before .before .before .before
 
 abbrev at-put-quad : tie.After-put-spline2 → tie.After-put-quad
-at-put-quad c = c .before .before .before .before .before .before .before .before .before .before .before
+at-put-quad c = c .before .before .before .before .before .before .before .before .before .before .before .before .before
 
 abbrev at-edit3 : tie.After-put-quad → tie.After-edit3
 at-edit3 c = c .before .before .before .before
@@ -108,13 +120,17 @@ apply-spec =
     same-length-4
     same-length-5
     same-length-6
-    returns-2
     same-length-7
     same-length-8
+    returns-2
     same-length-9
     same-length-10
     same-length-11
     same-length-12
     same-length-13
     same-length-14
+    same-length-15
+    same-length-16
+    same-length-17
+    same-length-18
     returns-3)

@@ -45,17 +45,23 @@ same-length-7 c = search needs
 same-length-8 : tie.Need-same-length-8
 same-length-8 c = search needs
 
-abbrev at-apply : tie.After-slice-known16 → tie.After-apply
-at-apply c = c .before .before .before .before .before .before .before .before .before .before .before .before .before .before .before .before
+same-length-9 : tie.Need-same-length-9
+same-length-9 c = search needs
+
+same-length-10 : tie.Need-same-length-10
+same-length-10 c = search needs
+
+abbrev at-apply : tie.After-slice-known20 → tie.After-apply
+at-apply c = c .before .before .before .before .before .before .before .before .before .before .before .before .before .before .before .before .before .before .before .before
 
 abbrev at-plan : tie.After-apply → tie.After-plan
-at-plan c = c .before .before .before .before .before .before .before .before .before
+at-plan c = c .before .before .before .before .before .before .before .before .before .before .before
 
 abbrev at-last-spline : tie.After-plan → tie.After-last-spline
 at-last-spline c = c .before
 
 abbrev at-if1 : tie.After-last-spline → tie.Else1
-at-if1 c = c .before .before .before .before .before .before .before
+at-if1 c = c .before .before .before .before .before .before .before .before .before
 
 returns-2 : tie.Need-returns-2
 returns-2 c =
@@ -82,4 +88,6 @@ push-spec =
     same-length-6
     same-length-7
     same-length-8
+    same-length-9
+    same-length-10
     returns-2)

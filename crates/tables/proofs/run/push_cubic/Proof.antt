@@ -7,30 +7,30 @@ use Rattle.tables.proofs.run.push_cubic.Statement.{statement}
 use Rattle.tables.proofs.run.push_cubic.Tie as tie
 
 abbrev Inv-loop : tie.InvT-loop
-Inv-loop quad-rows₀ partial-splines₀ curvature₀ p0x₀ p0y₀ p2x₀ p2y₀ contour₀ setting caps c n incr state₀ start₀ i₀ going₀
-    quad-rows partial-splines curvature p0x p0y p2x p2y contour state start i going =
+Inv-loop quad-rows₀ partial-splines₀ curvature₀ p0x₀ p0y₀ p2x₀ p2y₀ contour₀ first-quad₀ quad-count₀ setting caps c n incr state₀ start₀ i₀ going₀
+    quad-rows partial-splines curvature p0x p0y p2x p2y contour first-quad quad-count state start i going =
     Cutting setting caps c n incr start₀
-    (world state₀ (quadTable quad-rows₀ partial-splines₀) (splineTable curvature₀ p0x₀ p0y₀ p2x₀ p2y₀ contour₀))
-    (world state (quadTable quad-rows partial-splines) (splineTable curvature p0x p0y p2x p2y contour))
+    (world state₀ (quadTable quad-rows₀ partial-splines₀) (splineTable curvature₀ p0x₀ p0y₀ p2x₀ p2y₀ contour₀ first-quad₀ quad-count₀))
+    (world state (quadTable quad-rows partial-splines) (splineTable curvature p0x p0y p2x p2y contour first-quad quad-count))
     start i going
 
 abbrev μ-loop : tie.MeasureT-loop
-μ-loop quad-rows₀ partial-splines₀ curvature₀ p0x₀ p0y₀ p2x₀ p2y₀ contour₀ setting caps c n incr state₀ start₀ i₀ going₀
-    quad-rows partial-splines curvature p0x p0y p2x p2y contour state start i going =
+μ-loop quad-rows₀ partial-splines₀ curvature₀ p0x₀ p0y₀ p2x₀ p2y₀ contour₀ first-quad₀ quad-count₀ setting caps c n incr state₀ start₀ i₀ going₀
+    quad-rows partial-splines curvature p0x p0y p2x p2y contour first-quad quad-count state start i going =
     n + 1 - i
 
 -- ---- the places
-abbrev at-push : tie.After-slice-known16 Inv-loop μ-loop → tie.After-push Inv-loop μ-loop
-at-push c = c .before .before .before .before .before .before .before .before .before .before .before .before .before .before .before .before
+abbrev at-push : tie.After-slice-known20 Inv-loop μ-loop → tie.After-push Inv-loop μ-loop
+at-push c = c .before .before .before .before .before .before .before .before .before .before .before .before .before .before .before .before .before .before .before .before
 
 abbrev at-excess : tie.After-push Inv-loop μ-loop → tie.Then1 Inv-loop μ-loop
-at-excess c = c .before .before .before .before .before .before .before .before .before
+at-excess c = c .before .before .before .before .before .before .before .before .before .before .before
 
 abbrev at-push2 : tie.After-is-done2 Inv-loop μ-loop → tie.After-push2 Inv-loop μ-loop
-at-push2 c = c .before .before .before .before .before .before .before .before .before .before .before .before .before .before .before .before .before
+at-push2 c = c .before .before .before .before .before .before .before .before .before .before .before .before .before .before .before .before .before .before .before .before .before
 
 abbrev at-piece : tie.After-push2 Inv-loop μ-loop → tie.After-piece Inv-loop μ-loop
-at-piece c = c .before .before .before .before .before .before .before .before .before
+at-piece c = c .before .before .before .before .before .before .before .before .before .before .before
 
 abbrev at-turn : tie.After-piece Inv-loop μ-loop → tie.In-loop Inv-loop μ-loop
 at-turn c = c .before .before .before
@@ -71,6 +71,12 @@ same-length-7 c = at-push c .push .kept .1 .1 .1 .1 .1 .1 .0
 
 same-length-8 : tie.Need-same-length-8 Inv-loop μ-loop
 same-length-8 c = at-push c .push .kept .1 .1 .1 .1 .1 .1 .1 .0
+
+same-length-9 : tie.Need-same-length-9 Inv-loop μ-loop
+same-length-9 c = at-push c .push .kept .1 .1 .1 .1 .1 .1 .1 .1 .0
+
+same-length-10 : tie.Need-same-length-10 Inv-loop μ-loop
+same-length-10 c = at-push c .push .kept .1 .1 .1 .1 .1 .1 .1 .1 .1 .0
 
 returns : tie.Need-returns Inv-loop μ-loop
 returns c =
@@ -126,31 +132,39 @@ loop-again c =
       p2x = k .1 .1 .1 .1 .1 .0;
       p2y = k .1 .1 .1 .1 .1 .1 .0;
       contour = k .1 .1 .1 .1 .1 .1 .1 .0;
+      first-quad = k .1 .1 .1 .1 .1 .1 .1 .1 .0;
+      quad-count = k .1 .1 .1 .1 .1 .1 .1 .1 .1 .0;
     })
 
-same-length-9 : tie.Need-same-length-9 Inv-loop μ-loop
-same-length-9 c = c .before .loop .inv .quads .rows
-
-same-length-10 : tie.Need-same-length-10 Inv-loop μ-loop
-same-length-10 c = c .before .loop .inv .quads .partial-splines
-
 same-length-11 : tie.Need-same-length-11 Inv-loop μ-loop
-same-length-11 c = c .before .loop .inv .splines .curvature
+same-length-11 c = c .before .loop .inv .quads .rows
 
 same-length-12 : tie.Need-same-length-12 Inv-loop μ-loop
-same-length-12 c = c .before .loop .inv .splines .p0x
+same-length-12 c = c .before .loop .inv .quads .partial-splines
 
 same-length-13 : tie.Need-same-length-13 Inv-loop μ-loop
-same-length-13 c = c .before .loop .inv .splines .p0y
+same-length-13 c = c .before .loop .inv .splines .curvature
 
 same-length-14 : tie.Need-same-length-14 Inv-loop μ-loop
-same-length-14 c = c .before .loop .inv .splines .p2x
+same-length-14 c = c .before .loop .inv .splines .p0x
 
 same-length-15 : tie.Need-same-length-15 Inv-loop μ-loop
-same-length-15 c = c .before .loop .inv .splines .p2y
+same-length-15 c = c .before .loop .inv .splines .p0y
 
 same-length-16 : tie.Need-same-length-16 Inv-loop μ-loop
-same-length-16 c = c .before .loop .inv .splines .contour
+same-length-16 c = c .before .loop .inv .splines .p2x
+
+same-length-17 : tie.Need-same-length-17 Inv-loop μ-loop
+same-length-17 c = c .before .loop .inv .splines .p2y
+
+same-length-18 : tie.Need-same-length-18 Inv-loop μ-loop
+same-length-18 c = c .before .loop .inv .splines .contour
+
+same-length-19 : tie.Need-same-length-19 Inv-loop μ-loop
+same-length-19 c = c .before .loop .inv .splines .first-quad
+
+same-length-20 : tie.Need-same-length-20 Inv-loop μ-loop
+same-length-20 c = c .before .loop .inv .splines .quad-count
 
 returns-2 : tie.Need-returns-2 Inv-loop μ-loop
 returns-2 c =
@@ -175,6 +189,8 @@ push-cubic-spec =
     same-length-6
     same-length-7
     same-length-8
+    same-length-9
+    same-length-10
     returns
     int-to-float-incr
     applied-requires
@@ -188,12 +204,14 @@ push-cubic-spec =
     add-i
     loop-less
     loop-again
-    same-length-9
-    same-length-10
     same-length-11
     same-length-12
     same-length-13
     same-length-14
     same-length-15
     same-length-16
+    same-length-17
+    same-length-18
+    same-length-19
+    same-length-20
     returns-2)
