@@ -1,9 +1,9 @@
 -- What holds of the tables at every moment of a run, in both settings, whatever the tables held before: the quads up to the count belong to the splines up to
--- the count, spline by spline and in order, each spline as `Span` says.
+-- the count, spline by spline and in order, each spline as `Span` says; and each row tells its own quads.
 -- The plan: `cut j` is the number of quads before spline j. A push keeps every spline but the last one, which is opened or joined; `put` says so once, for a
 -- spline t that is either the next one, just opened, or the last. `sound-push` is that for each form of a push, and `sound-run` goes through a list. Assumes
 -- nothing.
-use mathlib.Core.Path.{_≡_, refl, sym, ap, _∙_, subst, subst₂}
+use mathlib.Core.Path.{_≡_, refl, sym, ap, ap₂, _∙_, subst, subst₂}
 use mathlib.Core.Logic.{inl, inr, _≢_}
 use mathlib.Core.List.{List, [], _∷_}
 use mathlib.Core.Bool.{Bool, true, false, cond, true≢false}
@@ -35,14 +35,14 @@ use Rattle.point.specs.declared.Angle.{Angle}
 use Rattle.command.specs.Packing.{indexLimit}
 use Rattle.primitives.specs.declared.SplineEdit.{SplineEdit}
 use Rattle.primitives.specs.declared.QuadRow.{QuadRow}
-use Rattle.primitives.specs.Splines.{sumBefore, splineEditOf}
+use Rattle.primitives.specs.Splines.{sumBefore, quadCountOf, splineEditOf}
 use Rattle.primitives.specs.Plan.{refusedOf, markedOf}
 use Rattle.tables.specs.Tables.{QuadTable, SplineTable, quadCapacityOf, splineCapacityOf, capacitiesOf, putQuad, quadRowAt, clearFlag, putSpline}
 use Rattle.tables.specs.Tables.{splineAt, noSpline, lastSplineOf}
 use Rattle.tables.specs.Run.{World, world, applyOf, pushOf, runOf, startState}
 use Rattle.tables.proofs.RunningSums.{Bent, natural, zero-natural, zero-num, positive-natural}
 use Rattle.tables.proofs.Pushes.{lastOf, Allowed, splineEdit, RowOf, Pushed, kept, marked, lined, bent, pushed}
-use Rattle.tables.proofs.Spans.{Span, Agree, same-sum, same-owner, span-none, span-agree, span-more, span-total}
+use Rattle.tables.proofs.Spans.{Span, Agree, same-sum, same-owner, span-none, span-agree, span-more, span-total, few-quads}
 use Rattle.tables.proofs.RowLaws.{row-put, row-stays, capacity-stays}
 
 -- the counts are within the capacities, and these within what the tables take
@@ -52,12 +52,20 @@ pub record Room (caps : Capacities) (w : World) : Type 0 where
   pub rows : caps .quads ≤ quadCapacityOf (w .quads)
   pub totals : caps .splines ≤ length (w .splines .curvature)
   pub flags : caps .splines ≤ length (w .splines .contour)
+  pub firsts : caps .splines ≤ length (w .splines .first-quad)
+  pub counts : caps .splines ≤ length (w .splines .quad-count)
+
+-- a row says that its quads are those from lo to below hi
+pub record Ranged (row : SplineRow) (lo hi : ℕ) : Type 0 where
+  pub first : row .«first_quad» ≡ lo
+  pub count : lo + row .«quad_count» ≡ hi
 
 pub record Sound (caps : Capacities) (w : World) : Type 0 where
   pub cut : ℕ → ℕ
   pub first : cut 0 ≡ 0
   pub all : cut (w .state .splines) ≡ w .state .quads
   pub span : (j : ℕ) → j < w .state .splines → Span (quadRowAt (w .quads)) (splineAt (w .splines) j .curvature) (cut j) (cut (suc j)) j
+  pub ranged : (j : ℕ) → j < w .state .splines → Ranged (splineAt (w .splines) j) (cut j) (cut (suc j))
   pub room : Room caps w
   pub waits : w .state .mark ≡ false → 0 < w .state .splines
 
@@ -107,6 +115,36 @@ module _ (s : SplineTable) (edit : SplineEdit) where
       go true = length-set (s .contour) (edit .at - 1) _
       go false = refl
 
+  pub firsts-length : length (putSpline s edit .first-quad) ≡ length (s .first-quad)
+  unfolding putSpline
+  firsts-length = length-set (s .first-quad) (edit .at) (edit .row .«first_quad»)
+
+  pub counts-length : length (putSpline s edit .quad-count) ≡ length (s .quad-count)
+  unfolding putSpline
+  counts-length = length-set (s .quad-count) (edit .at) (edit .row .«quad_count»)
+
+  pub ranged-new : (lo hi : ℕ) → edit .at < length (s .first-quad) → edit .at < length (s .quad-count) → Ranged (edit .row) lo hi
+      → Ranged (splineAt (putSpline s edit) (edit .at)) lo hi
+  unfolding putSpline splineAt
+  ranged-new lo hi h k R =
+      record {
+        first = getD-set-same (s .first-quad) (edit .at) (edit .row .«first_quad») 0 h ∙ R .first;
+        count = ap (λ (x : ℕ). lo + x) (getD-set-same (s .quad-count) (edit .at) (edit .row .«quad_count») 0 k) ∙ R .count;
+      }
+
+  pub ranged-other : (j lo hi : ℕ) → j ≢ edit .at → Ranged (splineAt s j) lo hi → Ranged (splineAt (putSpline s edit) j) lo hi
+  unfolding putSpline splineAt
+  ranged-other j lo hi h R =
+      record {
+        first = getD-set-other (s .first-quad) (edit .at) j (edit .row .«first_quad») 0 h ∙ R .first;
+        count = ap (λ (x : ℕ). lo + x) (getD-set-other (s .quad-count) (edit .at) j (edit .row .«quad_count») 0 h) ∙ R .count;
+      }
+
+-- the number of quads fits, since a spline has no more than its sum
+count-fits : (lo hi : ℕ) → lo ≤ hi → hi ≤ lo + 65536 → lo + quadCountOf lo hi ≡ hi
+unfolding quadCountOf
+count-fits lo hi h k = omega arith
+
 -- ---- the last spline, where there is one
 pub last-is : (w : World) → 0 < w .state .splines → lastOf w ≡ splineAt (w .splines) (w .state .splines - 1)
 unfolding lastSplineOf
@@ -131,11 +169,12 @@ agree-put q k row i h = row-stays q k row i (ne-of-lt h)
 
 module _ (caps : Capacities) (w : World) (S : Sound caps w) where
   put : (edit : SplineEdit) (q' : QuadTable) (t k' : ℕ) (total : Float) → t ≤ w .state .splines → t < caps .splines → k' ≤ caps .quads
-      → edit .at ≡ t → edit .row .curvature ≡ total → edit .next .splines ≡ suc t → edit .next .quads ≡ k'
+      → edit .at ≡ t → edit .row .curvature ≡ total → edit .row .«first_quad» ≡ S .cut t → edit .row .«quad_count» ≡ quadCountOf (S .cut t) k'
+      → edit .next .splines ≡ suc t → edit .next .quads ≡ k'
       → Agree (quadRowAt (w .quads)) (quadRowAt q') (w .state .quads) → quadCapacityOf q' ≡ quadCapacityOf (w .quads)
       → Span (quadRowAt q') total (S .cut t) k' t
       → Sound caps (world (edit .next) q' (putSpline (w .splines) edit))
-  put edit q' t k' total T≤ T< K at row next quads A l R =
+  put edit q' t k' total T≤ T< K at row first count next quads A l R =
       let s = w .splines in
       let W = world (edit .next) q' (putSpline s edit) in
       record {
@@ -158,6 +197,17 @@ module _ (caps : Capacities) (w : World) (S : Sound caps w) where
               (total-other s edit j (λ e. ne-of-lt l (e ∙ at)))
               (S .span j (lt-of-lt-of-le l T≤)))
         ];
+        ranged = λ j h. elim (eq-or-lt-of-le (le-of-suc-le-suc (lt-of-lt-of-le h (le-of-eq next)))) [
+          | inl e ↦
+              subst (λ (x : ℕ). Ranged (splineAt (putSpline s edit) x) (topped (S .cut) t k' x) (topped (S .cut) t k' (suc x))) (sym e)
+              (subst₂ (λ (x y : ℕ). Ranged (splineAt (putSpline s edit) t) x y) (sym (topped-low (S .cut) t k' t (le-refl t)))
+              (sym (topped-high (S .cut) t k' (suc t) (le-refl (suc t))))
+              (new-range at first count (R .ordered) (few-quads (quadRowAt q') total (S .cut t) k' t R)))
+          | inr l ↦
+              subst₂ (λ (x y : ℕ). Ranged (splineAt (putSpline s edit) j) x y) (sym (topped-low (S .cut) t k' j (le-of-lt l)))
+              (sym (topped-low (S .cut) t k' (suc j) l))
+              (ranged-other s edit j (S .cut j) (S .cut (suc j)) (λ e. ne-of-lt l (e ∙ at)) (S .ranged j (lt-of-lt-of-le l T≤)))
+        ];
         room =
             record {
               quads = le-trans (le-of-eq quads) K;
@@ -165,6 +215,8 @@ module _ (caps : Capacities) (w : World) (S : Sound caps w) where
               rows = le-trans (S .room .rows) (le-of-eq (sym l));
               totals = le-trans (S .room .totals) (le-of-eq (sym (totals-length s edit)));
               flags = le-trans (S .room .flags) (le-of-eq (sym (flags-length s edit)));
+              firsts = le-trans (S .room .firsts) (le-of-eq (sym (firsts-length s edit)));
+              counts = le-trans (S .room .counts) (le-of-eq (sym (counts-length s edit)));
             };
         waits = λ e. lt-of-lt-of-le (pos t) (le-of-eq (sym next));
       }
@@ -176,6 +228,14 @@ module _ (caps : Capacities) (w : World) (S : Sound caps w) where
       new-total at row =
           subst (λ (x : ℕ). splineAt (putSpline (w .splines) edit) x .curvature ≡ edit .row .curvature) at
           (total-same (w .splines) edit (lt-of-le-of-lt (le-of-eq at) (lt-of-lt-of-le T< (S .room .totals)))) ∙ row
+
+      new-range : edit .at ≡ t → edit .row .«first_quad» ≡ S .cut t → edit .row .«quad_count» ≡ quadCountOf (S .cut t) k'
+          → S .cut t ≤ k' → k' ≤ S .cut t + 65536 → Ranged (splineAt (putSpline (w .splines) edit) t) (S .cut t) k'
+      new-range at first count up few =
+          subst (λ (x : ℕ). Ranged (splineAt (putSpline (w .splines) edit) x) (S .cut t) k') at
+          (ranged-new (w .splines) edit (S .cut t) k' (lt-of-le-of-lt (le-of-eq at) (lt-of-lt-of-le T< (S .room .firsts)))
+          (lt-of-le-of-lt (le-of-eq at) (lt-of-lt-of-le T< (S .room .counts)))
+          (record { first = first; count = ap (λ (x : ℕ). S .cut t + x) count ∙ count-fits (S .cut t) k' up few }))
 
       below : (hi : ℕ) → hi ≤ w .state .quads → Agree (quadRowAt (w .quads)) (quadRowAt q') hi
       below hi h i l = A i (lt-of-lt-of-le l h)
@@ -194,6 +254,14 @@ module _ (caps : Capacities) (w : World) (S : Sound caps w) where
       (ap (S .cut) p ∙ S .all)
       (S .span (n - 1) (le-of-eq p))
 
+  -- the first quad of a spline that is opened, and of the last one
+  opened-first : w .state .quads ≡ S .cut (w .state .splines)
+  opened-first = sym (S .all)
+
+  joined-first : 0 < w .state .splines → lastOf w .«first_quad» ≡ S .cut (w .state .splines - 1)
+  joined-first h =
+      ap (λ (r : SplineRow). r .«first_quad») (last-is w h) ∙ S .ranged (w .state .splines - 1) (le-of-eq (pred-suc (w .state .splines) h)) .first
+
   -- the sum that a spline has before one more quad: zero, or a running sum
   pub sum-before : (opens : Bool) → (opens ≡ false → w .state .mark ≡ false)
       → T (natural (sumBefore opens (lastOf w))) × (num (sumBefore opens (lastOf w)) ≤ 65536 * den (sumBefore opens (lastOf w)))
@@ -210,13 +278,14 @@ module _ (caps : Capacities) (w : World) (S : Sound caps w) where
   sound-lined true start end angle A =
       let n = w .state .splines in
       put (splineEdit w true start end zero32 (w .state .quads) angle) (w .quads) n (w .state .quads) zero32 (le-refl n) (A .room refl)
-      (S .room .quads) refl refl (add-one n) refl
+      (S .room .quads) refl refl opened-first (ap (λ (x : ℕ). quadCountOf x (w .state .quads)) opened-first) (add-one n) refl
       (agree-self (quadRowAt (w .quads)) (w .state .quads)) refl before-open
   sound-lined false start end angle A =
       let n = w .state .splines in
       let N = S .waits (A .joins refl) in
       put (splineEdit w false start end (lastOf w .curvature) (w .state .quads) angle) (w .quads) (n - 1) (w .state .quads) (lastOf w .curvature) (sub-le n 1)
-      (lt-of-lt-of-le (pred-lt n N) (S .room .splines)) (S .room .quads) refl refl (sym (pred-suc n N)) refl
+      (lt-of-lt-of-le (pred-lt n N) (S .room .splines)) (S .room .quads) refl refl (joined-first N)
+      (ap (λ (x : ℕ). quadCountOf x (w .state .quads)) (joined-first N)) (sym (pred-suc n N)) refl
       (agree-self (quadRowAt (w .quads)) (w .state .quads)) refl (before-join N)
 
   sound-bent : {setting : Setting} {kind : Kind} (opens : Bool) (start end : Point) (angle : Angle) (c : Float) (row : QuadRow)
@@ -231,8 +300,8 @@ module _ (caps : Capacities) (w : World) (S : Sound caps w) where
       let k = w .state .quads in
       let q = w .quads in
       let stored = row-put q k row (lt-of-lt-of-le K (S .room .rows)) in
-      put (splineEdit w true start end (zero32 ⊕ c) (k + 1) angle) (putQuad q k row) n (suc k) (zero32 ⊕ c) (le-refl n) (A .room refl) K refl refl (add-one n)
-      (add-one k)
+      put (splineEdit w true start end (zero32 ⊕ c) (k + 1) angle) (putQuad q k row) n (suc k) (zero32 ⊕ c) (le-refl n) (A .room refl) K refl refl opened-first
+      (ap₂ quadCountOf opened-first (add-one k)) (add-one n) (add-one k)
       (agree-put q k row) (capacity-stays q k row)
       (span-more (quadRowAt q) (quadRowAt (putQuad q k row)) zero32 c (S .cut n) k n before-open (agree-put q k row) B fit (same-sum stored ∙ R .total)
       (same-owner stored ∙ R .owner))
@@ -243,7 +312,7 @@ module _ (caps : Capacities) (w : World) (S : Sound caps w) where
       let N = S .waits (A .joins refl) in
       let stored = row-put q k row (lt-of-lt-of-le K (S .room .rows)) in
       put (splineEdit w false start end (lastOf w .curvature ⊕ c) (k + 1) angle) (putQuad q k row) (n - 1) (suc k) (lastOf w .curvature ⊕ c) (sub-le n 1)
-      (lt-of-lt-of-le (pred-lt n N) (S .room .splines)) K refl refl (sym (pred-suc n N)) (add-one k)
+      (lt-of-lt-of-le (pred-lt n N) (S .room .splines)) K refl refl (joined-first N) (ap₂ quadCountOf (joined-first N) (add-one k)) (sym (pred-suc n N)) (add-one k)
       (agree-put q k row) (capacity-stays q k row)
       (span-more (quadRowAt q) (quadRowAt (putQuad q k row)) (lastOf w .curvature) c (S .cut (n - 1)) k (n - 1) (before-join N) (agree-put q k row) B fit
       (same-sum stored ∙ R .total) (same-owner stored ∙ R .owner))
@@ -256,6 +325,7 @@ module _ (caps : Capacities) (w : World) (S : Sound caps w) where
         first = S .first;
         all = ap (S .cut) e ∙ S .all ∙ sym f;
         span = λ j h. S .span j (lt-of-lt-of-le h (le-of-eq e));
+        ranged = λ j h. S .ranged j (lt-of-lt-of-le h (le-of-eq e));
         room =
             record {
               quads = le-trans (le-of-eq f) (S .room .quads);
@@ -263,6 +333,8 @@ module _ (caps : Capacities) (w : World) (S : Sound caps w) where
               rows = S .room .rows;
               totals = S .room .totals;
               flags = S .room .flags;
+              firsts = S .room .firsts;
+              counts = S .room .counts;
             };
         waits = λ h. lt-of-lt-of-le (S .waits (m h)) (le-of-eq (sym e));
       }
@@ -289,6 +361,13 @@ skip : (a b c : ℕ) → b ≤ c → min a b ≤ c
 skip a b c h = omega arith
 
 module _ (q : QuadTable) (s : SplineTable) where
+  ranges-room : (splineCapacityOf s ≤ length (s .first-quad)) × (splineCapacityOf s ≤ length (s .quad-count))
+  unfolding splineCapacityOf
+  ranges-room =
+      let firsts = skip _ _ _ (skip _ _ _ (skip _ _ _ (skip _ _ _ (skip _ _ _ (skip _ _ _ (skip _ _ _ (min-le-left _ _))))))) in
+      let counts = skip _ _ _ (skip _ _ _ (skip _ _ _ (skip _ _ _ (skip _ _ _ (skip _ _ _ (skip _ _ _ (min-le-right _ _))))))) in
+      (firsts, counts)
+
   pub splines-room : (splineCapacityOf s ≤ length (s .curvature)) × (splineCapacityOf s ≤ length (s .contour)) × (splineCapacityOf s ≤ indexLimit)
   unfolding splineCapacityOf
   splines-room = (skip _ _ _ (min-le-left _ _), skip _ _ _ (skip _ _ _ (skip _ _ _ (skip _ _ _ (skip _ _ _ (skip _ _ _ (min-le-left _ _)))))), min-le-left _ _)
@@ -301,6 +380,7 @@ module _ (q : QuadTable) (s : SplineTable) where
         first = refl;
         all = refl;
         span = λ j h. absurd (not-suc-le-zero h);
+        ranged = λ j h. absurd (not-suc-le-zero h);
         room =
             record {
               quads = zero-le;
@@ -308,6 +388,8 @@ module _ (q : QuadTable) (s : SplineTable) where
               rows = le-refl (quadCapacityOf q);
               totals = splines-room .0;
               flags = splines-room .1;
+              firsts = ranges-room .0;
+              counts = ranges-room .1;
             };
         waits = λ h. absurd (true≢false h);
       }

@@ -4,10 +4,11 @@ use mathlib.Core.Path.{_≡_, refl, sym, ap, _∙_, subst, subst₂}
 use mathlib.Core.Logic.{_⊎_, inl, inr}
 use Prim.Native.Nat.{ℕ, zero, suc, _+_, _-_, _*_, _≤_, _<_, zero-le}
 use native.Mathlib.Nat.{le-trans, le-of-eq, le-refl, le-of-lt, lt-of-lt-of-le, lt-of-le-of-lt, lt-irrefl, eq-or-lt-of-le, le-of-suc-le-suc, suc-inj}
+use native.Mathlib.Nat.{add-zero, one-mul, le-of-mul-le-mul-right}
 use native.Mathlib.Omega.{arith}
 use lib.Dec.{T}
 use lib.Ieee.{Float, le}
-use lib.Ieee.Positive.{num, den}
+use lib.Ieee.Positive.{num, den, den-pos}
 use Rattle.leaves.specs.Single.{_⊕_, zero32}
 use Rattle.leaves.specs.Whole.{limit32}
 use Rattle.primitives.specs.declared.QuadRow.{QuadRow}
@@ -86,6 +87,45 @@ span-last rows total lo hi j S h =
 
 pub span-total : (rows : ℕ → QuadRow) (total : Float) (lo hi j : ℕ) → Span rows total lo hi j → ((lo ≡ hi) × (total ≡ zero32)) ⊎ LastOf rows total lo hi
 span-total rows total lo hi j S = elim (eq-or-lt-of-le (S .ordered)) [ inl e ↦ inl (e, S .none e) | inr h ↦ inr (span-last rows total lo hi j S h) ]
+
+-- ---- a spline has no more quads than its sum, for each quad's sum reaches the next whole number
+module _ (rows : ℕ → QuadRow) (total : Float) (lo hi j : ℕ) (S : Span rows total lo hi j) where
+  sum-counts : (d : ℕ) → lo + d < hi → suc d * den (sumAt rows (lo + d)) ≤ num (sumAt rows (lo + d))
+  sum-counts zero h =
+      subst (λ (x : ℕ). suc 0 * den (sumAt rows x) ≤ num (sumAt rows x)) (sym (add-zero lo))
+      (le-trans (le-of-eq (one-mul _)) (le-of-lt (S .sums lo (le-refl lo) (le-trans (le-of-eq (ap suc (sym (add-zero lo)))) h) .over)))
+  sum-counts (suc d) h =
+      let e = next lo d in
+      let k = lt-of-le-of-lt (le-of-eq e) h in
+      subst (λ (x : ℕ). suc (suc d) * den (sumAt rows x) ≤ num (sumAt rows x)) e
+      (S .grows (lo + d) (from lo d) k (suc d) (sum-counts d (le-of-lt k)))
+    where
+      next : (a b : ℕ) → suc (a + b) ≡ a + suc b
+      next a b = omega arith
+
+      from : (a b : ℕ) → a ≤ a + b
+      from a b = omega arith
+
+  pub few-quads : hi ≤ lo + 65536
+  few-quads = elim (eq-or-lt-of-le (S .ordered)) [
+    | inl e ↦ le-trans (le-of-eq (sym e)) (from lo 65536)
+    | inr h ↦
+        let L = span-last rows total lo hi j S h in
+        let e = split (L .at) lo (L .inside) in
+        let most = subst Sum (L .same) (L .sum) .most in
+        let n = subst (λ (x : ℕ). suc (L .at - lo) * den (sumAt rows x) ≤ num (sumAt rows x)) e
+        (sum-counts (L .at - lo) (lt-of-le-of-lt (le-of-eq e) (le-of-eq (L .next)))) in
+        last (L .at) (le-of-mul-le-mul-right (le-trans n most) (den-pos (sumAt rows (L .at)))) (L .inside) (L .next)
+  ]
+    where
+      from : (a b : ℕ) → a ≤ a + b
+      from a b = omega arith
+
+      split : (a b : ℕ) → b ≤ a → b + (a - b) ≡ a
+      split a b h = omega arith
+
+      last : (at : ℕ) → suc (at - lo) ≤ 65536 → lo ≤ at → suc at ≡ hi → hi ≤ lo + 65536
+      last at h k e = omega arith
 
 -- ---- one more quad, at k
 module _ (rows rows' : ℕ → QuadRow) (total c : Float) (lo k j : ℕ) (S : Span rows total lo k j) (A : Agree rows rows' k) (B : Bent c)
