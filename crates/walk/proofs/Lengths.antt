@@ -18,7 +18,8 @@ use Rattle.point.specs.declared.Setting.{Setting}
 use Rattle.primitives.specs.declared.QuadRow.{QuadRow}
 use Rattle.primitives.specs.declared.SplineRow.{SplineRow}
 use Rattle.tables.specs.Tables.{SplineTable, splineAt}
-use Rattle.walk.specs.Walk.{Item, item, subdivisionsOf, stepSizeOf, startsAfterOf, startsOf, stepsFrom, splineItemsOf, cursorAfter, walkFrom, walkOf}
+use Rattle.walk.specs.Walk.{Item, item, subdivisionsOf, stepSizeOf, startsAfterOf, startsOf, cursorStartOf, stepsFrom, splineItemsOf, cursorAfter}
+use Rattle.walk.specs.Walk.{walkFrom, walkOf}
 use Rattle.walk.specs.Length.{stepsOf, splineLengthOf, lengthFrom, walkLengthOf}
 
 -- ---- bounds
@@ -73,8 +74,9 @@ walk-from-length : (setting : Setting) (rows : ℕ → QuadRow) (s : SplineTable
 unfolding walkFrom lengthFrom
 walk-from-length setting rows s zero k cursor = refl
 walk-from-length setting rows s (suc n) k cursor =
-    length-append (splineItemsOf rows s k cursor) (walkFrom setting rows s n (k + 1) (cursorAfter rows s k cursor))
-    ∙ ap₂ (λ (a b : ℕ). a + b) (spline-length rows s k cursor) (walk-from-length setting rows s n (k + 1) (cursorAfter rows s k cursor))
+    let start = cursorStartOf setting (splineAt s k) cursor in
+    length-append (splineItemsOf rows s k start) (walkFrom setting rows s n (k + 1) (cursorAfter rows s k start))
+    ∙ ap₂ (λ (a b : ℕ). a + b) (spline-length rows s k start) (walk-from-length setting rows s n (k + 1) (cursorAfter rows s k start))
 
 pub walk-length : (setting : Setting) (rows : ℕ → QuadRow) (s : SplineTable) (n : ℕ) → length (walkOf setting rows s n) ≡ walkLengthOf s n
 unfolding walkOf walkLengthOf

@@ -14,11 +14,11 @@ total-fits : (k : ℕ) (last row : SplineRow) (len : ℕ) → len ≡ splineLeng
 total-fits k last row len e = rw e (spline-length-bound k last row)
 
 abbrev Inv-loop : tie.InvT-loop
-Inv-loop curvature p0x p0y p2x p2y contour n total₀ last₀ k₀ left₀ total last k left =
-    Counted (splineTable curvature p0x p0y p2x p2y contour) n total last k left
+Inv-loop curvature p0x p0y p2x p2y contour first-quad quad-count n total₀ last₀ k₀ left₀ total last k left =
+    Counted (splineTable curvature p0x p0y p2x p2y contour first-quad quad-count) n total last k left
 
 abbrev μ-loop : tie.MeasureT-loop
-μ-loop curvature p0x p0y p2x p2y contour n total₀ last₀ k₀ left₀ total last k left = left
+μ-loop curvature p0x p0y p2x p2y contour first-quad quad-count n total₀ last₀ k₀ left₀ total last k left = left
 
 unfoldable start : tie.At-loop Inv-loop μ-loop → tie.Start Inv-loop μ-loop
 start c = search
