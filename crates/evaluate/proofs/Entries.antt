@@ -17,15 +17,16 @@ use Rattle.columns.specs.Flags.{flagByteOf}
 use Rattle.command.specs.declared.PointCommand.the-variants.{Start, End}
 use Rattle.command.specs.Packing.{packOf}
 use Rattle.point.specs.declared.Setting.{Setting}
+use Rattle.point.specs.declared.Setting.the-variants.{Screen, Knife}
 use Rattle.primitives.specs.declared.QuadRow.{QuadRow}
 use Rattle.tables.specs.Tables.{SplineTable, splineAt}
-use Rattle.walk.specs.Walk.{Item, item, subdivisionsOf, stepSizeOf, startsOf, cursorAt, stepsFrom, cursorFrom, cursorAfter}
+use Rattle.walk.specs.Walk.{Item, item, subdivisionsOf, stepSizeOf, startsOf, cursorStartOf, cursorAt, stepsFrom, cursorFrom, cursorAfter}
 use Rattle.walk.specs.Walk.{splineItemsOf, walkFrom, walkOf, wordOf, wordsOf}
 use Rattle.walk.proofs.Lengths.{steps-length}
 use Rattle.evaluate.specs.declared.Place.{Place}
 use Rattle.evaluate.specs.Evaluate.{Finished, finished, commandPointOf, itemPointOf, pointsOf}
 use Rattle.evaluate.specs.Output.{Output, output, over, fitsOutput, writeOutput}
-use Rattle.evaluate.specs.Writing.{Written, written, placeAt, writeEntryOf, writeStartOf, writeStepsFrom, writeStepsOf, endPlaceOf, writeSplineOf}
+use Rattle.evaluate.specs.Writing.{Written, written, placeAt, writeEntryOf, writeStartOf, writeStepsFrom, writeStepsOf, endCursorOf, writeSplineOf}
 use Rattle.evaluate.specs.Writing.{writeWalkFrom, writeWalkOf}
 
 -- ---- a list of items, written from an entry on
@@ -103,51 +104,76 @@ finish-at at n start steps end e =
     let b = length-append steps (end ∷ []) in
     omega arith
 
-finish-cursor : (rows : ℕ → QuadRow) (m cursor : ℕ)
-    → cond (eqb m 0) (cursorFrom rows (m - 1) 1 cursor) (cursorFrom rows (m - 1) 1 cursor + 1) ≡ cond (eqb m 0) cursor (cursorFrom rows (m - 1) 1 cursor + 1)
-unfolding cursorFrom
-finish-cursor rows zero cursor = refl
-finish-cursor rows (suc m) cursor = let e : eqb (suc m) 0 ≡ false = ne-eqb (suc m) 0 (λ z. omega arith) in rw e
+-- where a written spline leaves the cursor
+unfoldable pub leftAt : Setting → (ℕ → QuadRow) → SplineTable → ℕ → ℕ → ℕ
+leftAt Screen rows s k cursor = cursorAfter rows s k cursor
+leftAt Knife rows s k cursor = cursorFrom rows (subdivisionsOf s k - 1) 1 cursor
 
-module _ (rows : ℕ → QuadRow) (s : SplineTable) (k : ℕ) (from : Place) (o : Output) where
+finish-cursor : (setting : Setting) (rows : ℕ → QuadRow) (s : SplineTable) (k cursor : ℕ)
+    → endCursorOf setting (splineAt s k .curvature) (cursorFrom rows (subdivisionsOf s k - 1) 1 cursor) ≡ leftAt setting rows s k cursor
+unfolding endCursorOf leftAt cursorAfter cursorFrom subdivisionsOf
+finish-cursor Screen rows s k cursor = go (subdivisionsOf s k)
+  where
+    go : (m : ℕ) → cond (eqb m 0) (cursorFrom rows (m - 1) 1 cursor) (cursorFrom rows (m - 1) 1 cursor + 1)
+        ≡ cond (eqb m 0) cursor (cursorFrom rows (m - 1) 1 cursor + 1)
+    go zero = refl
+    go (suc m) = let e : eqb (suc m) 0 ≡ false = ne-eqb (suc m) 0 (λ z. omega arith) in rw e
+finish-cursor Knife rows s k cursor = refl
+
+-- for the knife it makes no difference where that is
+any-cursor : (setting : Setting) (rows : ℕ → QuadRow) (s : SplineTable) (n k j cursor : ℕ)
+    → walkFrom setting rows s n k (leftAt setting rows s j cursor) ≡ walkFrom setting rows s n k (cursorAfter rows s j cursor)
+unfolding leftAt walkFrom cursorStartOf
+any-cursor Screen rows s n k j cursor = refl
+any-cursor Knife rows s zero k j cursor = refl
+any-cursor Knife rows s (suc n) k j cursor = refl
+
+module _ (setting : Setting) (rows : ℕ → QuadRow) (s : SplineTable) (k : ℕ) (from : Place) (o : Output) where
   abbrev afterSteps : Written → Written
   afterSteps b =
       let row = splineAt s k in
       let o' = writeEntryOf (b .place .at) (packOf (End k (row .contour))) (finished (row .p2) (row .contour)) (b .output) in
-      written o' (endPlaceOf (row .curvature) (b .place))
+      written o' (placeAt (b .place .at + 1) (endCursorOf setting (row .curvature) (b .place .cursor)))
 
   abbrev afterStart : Written → Written
   afterStart a = afterSteps (writeStepsOf rows (stepSizeOf s k) (subdivisionsOf s k - 1) (a .place) (a .output))
 
+  -- the cursor at its beginning
+  abbrev pub begins : ℕ
+  begins = cursorStartOf setting (splineAt s k) (from .cursor)
+
   -- a whole spline
-  pub spline-written : writeSplineOf rows k (startsOf s k) (splineAt s k) from o
-      ≡ written (writeItems rows s (from .at) (splineItemsOf rows s k (from .cursor)) o)
-      (placeAt (from .at + length (splineItemsOf rows s k (from .cursor))) (cursorAfter rows s k (from .cursor)))
-  unfolding startItems writeSplineOf writeStepsOf endPlaceOf splineItemsOf cursorAfter subdivisionsOf stepSizeOf wordOf itemPointOf commandPointOf
+  pub spline-written : writeSplineOf setting rows k (startsOf s k) (splineAt s k) from o
+      ≡ written (writeItems rows s (from .at) (splineItemsOf rows s k begins) o)
+      (placeAt (from .at + length (splineItemsOf rows s k begins)) (leftAt setting rows s k begins))
+  unfolding startItems writeSplineOf writeStepsOf splineItemsOf subdivisionsOf stepSizeOf wordOf itemPointOf commandPointOf
   spline-written =
       let n = subdivisionsOf s k - 1 in
-      let start = startItems rows s k from o in
-      let steps = stepsFrom rows (stepSizeOf s k) n 1 (from .cursor) in
+      let begin = placeAt (from .at) begins in
+      let start = startItems rows s k begin o in
+      let steps = stepsFrom rows (stepSizeOf s k) n 1 begins in
       let end = item (End k (splineAt s k .contour)) 0 0 in
       let o' = writeItems rows s (from .at) start o in
-      let from' = placeAt (from .at + length start) (from .cursor) in
-      let e = steps-length rows (stepSizeOf s k) n 1 (from .cursor) in
-      ap afterStart (start-written rows s k from o)
+      let from' = placeAt (from .at + length start) begins in
+      let e = steps-length rows (stepSizeOf s k) n 1 begins in
+      ap afterStart (start-written rows s k begin o)
       ∙ ap afterSteps (ap₂ written (steps-output rows s (stepSizeOf s k) n 1 from' o') (steps-place rows (stepSizeOf s k) n 1 from' o'))
       ∙ ap₂ written (finish rows s (from .at) n start steps end o e)
-      (ap₂ placeAt (finish-at (from .at) n start steps end e) (finish-cursor rows (subdivisionsOf s k) (from .cursor)))
+      (ap₂ placeAt (finish-at (from .at) n start steps end e) (finish-cursor setting rows s k begins))
 
 -- ---- the whole walk
 walk-from-written : (setting : Setting) (rows : ℕ → QuadRow) (s : SplineTable) (n k : ℕ) (from : Place) (o : Output)
-    → writeWalkFrom rows s n k from o ≡ writeItems rows s (from .at) (walkFrom setting rows s n k (from .cursor)) o
+    → writeWalkFrom setting rows s n k from o ≡ writeItems rows s (from .at) (walkFrom setting rows s n k (from .cursor)) o
 unfolding writeWalkFrom walkFrom writeItems
 walk-from-written setting rows s zero k from o = refl
 walk-from-written setting rows s (suc n) k from o =
-    let items = splineItemsOf rows s k (from .cursor) in
-    let cursor = cursorAfter rows s k (from .cursor) in
-    ap (λ (w : Written). writeWalkFrom rows s n (k + 1) (w .place) (w .output)) (spline-written rows s k from o)
+    let start = cursorStartOf setting (splineAt s k) (from .cursor) in
+    let items = splineItemsOf rows s k start in
+    let cursor = leftAt setting rows s k start in
+    ap (λ (w : Written). writeWalkFrom setting rows s n (k + 1) (w .place) (w .output)) (spline-written setting rows s k from o)
     ∙ walk-from-written setting rows s n (k + 1) (placeAt (from .at + length items) cursor) (writeItems rows s (from .at) items o)
     ∙ sym (items-append rows s (from .at) items (walkFrom setting rows s n (k + 1) cursor) o)
+    ∙ ap (λ (l : List Item). writeItems rows s (from .at) (items ++ l) o) (any-cursor setting rows s n (k + 1) k start)
 
 -- ---- the four columns
 columnsFrom : (ℕ → QuadRow) → SplineTable → List Item → Output → ℕ → Output
@@ -189,6 +215,6 @@ written-fits rows s items o h =
     )
 
 pub walk-written : (setting : Setting) (rows : ℕ → QuadRow) (s : SplineTable) (n : ℕ) (o : Output) → fitsOutput (length (walkOf setting rows s n)) o ≡ true
-    → writeWalkOf rows s n o ≡ writeOutput rows s (walkOf setting rows s n) o
+    → writeWalkOf setting rows s n o ≡ writeOutput rows s (walkOf setting rows s n) o
 unfolding writeWalkOf walkOf
 walk-written setting rows s n o e = walk-from-written setting rows s n 0 (placeAt 0 0) o ∙ written-fits rows s (walkOf setting rows s n) o e

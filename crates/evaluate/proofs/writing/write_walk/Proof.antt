@@ -8,12 +8,15 @@ use Rattle.evaluate.proofs.writing.write_walk.Statement.{statement}
 use Rattle.evaluate.proofs.writing.write_walk.Tie as tie
 
 abbrev Inv-loop : tie.InvT-loop
-Inv-loop quad-rows partial-splines curvature p0x p0y p2x p2y contour words₀ x₀ y₀ end₀ n last₀ place₀ k₀ left₀ words x y end last place k left =
-    Walking (quadRowAt (quadTable quad-rows partial-splines)) (splineTable curvature p0x p0y p2x p2y contour) n
+Inv-loop quad-rows partial-splines curvature p0x p0y p2x p2y contour first-quad quad-count words₀ x₀ y₀ end₀ setting n last₀ place₀ k₀ left₀
+    words x y end last place k left =
+    Walking setting (quadRowAt (quadTable quad-rows partial-splines)) (splineTable curvature p0x p0y p2x p2y contour first-quad quad-count) n
     (output words₀ x₀ y₀ end₀) (output words x y end) last place k left
 
 abbrev μ-loop : tie.MeasureT-loop
-μ-loop quad-rows partial-splines curvature p0x p0y p2x p2y contour words₀ x₀ y₀ end₀ n last₀ place₀ k₀ left₀ words x y end last place k left = left
+μ-loop quad-rows partial-splines curvature p0x p0y p2x p2y contour first-quad quad-count words₀ x₀ y₀ end₀ setting n last₀ place₀ k₀ left₀
+    words x y end last place k left =
+    left
 
 spline-at-requires : tie.Need-spline-at-requires Inv-loop μ-loop
 spline-at-requires c κs = search needs
@@ -58,7 +61,7 @@ unfolding start
 write-spline-requires c κs =
     let t : Turn = search in
     let inv = t .before .loop .inv in
-    omega (arith, inv .within, inv .entry, inv .cursor, start t .fits .n)
+    (omega (arith, inv .within, inv .entry, start t .fits .n), λ z. omega (arith, inv .within, inv .cursor z, start t .fits .n))
 
 add-k : tie.Need-add-k Inv-loop μ-loop
 unfolding start turn
