@@ -87,9 +87,10 @@ pub fn flatten(
     if !delivered.fits {
         return refused(Answer::OutputShort, state.splines, state.quads);
     }
+    let splines = state.splines as usize;
     Flattened {
         answer: Answer::Done,
-        splines: state.splines as usize,
+        splines,
         quads: state.quads,
         points: delivered.points,
     }
