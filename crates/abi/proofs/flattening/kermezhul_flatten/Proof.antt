@@ -7,11 +7,12 @@ use Rattle.abi.proofs.flattening.kermezhul_flatten.Tie as tie
 
 -- ---- the places
 abbrev at-flatten : tie.After-number → tie.After-flatten
-at-flatten c = c .before .before .before .before .before .before .before .before .before .before .before .before .before .before .before .before
-    .before .before .before .before .before .before .before .before .before
+at-flatten c =
+    c .before .before .before .before .before .before .before .before .before .before .before .before .before .before .before
+    .before .before .before .before .before .before .before .before .before .before .before .before .before .before
 
 abbrev at-setting-of : tie.After-flatten → tie.After-setting-of
-at-setting-of c = c .before .before .before .before .before .before .before .before .before .before .before .before .before
+at-setting-of c = c .before .before .before .before .before .before .before .before .before .before .before .before .before .before .before
 
 -- ---- the needs
 
@@ -60,6 +61,12 @@ same-length-11 c = at-flatten c .flatten .kept .1 .1 .1 .1 .1 .1 .1 .1 .1 .1 .1 
 same-length-12 : tie.Need-same-length-12
 same-length-12 c = at-flatten c .flatten .kept .1 .1 .1 .1 .1 .1 .1 .1 .1 .1 .1 .1 .1 .1 .1 .1 .1 .0
 
+same-length-13 : tie.Need-same-length-13
+same-length-13 c = at-flatten c .flatten .kept .1 .1 .1 .1 .1 .1 .1 .1 .1 .1 .1 .1 .1 .1 .1 .1 .1 .1 .0
+
+same-length-14 : tie.Need-same-length-14
+same-length-14 c = at-flatten c .flatten .kept .1 .1 .1 .1 .1 .1 .1 .1 .1 .1 .1 .1 .1 .1 .1 .1 .1 .1 .1 .0
+
 returns : tie.Need-returns
 returns c =
     let f = at-flatten c in
@@ -84,4 +91,6 @@ kermezhul-flatten-spec =
     same-length-10
     same-length-11
     same-length-12
+    same-length-13
+    same-length-14
     returns)
