@@ -32,7 +32,8 @@ unfoldable pub programQuads : QuadTable
 programQuads = quadTable (zeros 3840) (replicate 256 0)
 
 unfoldable pub programSplines : SplineTable
-programSplines = splineTable (zeros 256) (zeros 256) (zeros 256) (zeros 256) (zeros 256) (replicate 256 0)
+programSplines =
+    splineTable (zeros 256) (zeros 256) (zeros 256) (zeros 256) (zeros 256) (replicate 256 0) (replicate 256 0) (replicate 256 0)
 
 unfoldable pub programOutput : Output
 programOutput = output (replicate 512 0) (zeros 512) (zeros 512) (replicate 512 0)

@@ -53,6 +53,8 @@ fn flat(
     let mut p2x = [0.0f32; 256];
     let mut p2y = [0.0f32; 256];
     let mut contour = [0u8; 256];
+    let mut first_quad = [0usize; 256];
+    let mut quad_count = [0u32; 256];
     let mut words = [0u32; 512];
     let mut out_x = [0.0f32; 512];
     let mut out_y = [0.0f32; 512];
@@ -72,6 +74,8 @@ fn flat(
         &mut p2x,
         &mut p2y,
         &mut contour,
+        &mut first_quad,
+        &mut quad_count,
         &mut words,
         &mut out_x,
         &mut out_y,

@@ -11,7 +11,7 @@ use Rattle.listing.proofs.program.flat.Tie as tie
 -- ---- the places
 
 abbrev at-flatten : tie.After-is-done → tie.After-flatten
-at-flatten c = c .before .before .before .before .before .before .before .before .before .before .before .before .before
+at-flatten c = c .before .before .before .before .before .before .before .before .before .before .before .before .before .before .before
 
 abbrev at-refused : tie.After-refuse → tie.Then1
 at-refused c = c .before .before
@@ -57,6 +57,12 @@ slice-aggregate-flatten-11 c = search needs
 slice-aggregate-flatten-12 : tie.Need-slice-aggregate-flatten-12
 slice-aggregate-flatten-12 c = search needs
 
+slice-aggregate-flatten-13 : tie.Need-slice-aggregate-flatten-13
+slice-aggregate-flatten-13 c = search needs
+
+slice-aggregate-flatten-14 : tie.Need-slice-aggregate-flatten-14
+slice-aggregate-flatten-14 c = search needs
+
 flatten-requires : tie.Need-flatten-requires
 flatten-requires c κs = search needs
 
@@ -79,13 +85,13 @@ returns c =
     (ap inBytes (flat-refused _ _ _ (at-flatten i .flatten .ensures) (sym (i .is-done .ensures) ∙ not-true _ (t .if1 .taken))))
 
 slice-aggregate-report : tie.Need-slice-aggregate-report
-slice-aggregate-report c = sym (at-flatten (c .before .before .before) .flatten .kept .1 .1 .1 .1 .1 .1 .1 .1 .1 .1 .1 .1 .1 .1 .1 .0)
+slice-aggregate-report c = sym (at-flatten (c .before .before .before) .flatten .kept .1 .1 .1 .1 .1 .1 .1 .1 .1 .1 .1 .1 .1 .1 .1 .1 .1 .0)
 
 slice-aggregate-report-2 : tie.Need-slice-aggregate-report-2
-slice-aggregate-report-2 c = sym (at-flatten (c .before .before .before .before) .flatten .kept .1 .1 .1 .1 .1 .1 .1 .1 .1 .1 .1 .1 .1 .1 .1 .1 .0)
+slice-aggregate-report-2 c = sym (at-flatten (c .before .before .before .before) .flatten .kept .1 .1 .1 .1 .1 .1 .1 .1 .1 .1 .1 .1 .1 .1 .1 .1 .1 .1 .0)
 
 slice-aggregate-report-3 : tie.Need-slice-aggregate-report-3
-slice-aggregate-report-3 c = sym (at-flatten (c .before .before .before .before .before) .flatten .kept .1 .1 .1 .1 .1 .1 .1 .1 .1 .1 .1 .1 .1 .1 .1 .1 .1 .0)
+slice-aggregate-report-3 c = sym (at-flatten (c .before .before .before .before .before) .flatten .kept .1 .1 .1 .1 .1 .1 .1 .1 .1 .1 .1 .1 .1 .1 .1 .1 .1 .1 .1 .0)
 
 report-requires : tie.Need-report-requires
 unfolding zeros programQuads programSplines programOutput
@@ -121,6 +127,8 @@ flat-spec =
     slice-aggregate-flatten-10
     slice-aggregate-flatten-11
     slice-aggregate-flatten-12
+    slice-aggregate-flatten-13
+    slice-aggregate-flatten-14
     flatten-requires
     is-done-requires
     refuse-requires
