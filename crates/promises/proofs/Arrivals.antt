@@ -13,6 +13,8 @@ use lib.Ieee.Bits.{is-true, is-false}
 use lib.Ieee.Fits.{eq→eqb}
 use Rattle.leaves.specs.Single.{zero32}
 use Rattle.leaves.specs.Whole.{wholeUpOf}
+use Rattle.point.specs.declared.Setting.{Setting}
+use Rattle.point.specs.declared.Setting.the-variants.{Screen, Knife}
 use Rattle.primitives.specs.declared.Capacities.{Capacities}
 use Rattle.primitives.specs.declared.QuadRow.{QuadRow}
 use Rattle.tables.specs.Tables.{quadRowAt, splineAt}
@@ -20,7 +22,7 @@ use Rattle.tables.specs.Run.{World}
 use Rattle.tables.proofs.RunningSums.{Sum, Up, no-steps, up-bounds, up-two}
 use Rattle.tables.proofs.Spans.{sumAt, LastOf, span-total}
 use Rattle.tables.proofs.Sound.{Sound}
-use Rattle.walk.specs.Walk.{subdivisionsOf, cursorFrom, cursorAfter}
+use Rattle.walk.specs.Walk.{subdivisionsOf, cursorStartOf, cursorFrom, cursorAfter}
 use Rattle.promises.proofs.Cursor.{cursor-from-under}
 
 -- m is over 1 where there is a quad, and then the steps are 1 to m - 1
@@ -79,6 +81,21 @@ module _ (caps : Capacities) (w : World) (S : Sound caps w) where
 
   abbrev pub Early : ℕ → ℕ → Type 0
   Early k c = c ≤ S .cut k
+
+  pub starts-early : (setting : Setting) (k c : ℕ) → k < w .state .splines → Early k c → Early k (cursorStartOf setting (splineAt (w .splines) k) c)
+  unfolding cursorStartOf
+  starts-early Screen k c h e = e
+  starts-early Knife k c h e = le-of-eq (S .ranged k h .first)
+
+  -- for the knife it begins just there
+  pub starts-exact : (k c : ℕ) → k < w .state .splines → cursorStartOf Knife (splineAt (w .splines) k) c ≡ S .cut k
+  unfolding cursorStartOf
+  starts-exact k c h = S .ranged k h .first
+
+  pub starts-exactly : (setting : Setting) (k c : ℕ) → k < w .state .splines → c ≡ S .cut k → cursorStartOf setting (splineAt (w .splines) k) c ≡ S .cut k
+  unfolding cursorStartOf
+  starts-exactly Screen k c h e = e
+  starts-exactly Knife k c h e = starts-exact k c h
 
   pub stays-early : (k c : ℕ) → k < w .state .splines → Early k c → Early (suc k) (cursorAfter rows (w .splines) k c)
   stays-early k c h e = elim (ends k h) [

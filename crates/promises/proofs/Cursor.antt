@@ -218,12 +218,15 @@ module _ (rows : ℕ → QuadRow) (total : Float) (lo l j m : ℕ) (R : Span row
         record { quad = z .quad; falls = z .falls; member = List·Memᴰ·tail (z .member) }
   ]
 
-  pub steps-inside : (size : Float) (n p c : ℕ) → (0 < n → Falls p (cursorAt rows p c)) → p + n ≤ m → All (λ (i : Item). (lo ≤ i .quad) × (i .quad ≤ l)) (stepsFrom rows size n p c)
+  -- each of them falls on its quad
+  pub steps-fall : (size : Float) (n p c : ℕ) → (0 < n → Falls p (cursorAt rows p c)) → p + n ≤ m
+      → All (λ (i : Item). Falls (i .step) (i .quad) × (i .step < m)) (stepsFrom rows size n p c)
   unfolding stepsFrom
-  steps-inside size zero p c F k = tt
-  steps-inside size (suc n) p c F k =
-      let z = F (zero-lt-suc n) in
-      ((z .low, z .high), steps-inside size n (p + 1) (cursorAt rows p c) (ready-next n p c F k) (shifted p n m k))
+  steps-fall size zero p c F k = tt
+  steps-fall size (suc n) p c F k = ((F (zero-lt-suc n), first p n m k), steps-fall size n (p + 1) (cursorAt rows p c) (ready-next n p c F k) (shifted p n m k))
+    where
+      first : (p n m : ℕ) → p + suc n ≤ m → p < m
+      first p n m k = omega arith
 
   cursor-falls : (n p c : ℕ) → (0 < suc n → Falls p (cursorAt rows p c)) → p + suc n ≤ m → Falls (p + n) (cursorFrom rows (suc n) p c)
   unfolding cursorFrom
@@ -231,6 +234,96 @@ module _ (rows : ℕ → QuadRow) (total : Float) (lo l j m : ℕ) (R : Span row
   cursor-falls (suc n) p c F k =
       subst (λ (x : ℕ). Falls x (cursorFrom rows (suc n) (p + 1) (cursorAt rows p c))) (shift-one p n)
       (cursor-falls n (p + 1) (cursorAt rows p c) (λ h. ready-next (suc n) p c F k h) (shifted p (suc n) m k))
+
+  -- ---- a quad that some step of the spline falls on
+  pub record Reached (i : ℕ) : Type 0 where
+    pub step : ℕ
+    pub least : 1 ≤ step
+    pub most : step < m
+    pub falls : Falls step i
+
+  -- the first quad: step 1
+  pub reached-first : Reached lo
+  reached-first =
+      record {
+        step = 1;
+        least = le-refl 1;
+        most = up-two (sumAt rows l) m S U;
+        falls =
+            record {
+              low = le-refl lo;
+              high = inside;
+              upto = le-trans (le-of-eq (one-mul (den (sumAt rows lo)))) (le-of-lt (sum-of lo (le-refl lo) inside .over));
+              above = λ b e g. absurd (no b lo e g);
+            };
+      }
+    where
+      no : (b lo : ℕ) → suc b ≡ lo → lo ≤ b → ⊥
+      no b lo e h = omega arith
+
+  -- before the last quad: the next whole number above the sum before it, which is below the spline's sum
+  reached-inner : (b : ℕ) → lo ≤ b → suc b < l → Reached (suc b)
+  reached-inner b h k =
+      let x = sumAt rows b in
+      let p = suc (num x / den x) in
+      let u : AtMost p (sumAt rows (suc b)) = reach b h (le-of-lt k) (num x / den x) (div-mul-le-self (num x) (den x)) in
+      let t : AtMost (suc p) (sumAt rows l) =
+      subst (λ (y : ℕ). AtMost (suc p) (sumAt rows y)) (join b l k)
+      (carry (suc p) (suc (suc b)) (l - suc (suc b)) (le-trans h (two b)) (le-of-eq (join b l k)) (reach (suc b) (le-trans h (le-suc b)) k p u)) in
+      record {
+        step = p;
+        least = zero-lt-suc (num x / den x);
+        most = below-up (sumAt rows l) m p U (strict (sumAt rows l) p t);
+        falls =
+            record {
+              low = le-trans h (le-suc b);
+              high = le-of-lt k;
+              upto = u;
+              above = λ c e g. subst (λ (y : ℕ). Below (sumAt rows y) p) (sym (suc-inj e)) (div-lt-iff-lt-mul (den-pos x) .0 (le-refl p));
+            };
+      }
+    where
+      two : (b : ℕ) → b ≤ suc (suc b)
+      two b = omega arith
+
+      join : (b l : ℕ) → suc b < l → suc (suc b) + (l - suc (suc b)) ≡ l
+      join b l h = omega arith
+
+      strict : (x : Float) (p : ℕ) → AtMost (suc p) x → p * den x < num x
+      strict x p h = less (p * den x) (den x) (suc p * den x) (num x) (den-pos x) (suc-mul p (den x)) h
+        where
+          less : (a d b n : ℕ) → 0 < d → b ≡ a + d → b ≤ n → a < n
+          less a d b n D e h = omega arith
+
+  -- the last of two or more: a whole number strictly between its sum and the one before
+  pub reached-last : (b : ℕ) → lo ≤ b → suc b ≡ l → (p : ℕ) × Below (sumAt rows b) p × (p * den (sumAt rows l) < num (sumAt rows l)) → Reached l
+  reached-last b h e z =
+      record {
+        step = z .0;
+        least = some (z .0) (den (sumAt rows b)) (num (sumAt rows b)) (z .1);
+        most = below-up (sumAt rows l) m (z .0) U (z .2);
+        falls = record { low = inside; high = le-refl l; upto = le-of-lt (z .2); above = λ c f g. subst (λ (y : ℕ). Below (sumAt rows y) (z .0)) (same b c l e f) (z .1) };
+      }
+    where
+      same : (b c l : ℕ) → suc b ≡ l → suc c ≡ l → b ≡ c
+      same b c l e f = omega arith
+
+      some : (p d n : ℕ) → n < p * d → 1 ≤ p
+      some zero d n h = absurd (not-suc-le-zero (lt-of-lt-of-le h (le-of-eq (zero-mul d))))
+      some (suc p) d n h = zero-lt-suc p
+
+  -- so each quad but the last of two or more is reached
+  pub reached-early : (i : ℕ) → lo ≤ i → i < l → Reached i
+  reached-early i h k = elim (eq-or-lt-of-le h) [
+    | inl e ↦ subst Reached e reached-first
+    | inr g ↦ subst Reached (back lo i g) (reached-inner (i - 1) (under lo i g) (lt-of-le-of-lt (le-of-eq (back lo i g)) k))
+  ]
+    where
+      back : (lo i : ℕ) → lo < i → suc (i - 1) ≡ i
+      back lo i h = omega arith
+
+      under : (lo i : ℕ) → lo < i → lo ≤ i - 1
+      under lo i h = omega arith
 
   -- ---- where a whole number lies strictly between the last two sums, some step falls on each quad, and the last one on the last
   module _ (spread : (b : ℕ) → suc b ≡ l → lo ≤ b → (p : ℕ) × Below (sumAt rows b) p × (p * den (sumAt rows l) < num (sumAt rows l))) where
@@ -267,94 +360,18 @@ module _ (rows : ℕ → QuadRow) (total : Float) (lo l j m : ℕ) (R : Span row
         three : (m : ℕ) → 2 ≤ m → 1 + suc (m - 2) ≡ m
         three m h = omega arith
 
-    pub record Reached (i : ℕ) : Type 0 where
-      pub step : ℕ
-      pub least : 1 ≤ step
-      pub most : step < m
-      pub falls : Falls step i
-
-    -- before the last quad: the next whole number above the sum before it, which is below the spline's sum
-    reached-inner : (b : ℕ) → lo ≤ b → suc b < l → Reached (suc b)
-    reached-inner b h k =
-        let x = sumAt rows b in
-        let p = suc (num x / den x) in
-        let u : AtMost p (sumAt rows (suc b)) = reach b h (le-of-lt k) (num x / den x) (div-mul-le-self (num x) (den x)) in
-        let t : AtMost (suc p) (sumAt rows l) =
-        subst (λ (y : ℕ). AtMost (suc p) (sumAt rows y)) (join b l k)
-        (carry (suc p) (suc (suc b)) (l - suc (suc b)) (le-trans h (two b)) (le-of-eq (join b l k)) (reach (suc b) (le-trans h (le-suc b)) k p u)) in
-        record {
-          step = p;
-          least = zero-lt-suc (num x / den x);
-          most = below-up (sumAt rows l) m p U (strict (sumAt rows l) p t);
-          falls =
-              record {
-                low = le-trans h (le-suc b);
-                high = le-of-lt k;
-                upto = u;
-                above = λ c e g. subst (λ (y : ℕ). Below (sumAt rows y) p) (sym (suc-inj e)) (div-lt-iff-lt-mul (den-pos x) .0 (le-refl p));
-              };
-        }
-      where
-        two : (b : ℕ) → b ≤ suc (suc b)
-        two b = omega arith
-
-        join : (b l : ℕ) → suc b < l → suc (suc b) + (l - suc (suc b)) ≡ l
-        join b l h = omega arith
-
-        strict : (x : Float) (p : ℕ) → AtMost (suc p) x → p * den x < num x
-        strict x p h = less (p * den x) (den x) (suc p * den x) (num x) (den-pos x) (suc-mul p (den x)) h
-          where
-            less : (a d b n : ℕ) → 0 < d → b ≡ a + d → b ≤ n → a < n
-            less a d b n D e h = omega arith
-
-    reached-last : (b : ℕ) → lo ≤ b → suc b ≡ l → Reached (suc b)
-    reached-last b h e =
-        let z = spread b e h in
-        record {
-          step = z .0;
-          least = some (z .0) (den (sumAt rows b)) (num (sumAt rows b)) (z .1);
-          most = below-up (sumAt rows l) m (z .0) U (z .2);
-          falls =
-              subst (Falls (z .0)) (sym e)
-              (record { low = inside; high = le-refl l; upto = le-of-lt (z .2); above = λ c f g. subst (λ (y : ℕ). Below (sumAt rows y) (z .0)) (same b c l e f) (z .1) });
-        }
-      where
-        same : (b c l : ℕ) → suc b ≡ l → suc c ≡ l → b ≡ c
-        same b c l e f = omega arith
-
-        some : (p d n : ℕ) → n < p * d → 1 ≤ p
-        some zero d n h = absurd (not-suc-le-zero (lt-of-lt-of-le h (le-of-eq (zero-mul d))))
-        some (suc p) d n h = zero-lt-suc p
-
     pub reached : (i : ℕ) → lo ≤ i → i ≤ l → Reached i
-    reached i h k = elim (eq-or-lt-of-le h) [
-      | inl e ↦ subst Reached e first
-      | inr g ↦ subst Reached (back lo i g) (later (i - 1) (under lo i g) (le-trans (le-of-eq (back lo i g)) k))
+    reached i h k = elim (eq-or-lt-of-le k) [
+      | inl e ↦ subst Reached (sym e) (at-last (eq-or-lt-of-le inside))
+      | inr g ↦ reached-early i h g
     ]
       where
-        back : (lo i : ℕ) → lo < i → suc (i - 1) ≡ i
-        back lo i h = omega arith
+        back : (lo l : ℕ) → lo < l → suc (l - 1) ≡ l
+        back lo l h = omega arith
 
-        under : (lo i : ℕ) → lo < i → lo ≤ i - 1
-        under lo i h = omega arith
+        under : (lo l : ℕ) → lo < l → lo ≤ l - 1
+        under lo l h = omega arith
 
-        later : (b : ℕ) → lo ≤ b → suc b ≤ l → Reached (suc b)
-        later b h k = elim (eq-or-lt-of-le k) [ inl e ↦ reached-last b h e | inr g ↦ reached-inner b h g ]
-
-        first : Reached lo
-        first =
-            record {
-              step = 1;
-              least = le-refl 1;
-              most = up-two (sumAt rows l) m S U;
-              falls =
-                  record {
-                    low = le-refl lo;
-                    high = inside;
-                    upto = le-trans (le-of-eq (one-mul (den (sumAt rows lo)))) (le-of-lt (sum-of lo (le-refl lo) inside .over));
-                    above = λ b e g. absurd (no b lo e g);
-                  };
-            }
-          where
-            no : (b lo : ℕ) → suc b ≡ lo → lo ≤ b → ⊥
-            no b lo e h = omega arith
+        at-last : (lo ≡ l) ⊎ (lo < l) → Reached l
+        at-last (inl e) = subst Reached e reached-first
+        at-last (inr g) = reached-last (l - 1) (under lo l g) (back lo l g) (spread (l - 1) (back lo l g) (under lo l g))

@@ -100,7 +100,7 @@ job-pieces job =
           ∙ length-map (cutAfter endsItem (walkIn (job .setting) f)) (map commandOf)
           ∙ pieces-count (quadRowAt (w .quads)) (w .splines) (job .setting) (w .state .splines) 0 0;
       each = λ k h.
-          let z = piece-at (quadRowAt (w .quads)) (w .splines) (job .setting) (λ (j c : ℕ). Unit {0}) (w .state .splines) 0 0 tt (λ j c l u. tt) k h in
+          let z = piece-at (quadRowAt (w .quads)) (w .splines) (job .setting) (λ (j c : ℕ). Unit {0}) (λ (j c : ℕ). Unit {0}) (w .state .splines) 0 0 tt (λ j c l u. tt) (λ j c l u. tt) k h in
           decoded-at (piecesIn (wordsIn f)) k
           ∙ ap (λ (x : List (List PointCommand)). getD x k []) e
           ∙ List·getD-map (map commandOf) (cutAfter endsItem (walkIn (job .setting) f)) k []

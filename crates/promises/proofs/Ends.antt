@@ -17,7 +17,7 @@ use Rattle.primitives.specs.declared.QuadRow.{QuadRow}
 use Rattle.tables.specs.Tables.{SplineTable, quadRowAt, splineAt}
 use Rattle.tables.specs.Run.{World}
 use Rattle.tables.proofs.Flags.{flagAt}
-use Rattle.walk.specs.Walk.{Item, item, startsOf, subdivisionsOf, stepSizeOf, stepsFrom, cursorAfter, splineItemsOf, walkFrom, walkOf, wordOf, wordsOf}
+use Rattle.walk.specs.Walk.{Item, item, startsOf, cursorStartOf, subdivisionsOf, stepSizeOf, stepsFrom, cursorAfter, splineItemsOf, walkFrom, walkOf, wordOf, wordsOf}
 use Rattle.evaluate.specs.Evaluate.{Finished, commandPointOf, itemPointOf, pointsOf}
 use Rattle.flatten.specs.Flatten.{Output, over, writeOutput, walked}
 use Rattle.promises.specs.Accepted.{Job}
@@ -66,10 +66,12 @@ module _ (setting : Setting) (rows : ℕ → QuadRow) (s : SplineTable) where
   unfolding walkFrom
   walk-in c zero k cursor i h has = absurd (not-suc-le-zero h)
   walk-in c (suc n) k cursor zero h has =
-      in-left c (splineItemsOf rows s k cursor) _ (subst (λ (j : ℕ). In c (splineItemsOf rows s j cursor)) (add-zero k) (has cursor))
+      let start = cursorStartOf setting (splineAt s k) cursor in
+      in-left c (splineItemsOf rows s k start) _ (subst (λ (j : ℕ). In c (splineItemsOf rows s j start)) (add-zero k) (has start))
   walk-in c (suc n) k cursor (suc i) h has =
-      in-right c (splineItemsOf rows s k cursor) _
-      (walk-in c n (k + 1) (cursorAfter rows s k cursor) i (le-of-suc-le-suc h)
+      let start = cursorStartOf setting (splineAt s k) cursor in
+      in-right c (splineItemsOf rows s k start) _
+      (walk-in c n (k + 1) (cursorAfter rows s k start) i (le-of-suc-le-suc h)
       (λ d. subst (λ (j : ℕ). In c (splineItemsOf rows s j d)) (sym (shift-one k i)) (has d)))
 
 -- ---- what is written for it

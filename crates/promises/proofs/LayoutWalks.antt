@@ -23,7 +23,7 @@ use Rattle.tables.specs.Run.{World}
 use Rattle.tables.proofs.RunningSums.{Sum, Up}
 use Rattle.tables.proofs.Spans.{Agree, sumAt}
 use Rattle.tables.proofs.Sound.{Sound, cut-le}
-use Rattle.walk.specs.Walk.{Item, item, subdivisionsOf, stepSizeOf, startsOf, cursorAtOf, cursorAt, stepsFrom, cursorFrom, cursorAfter}
+use Rattle.walk.specs.Walk.{Item, item, subdivisionsOf, stepSizeOf, startsOf, cursorStartOf, cursorAtOf, cursorAt, stepsFrom, cursorFrom, cursorAfter}
 use Rattle.walk.specs.Walk.{splineItemsOf, walkFrom, walkOf, wordsOf}
 use Rattle.evaluate.specs.declared.StepQuad.{StepQuad}
 use Rattle.evaluate.specs.Evaluate.{Finished, finished, previousSumOf, stepQuadOf, stepPointOf, commandPointOf, itemPointOf, pointsOf}
@@ -31,7 +31,7 @@ use Rattle.evaluate.specs.Output.{Output, output, over, writeOutput}
 use Rattle.promises.specs.Words.{isStep}
 use Rattle.promises.proofs.Cutting.{All, all-append, all-map}
 use Rattle.promises.proofs.Cursor.{cursor-under, steps-under}
-use Rattle.promises.proofs.Arrivals.{all-steps, none-left, ends, Early, stays-early}
+use Rattle.promises.proofs.Arrivals.{all-steps, none-left, ends, Early, starts-early, stays-early}
 use Rattle.promises.proofs.Steps.{Steps, spline-steps}
 
 -- ---- steps 1 to m - 1 of a spline that ends at quad l, read up to l
@@ -120,16 +120,18 @@ module _ (setting : Setting) (caps : Capacities) (w : World) (S : Sound caps w) 
   walked zero k c h e = record { same = refl; used = tt }
   walked (suc n) k c h e =
       let l = le-trans (far k n) h in
-      let Z = stepped k c l e in
-      let next = cursorAfter rows s k c in
+      let b = cursorStartOf setting (splineAt s k) c in
+      let g = starts-early caps w S setting k c l e in
+      let Z = stepped k b l g in
+      let next = cursorAfter rows s k b in
       let R =
       walked n (k + 1) next (le-trans (le-of-eq (shift-one k n)) h)
-      (subst (λ (x : ℕ). Early caps w S x next) (suc-eq-add-one k) (stays-early caps w S k c l e)) in
+      (subst (λ (x : ℕ). Early caps w S x next) (suc-eq-add-one k) (stays-early caps w S k b l g)) in
       record {
-        same = ap₂ (λ (x y : List Item). x ++ y) (items-same k c Z) (ap (walkFrom setting rows' s n (k + 1)) (after-same k c Z) ∙ R .same);
+        same = ap₂ (λ (x y : List Item). x ++ y) (items-same k b Z) (ap (walkFrom setting rows' s n (k + 1)) (after-same k b Z) ∙ R .same);
         used =
-            all-append (Steps InUse) (splineItemsOf rows s k c) (walkFrom setting rows s n (k + 1) next)
-            (spline-steps InUse rows s k c (Z .used)) (R .used);
+            all-append (Steps InUse) (splineItemsOf rows s k b) (walkFrom setting rows s n (k + 1) next)
+            (spline-steps InUse rows s k b (Z .used)) (R .used);
       }
     where
       far : (k n : ℕ) → k < k + suc n

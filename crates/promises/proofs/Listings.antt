@@ -25,11 +25,11 @@ use Rattle.store.specs.Replay.{replayOf}
 use Rattle.primitives.specs.Cubics.{bendOf, cubicErrorOf, cubicPiecesOf, cubicPointOf, controlOf, quadsFrom, cutOf, cubicQuadsOf}
 use Rattle.primitives.specs.Plan.{refusedOf, markedOf, planLineOf, quadRowOf, planCurveOf, planLegsOf, planQuadOf, planOf}
 use Rattle.primitives.specs.Quads.{crossOf, legOf, ownCurvatureOf, straightOf, curveOf}
-use Rattle.primitives.specs.Splines.{farOf, splineKindOf, apartOf, opensOf, lineAngleOf, sumBefore, splineEditOf}
+use Rattle.primitives.specs.Splines.{farOf, splineKindOf, apartOf, opensOf, lineAngleOf, sumBefore, quadCountOf, splineEditOf}
 use Rattle.tables.specs.Commands.{cubicFrom, commandPrimitivesOf, primitivesFrom, primitivesOf, tablesOf}
 use Rattle.tables.specs.Run.{applyOf, pushOf, runOf}
 use Rattle.tables.specs.Tables.{quadCapacityOf, splineCapacityOf, capacitiesOf, numbersOf, putQuad, numberAt, quadRowAt, clearFlag, putSpline, splineAt, lastSplineOf}
-use Rattle.walk.specs.Walk.{subdivisionsOf, stepSizeOf, startsOf, cursorAt, stepsFrom, cursorFrom, cursorAfter, splineItemsOf, walkFrom, walkOf, wordOf, wordsOf}
+use Rattle.walk.specs.Walk.{subdivisionsOf, stepSizeOf, startsOf, cursorStartOf, cursorAt, stepsFrom, cursorFrom, cursorAfter, splineItemsOf, walkFrom, walkOf, wordOf, wordsOf}
 use Rattle.evaluate.specs.Evaluate.{previousSumOf, parameterOf, stepPointOf, commandPointOf, itemPointOf, pointsOf}
 use Rattle.flatten.specs.Flatten.{over, fitsOutput, writeOutput, walked, tabled, flattenDrawable, flattenOf}
 use Rattle.text.specs.Bytes.{sameBytes, partAt, standsAt}
@@ -50,8 +50,8 @@ unfolding rootIn root rooted bitsOf floatOf fmaOf piecesOf cutTo sixthRootOf neg
     stateAfter roomOf answerOf drawOf freshOf replayOf bendOf cubicErrorOf cubicPiecesOf cubicPointOf controlOf quadsFrom cutOf cubicQuadsOf refusedOf
     markedOf planLineOf quadRowOf planCurveOf planLegsOf planQuadOf planOf crossOf legOf ownCurvatureOf straightOf curveOf farOf
     splineKindOf apartOf opensOf lineAngleOf
-    sumBefore splineEditOf cubicFrom commandPrimitivesOf primitivesFrom primitivesOf tablesOf applyOf pushOf runOf quadCapacityOf splineCapacityOf
-    capacitiesOf numbersOf putQuad numberAt quadRowAt clearFlag putSpline splineAt lastSplineOf subdivisionsOf stepSizeOf startsOf cursorAt stepsFrom
+    sumBefore quadCountOf splineEditOf cubicFrom commandPrimitivesOf primitivesFrom primitivesOf tablesOf applyOf pushOf runOf quadCapacityOf splineCapacityOf
+    capacitiesOf numbersOf putQuad numberAt quadRowAt clearFlag putSpline splineAt lastSplineOf subdivisionsOf stepSizeOf startsOf cursorStartOf cursorAt stepsFrom
     cursorFrom cursorAfter splineItemsOf walkFrom walkOf wordOf wordsOf previousSumOf parameterOf stepPointOf commandPointOf itemPointOf pointsOf over
     fitsOutput writeOutput walked tabled flattenDrawable flattenOf sameBytes partAt standsAt decimalIn decimalOf hexDigitOf hexValueOf allHex
     hexNumber hexStandsAt hexNumberAt hexDigits hexOf opLineOf quadKeys cubicKeys keysOf callOf zeros programColumns programQuads programSplines

@@ -71,6 +71,8 @@ put-spline-past n m edit s₀ s h k P =
       p2x = past-set n m at (row .p2 .x) (s₀ .p2x) (s .p2x) h k (P .p2x);
       p2y = past-set n m at (row .p2 .y) (s₀ .p2y) (s .p2y) h k (P .p2y);
       contour = past-set m m at (flagByteOf (row .contour)) (s₀ .contour) (clearFlag (edit .clears) (s .contour) at) (le-refl m) k (cleared (edit .clears) (P .contour));
+      first-quad = past-set n m at (row .«first_quad») (s₀ .first-quad) (s .first-quad) h k (P .first-quad);
+      quad-count = past-set n m at (row .«quad_count») (s₀ .quad-count) (s .quad-count) h k (P .quad-count);
     }
   where
     below : (i : ℕ) → i < m → i - 1 < m
@@ -136,6 +138,8 @@ splines-self n s =
       p2x = past-self n (s .p2x);
       p2y = past-self n (s .p2y);
       contour = past-self n (s .contour);
+      first-quad = past-self n (s .first-quad);
+      quad-count = past-self n (s .quad-count);
     }
 
 pub output-self : (n : ℕ) (o : Output) → OutputPast n o o

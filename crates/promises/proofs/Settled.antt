@@ -49,7 +49,7 @@ pub quads-settled : QuadsSettled
 quads-settled = told _ (λ q. (q .rows, q .partial-splines)) (λ a. refl)
 
 pub splines-settled : SplinesSettled
-splines-settled = told _ (λ s. (s .curvature, s .p0x, s .p0y, s .p2x, s .p2y, s .contour)) (λ a. refl)
+splines-settled = told _ (λ s. (s .curvature, s .p0x, s .p0y, s .p2x, s .p2y, s .contour, s .first-quad, s .quad-count)) (λ a. refl)
 
 pub output-settled : OutputSettled
 output-settled = told _ (λ o. (o .words, o .x, o .y, o .end)) (λ a. refl)

@@ -21,7 +21,7 @@ use Rattle.tables.specs.Run.{World}
 use Rattle.tables.proofs.Spans.{sumAt, Span}
 use Rattle.tables.proofs.Sound.{Sound, cut-le}
 use Rattle.tables.proofs.Owners.{Home, home, home-owner}
-use Rattle.walk.specs.Walk.{Item, item, subdivisionsOf, stepSizeOf, startsOf, stepsFrom, cursorFrom, cursorAfter, splineItemsOf, walkOf}
+use Rattle.walk.specs.Walk.{Item, item, subdivisionsOf, stepSizeOf, startsOf, cursorStartOf, cursorAt, stepsFrom, cursorFrom, cursorAfter, splineItemsOf, walkOf}
 use Rattle.flatten.specs.Flatten.{Flattening, Output, flattened, flattening, walked}
 use Rattle.promises.specs.Words.{isStep, isEnd, cutAfter}
 use Rattle.promises.specs.Accepted.{walkIn, stepsOf}
@@ -30,8 +30,8 @@ use Rattle.promises.proofs.Flattened.{worldOf, finishedOf, passed}
 use Rattle.promises.proofs.Decoding.{capsOf, job-sound}
 use Rattle.promises.proofs.Cutting.{All, all-append, all-map, all-member}
 use Rattle.promises.proofs.Walking.{Piece, piece-at}
-use Rattle.promises.proofs.Cursor.{Below, steps-under, first-falls, step-at, steps-inside, cursor-ends, reached, falls-once}
-use Rattle.promises.proofs.Arrivals.{all-steps, none-left, Ends, ends, after-none, after-some, Early, stays-early}
+use Rattle.promises.proofs.Cursor.{Below, steps-under, Falls, first-falls, StepAt, step-at, steps-fall, cursor-ends, Reached, reached, falls-once}
+use Rattle.promises.proofs.Arrivals.{all-steps, none-left, Ends, ends, after-none, after-some, Early, starts-early, starts-exactly, stays-early}
 
 -- ---- a statement about the steps of a spline's items
 abbrev pub Steps : (Item → Type 0) → Item → Type 0
@@ -88,12 +88,16 @@ module _ (setting : Setting) (caps : Capacities) (w : World) (S : Sound caps w) 
       (subst (λ (n : ℕ). All (λ (x : Item). ⊥) (stepsFrom rows (stepSizeOf s k) n 1 c)) (sym (none-left (ups k) e)) tt))
 
   -- ---- 3e
-  piece : (inv : ℕ → ℕ → Type 0) → inv 0 0 → ((k c : ℕ) → k < w .state .splines → inv k c → inv (suc k) (cursorAfter rows s k c))
+  piece : (comes inv : ℕ → ℕ → Type 0) → comes 0 0
+      → ((k c : ℕ) → k < w .state .splines → comes k c → inv k (cursorStartOf setting (splineAt s k) c))
+      → ((k c : ℕ) → k < w .state .splines → inv k c → comes (suc k) (cursorAfter rows s k c))
       → (k : ℕ) → k < w .state .splines → Piece rows s inv pieces k k
   unfolding walkOf
-  piece inv first next k h =
+  piece comes inv first begin next k h =
+      let n = w .state .splines in
       subst (Piece rows s inv pieces k) (zero-add k)
-      (piece-at rows s setting inv (w .state .splines) 0 0 first (λ j c l u. next j c (lt-of-lt-of-le l (le-of-eq (zero-add (w .state .splines)))) u) k h)
+      (piece-at rows s setting comes inv n 0 0 first (λ j c l u. begin j c (lt-of-lt-of-le l (le-of-eq (zero-add n))) u)
+      (λ j c l u. next j c (lt-of-lt-of-le l (le-of-eq (zero-add n))) u) k h)
 
   pub not-after : (k : ℕ) (i : Item) → StepOf setting left k i → NotAfterLast left k i
   not-after k i T = elim (ends caps w S k h) [
@@ -115,23 +119,114 @@ module _ (setting : Setting) (caps : Capacities) (w : World) (S : Sound caps w) 
       h = T .spline
 
       z : Piece rows s (Early caps w S) pieces k k
-      z = piece (Early caps w S) zero-le (stays-early caps w S) k h
+      z = piece (Early caps w S) (Early caps w S) zero-le (starts-early caps w S setting) (stays-early caps w S) k h
 
       member : List·Memᴰ i (splineItemsOf rows s k (z .cursor))
       member = subst (List·Memᴰ i) (z .is) (T .member)
 
+  -- ---- a cursor that begins each spline at its first quad
+  abbrev pub exactly : ℕ → ℕ → Type 0
+  exactly k c = c ≡ S .cut k
+
+  abbrev pub Exact : Type 0
+  Exact = (k : ℕ) → k < w .state .splines → Piece rows s exactly pieces k k
+
+  abbrev pub total : ℕ → Float
+  total k = splineAt s k .curvature
+
+  -- the quads of a spline that has some end at its last one
+  pub span-to : (k : ℕ) (h : k < w .state .splines) (L : Ends caps w S k) → Span rows (total k) (S .cut k) (suc (L .at)) k
+  span-to k h L = subst (λ (x : ℕ). Span rows (total k) (S .cut k) x k) (sym (L .next)) (S .span k h)
+
+  -- step p of spline k falls on quad i, and some step of it falls there
+  abbrev pub FallsIn : (k : ℕ) (h : k < w .state .splines) → Ends caps w S k → ℕ → ℕ → Type 0
+  FallsIn k h L p i = Falls rows (total k) (S .cut k) (L .at) k (ups k) (span-to k h L) (L .inside) (L .sum) (L .up) p i
+
+  abbrev pub ReachedIn : (k : ℕ) (h : k < w .state .splines) → Ends caps w S k → ℕ → Type 0
+  ReachedIn k h L i = Reached rows (total k) (S .cut k) (L .at) k (ups k) (span-to k h L) (L .inside) (L .sum) (L .up) i
+
+  begin-falls : (k : ℕ) (h : k < w .state .splines) (L : Ends caps w S k) → FallsIn k h L 1 (cursorAt rows 1 (S .cut k))
+  begin-falls k h L = first-falls rows (total k) (S .cut k) (L .at) k (ups k) (span-to k h L) (L .inside) (L .sum) (L .up)
+
+  module _ (exact : Exact) where
+    -- a step of spline k falls on its quad
+    pub step-falls : (k : ℕ) (h : k < w .state .splines) (L : Ends caps w S k) (i : Item) → StepOf setting left k i
+        → FallsIn k h L (i .step) (i .quad) × (i .step < ups k)
+    step-falls k h L i T =
+        all-member (Steps falls) (splineItemsOf rows s k (z .cursor)) i
+        (spline-steps falls rows s k (z .cursor) (subst (λ (c : ℕ). All falls (stepsFrom rows (stepSizeOf s k) (ups k - 1) 1 c)) (sym (z .holds)) steps))
+        (subst (List·Memᴰ i) (z .is) (T .member)) (T .step)
+      where
+        falls : Item → Type 0
+        falls x = FallsIn k h L (x .step) (x .quad) × (x .step < ups k)
+
+        z : Piece rows s exactly pieces k k
+        z = exact k h
+
+        steps : All falls (stepsFrom rows (stepSizeOf s k) (ups k - 1) 1 (S .cut k))
+        steps =
+            steps-fall rows (total k) (S .cut k) (L .at) k (ups k) (span-to k h L) (L .inside) (L .sum) (L .up) (stepSizeOf s k) (ups k - 1) 1 (S .cut k)
+            (λ u. begin-falls k h L) (all-steps (ups k) (L .many))
+
+    pub step-inside : (k : ℕ) (i : Item) → StepOf setting left k i → (S .cut k ≤ i .quad) × (i .quad < S .cut (suc k))
+    step-inside k i T = elim (ends caps w S k (T .spline)) [
+      | inl e ↦
+          let z = exact k (T .spline) in
+          absurd (no-step k (z .cursor) (e .1) i (subst (List·Memᴰ i) (z .is) (T .member)) (T .step))
+      | inr L ↦ let F = step-falls k (T .spline) L i T .0 in (F .low, lt-of-le-of-lt (F .high) (le-of-eq (L .next)))
+    ]
+
+    pub step-stays : (k : ℕ) (i : Item) → StepOf setting left k i → (i .quad < w .state .quads) × (splineOfQuad left (i .quad) ≡ k)
+    step-stays k i T =
+        let g = step-inside k i T in
+        (lt-of-lt-of-le (g .1) (cut-le caps w S (suc k) (T .spline)), S .span k (T .spline) .owned (i .quad) (g .0) (g .1))
+
+    in-items : (k c : ℕ) (i : Item) → List·Memᴰ i (stepsFrom rows (stepSizeOf s k) (stepsOf s k) 1 c) → List·Memᴰ i (splineItemsOf rows s k c)
+    unfolding splineItemsOf
+    in-items k c i m =
+        Memᴰ·append-right (cond (startsOf s k) (item (Start k) 0 0 ∷ []) []) (Memᴰ·append-left (item (End k (splineAt s k .contour)) 0 0 ∷ []) m)
+
+    -- a quad that some step falls on gets it
+    pub gets-step : (k : ℕ) (h : k < w .state .splines) (L : Ends caps w S k) (quad : ℕ) → ReachedIn k h L quad → QuadHasStep setting left quad
+    gets-step k h L quad R =
+        record {
+          spline = k;
+          item = item (Incr (stepSizeOf s k)) (R .step) (A .quad);
+          is-step = record { spline = h; member = member (item (Incr (stepSizeOf s k)) (R .step) (A .quad)) (A .member); step = tt };
+          uses =
+              falls-once rows (total k) (S .cut k) (L .at) k (ups k) (span-to k h L) (L .inside) (L .sum) (L .up) (R .step) (A .quad) quad (A .falls) (R .falls);
+        }
+      where
+        z : Piece rows s exactly pieces k k
+        z = exact k h
+
+        below : (p m : ℕ) → p < m → p < 1 + (m - 1)
+        below p m h = omega arith
+
+        member : (i : Item) → List·Memᴰ i (stepsFrom rows (stepSizeOf s k) (stepsOf s k) 1 (S .cut k)) → List·Memᴰ i (getD pieces k [])
+        member i m = subst (List·Memᴰ i) (sym (z .is)) (subst (λ (c : ℕ). List·Memᴰ i (splineItemsOf rows s k c)) (sym (z .holds)) (in-items k (S .cut k) i m))
+
+        A : StepAt rows (total k) (S .cut k) (L .at) k (ups k) (span-to k h L) (L .inside) (L .sum) (L .up) (stepSizeOf s k)
+            (stepsFrom rows (stepSizeOf s k) (ups k - 1) 1 (S .cut k)) (R .step)
+        A =
+            step-at rows (total k) (S .cut k) (L .at) k (ups k) (span-to k h L) (L .inside) (L .sum) (L .up) (stepSizeOf s k) (ups k - 1) 1 (S .cut k)
+            (λ g. begin-falls k h L) (all-steps (ups k) (L .many)) (R .step) (R .least) (below (R .step) (ups k) (R .most))
+
+  -- the spline of a quad ends at some quad, at or after it
+  pub home-ends : (quad : ℕ) (H : Home caps w S quad) → (L : Ends caps w S (H .spline)) × (quad ≤ L .at)
+  home-ends quad H = elim (ends caps w S (H .spline) (H .inside)) [
+    | inl e ↦ absurd (empty (S .cut (H .spline)) (S .cut (suc (H .spline))) quad (e .0) (H .low) (H .high))
+    | inr L ↦ (L, upto quad (L .at) (S .cut (suc (H .spline))) (L .next) (H .high))
+  ]
+    where
+      empty : (lo hi i : ℕ) → lo ≡ hi → lo ≤ i → i < hi → ⊥
+      empty lo hi i e a b = omega arith
+
+      upto : (i a hi : ℕ) → suc a ≡ hi → i < hi → i ≤ a
+      upto i a hi e b = omega arith
+
   -- ---- 3f
   module _ (spread : Spread left) where
-    abbrev exactly : ℕ → ℕ → Type 0
-    exactly k c = c ≡ S .cut k
-
-    abbrev total : ℕ → Float
-    total k = splineAt s k .curvature
-
-    -- the quads of a spline that has some end at its last one
-    span-to : (k : ℕ) (h : k < w .state .splines) (L : Ends caps w S k) → Span rows (total k) (S .cut k) (suc (L .at)) k
-    span-to k h L = subst (λ (x : ℕ). Span rows (total k) (S .cut k) x k) (sym (L .next)) (S .span k h)
-
     between : (k : ℕ) (h : k < w .state .splines) (L : Ends caps w S k) → (b : ℕ) → suc b ≡ L .at → S .cut k ≤ b
         → (p : ℕ) × Below (sumAt rows b) p × (p * den (sumAt rows (L .at)) < num (sumAt rows (L .at)))
     between k h L b e g =
@@ -141,7 +236,8 @@ module _ (setting : Setting) (caps : Capacities) (w : World) (S : Sound caps w) 
         under : (b a hi : ℕ) → suc b ≡ a → suc a ≡ hi → b < hi
         under b a hi e f = omega arith
 
-    stays-exact : (k c : ℕ) → k < w .state .splines → exactly k c → exactly (suc k) (cursorAfter rows s k c)
+    -- the cursor leaves each spline past its last quad, and so comes to the next one at its first
+    pub stays-exact : (k c : ℕ) → k < w .state .splines → exactly k c → exactly (suc k) (cursorAfter rows s k c)
     stays-exact k c h e = elim (ends caps w S k h) [
       | inl z ↦ after-none caps w S k c (z .1) ∙ e ∙ z .0
       | inr L ↦
@@ -151,88 +247,20 @@ module _ (setting : Setting) (caps : Capacities) (w : World) (S : Sound caps w) 
           ∙ L .next
     ]
 
-    exact-piece : (k : ℕ) → k < w .state .splines → Piece rows s exactly pieces k k
-    exact-piece k h = piece exactly (sym (S .first)) stays-exact k h
+    spread-exact : Exact
+    spread-exact = piece exactly exactly (sym (S .first)) (starts-exactly caps w S setting) stays-exact
 
-    step-stays : (k : ℕ) (i : Item) → StepOf setting left k i → (i .quad < w .state .quads) × (splineOfQuad left (i .quad) ≡ k)
-    step-stays k i T = elim (ends caps w S k h) [
-      | inl e ↦ absurd (no-step k (z .cursor) (e .1) i member (T .step))
-      | inr L ↦
-          let inside : (Item → Type 0) = λ x. (S .cut k ≤ x .quad) × (x .quad ≤ L .at) in
-          let r = span-to k h L in
-          let falls = first-falls rows (total k) (S .cut k) (L .at) k (ups k) r (L .inside) (L .sum) (L .up) in
-          let steps =
-          steps-inside rows (total k) (S .cut k) (L .at) k (ups k) r (L .inside) (L .sum) (L .up) (stepSizeOf s k) (ups k - 1) 1 (S .cut k)
-          (λ u. falls) (all-steps (ups k) (L .many)) in
-          let g =
-          all-member (Steps inside) (splineItemsOf rows s k (z .cursor)) i
-          (spline-steps inside rows s k (z .cursor) (subst (λ (c : ℕ). All inside (stepsFrom rows (stepSizeOf s k) (ups k - 1) 1 c)) (sym (z .holds)) steps))
-          member (T .step) in
-          let u : i .quad < S .cut (suc k) = lt-of-le-of-lt (g .1) (le-of-eq (L .next)) in
-          (lt-of-lt-of-le u (cut-le caps w S (suc k) h), S .span k h .owned (i .quad) (g .0) u)
-    ]
-      where
-        h : k < w .state .splines
-        h = T .spline
-
-        z : Piece rows s exactly pieces k k
-        z = exact-piece k h
-
-        member : List·Memᴰ i (splineItemsOf rows s k (z .cursor))
-        member = subst (List·Memᴰ i) (z .is) (T .member)
-
-    in-items : (k c : ℕ) (i : Item) → List·Memᴰ i (stepsFrom rows (stepSizeOf s k) (stepsOf s k) 1 c) → List·Memᴰ i (splineItemsOf rows s k c)
-    unfolding splineItemsOf
-    in-items k c i m =
-        Memᴰ·append-right (cond (startsOf s k) (item (Start k) 0 0 ∷ []) []) (Memᴰ·append-left (item (End k (splineAt s k .contour)) 0 0 ∷ []) m)
-
-    quad-stepped : (quad : ℕ) → quad < w .state .quads → QuadHasStep setting left quad
-    quad-stepped quad l = go (ends caps w S k h)
-      where
-        H : Home caps w S quad
-        H = home caps w S quad l
-
-        k : ℕ
-        k = H .spline
-
-        h : k < w .state .splines
-        h = H .inside
-
-        z : Piece rows s exactly pieces k k
-        z = exact-piece k h
-
-        below : (p m : ℕ) → p < m → p < 1 + (m - 1)
-        below p m h = omega arith
-
-        empty : (lo hi i : ℕ) → lo ≡ hi → lo ≤ i → i < hi → ⊥
-        empty lo hi i e a b = omega arith
-
-        upto : (i a hi : ℕ) → suc a ≡ hi → i < hi → i ≤ a
-        upto i a hi e b = omega arith
-
-        member : (i : Item) → List·Memᴰ i (stepsFrom rows (stepSizeOf s k) (stepsOf s k) 1 (S .cut k)) → List·Memᴰ i (getD pieces k [])
-        member i m = subst (List·Memᴰ i) (sym (z .is)) (subst (λ (c : ℕ). List·Memᴰ i (splineItemsOf rows s k c)) (sym (z .holds)) (in-items k (S .cut k) i m))
-
-        go : ((S .cut k ≡ S .cut (suc k)) × (ups k ≡ 0)) ⊎ Ends caps w S k → QuadHasStep setting left quad
-        go (inl e) = absurd (empty (S .cut k) (S .cut (suc k)) quad (e .0) (H .low) (H .high))
-        go (inr L) =
-            let r = span-to k h L in
-            let falls = first-falls rows (total k) (S .cut k) (L .at) k (ups k) r (L .inside) (L .sum) (L .up) in
-            let R =
-            reached rows (total k) (S .cut k) (L .at) k (ups k) r (L .inside) (L .sum) (L .up) (between k h L) quad (H .low)
-            (upto quad (L .at) (S .cut (suc k)) (L .next) (H .high)) in
-            let A =
-            step-at rows (total k) (S .cut k) (L .at) k (ups k) r (L .inside) (L .sum) (L .up) (stepSizeOf s k) (ups k - 1) 1 (S .cut k)
-            (λ g. falls) (all-steps (ups k) (L .many)) (R .step) (R .least) (below (R .step) (ups k) (R .most)) in
-            record {
-              spline = k;
-              item = item (Incr (stepSizeOf s k)) (R .step) (A .quad);
-              is-step = record { spline = h; member = member (item (Incr (stepSizeOf s k)) (R .step) (A .quad)) (A .member); step = tt };
-              uses = falls-once rows (total k) (S .cut k) (L .at) k (ups k) r (L .inside) (L .sum) (L .up) (R .step) (A .quad) quad (A .falls) (R .falls);
-            }
+    pub spread-steps : Exact → (quad : ℕ) → quad < w .state .quads → QuadHasStep setting left quad
+    spread-steps exact quad l =
+        let H = home caps w S quad l in
+        let E = home-ends quad H in
+        let k = H .spline in
+        let L = E .0 in
+        gets-step exact k (H .inside) L quad
+        (reached rows (total k) (S .cut k) (L .at) k (ups k) (span-to k (H .inside) L) (L .inside) (L .sum) (L .up) (between k (H .inside) L) quad (H .low) (E .1))
 
     pub no-stray : NoStray setting left
-    no-stray = record { has-step = quad-stepped; stays = step-stays }
+    no-stray = record { has-step = spread-steps spread-exact; stays = step-stays spread-exact }
 
 -- ---- 3e and 3f for an accepted drawing
 pub demand3e : Demand3e

@@ -29,7 +29,7 @@ use Rattle.tables.specs.Run.{World}
 use Rattle.tables.proofs.RunningSums.{Sum, no-steps, up-bounds, size-real}
 use Rattle.tables.proofs.Spans.{Span, LastOf, span-total}
 use Rattle.tables.proofs.Sound.{Sound}
-use Rattle.walk.specs.Walk.{Item, item, subdivisionsOf, stepSizeOf, startsOf, cursorAt, stepsFrom, cursorFrom, cursorAfter, splineItemsOf, walkFrom}
+use Rattle.walk.specs.Walk.{Item, item, subdivisionsOf, stepSizeOf, startsOf, cursorStartOf, cursorAt, stepsFrom, cursorFrom, cursorAfter, splineItemsOf, walkFrom}
 use Rattle.promises.specs.Words.{isEnd, cutAfter}
 use Rattle.promises.specs.Accepted.{stepsOf, pieceOf}
 use Rattle.promises.proofs.Cutting.{All, all-append, cut-piece}
@@ -82,7 +82,9 @@ module _ (rows : ℕ → QuadRow) (s : SplineTable) where
   unfolding walkFrom cutAfter
   pieces-count setting zero k cursor = refl
   pieces-count setting (suc n) k cursor =
-      ap length (cut-spline k cursor (walkFrom setting rows s n (k + 1) (cursorAfter rows s k cursor))) ∙ ap suc (pieces-count setting n (k + 1) (cursorAfter rows s k cursor))
+      let start = cursorStartOf setting (splineAt s k) cursor in
+      let next = cursorAfter rows s k start in
+      ap length (cut-spline k start (walkFrom setting rows s n (k + 1) next)) ∙ ap suc (pieces-count setting n (k + 1) next)
 
   -- piece i has the items of spline k, and some cursor at which `inv` holds
   pub record Piece (inv : ℕ → ℕ → Type 0) (pieces : List (List Item)) (i k : ℕ) : Type 0 where
@@ -90,26 +92,35 @@ module _ (rows : ℕ → QuadRow) (s : SplineTable) where
     pub is : getD pieces i [] ≡ splineItemsOf rows s k cursor
     pub holds : inv k cursor
 
-  pub piece-at : (setting : Setting) (inv : ℕ → ℕ → Type 0) (n k cursor : ℕ) → inv k cursor → ((j c : ℕ) → j < k + n → inv j c → inv (suc j) (cursorAfter rows s j c)) → (i : ℕ) → i < n
+  -- `comes` holds of the cursor as it comes to a spline, and `inv` as it begins there
+  pub piece-at : (setting : Setting) (comes inv : ℕ → ℕ → Type 0) (n k cursor : ℕ) → comes k cursor
+      → ((j c : ℕ) → j < k + n → comes j c → inv j (cursorStartOf setting (splineAt s j) c))
+      → ((j c : ℕ) → j < k + n → inv j c → comes (suc j) (cursorAfter rows s j c)) → (i : ℕ) → i < n
       → Piece inv (cutAfter endsItem (walkFrom setting rows s n k cursor)) i (k + i)
   unfolding walkFrom
-  piece-at setting inv zero k cursor h step i l = absurd (not-suc-le-zero l)
-  piece-at setting inv (suc n) k cursor h step zero l =
+  piece-at setting comes inv zero k cursor h begin step i l = absurd (not-suc-le-zero l)
+  piece-at setting comes inv (suc n) k cursor h begin step zero l =
+      let c = cursorStartOf setting (splineAt s k) cursor in
       record {
-        cursor = cursor;
+        cursor = c;
         is =
-            ap (λ (x : List (List Item)). getD x 0 []) (cut-spline k cursor (walkFrom setting rows s n (k + 1) (cursorAfter rows s k cursor)))
-            ∙ ap (λ (x : ℕ). splineItemsOf rows s x cursor) (sym (add-zero k));
-        holds = subst (λ (x : ℕ). inv x cursor) (sym (add-zero k)) h;
+            ap (λ (x : List (List Item)). getD x 0 []) (cut-spline k c (walkFrom setting rows s n (k + 1) (cursorAfter rows s k c)))
+            ∙ ap (λ (x : ℕ). splineItemsOf rows s x c) (sym (add-zero k));
+        holds = subst (λ (x : ℕ). inv x c) (sym (add-zero k)) (begin k cursor (far k n) h);
       }
-  piece-at setting inv (suc n) k cursor h step (suc i) l =
-      let c = cursorAfter rows s k cursor in
+    where
+      far : (k n : ℕ) → k < k + suc n
+      far k n = omega arith
+  piece-at setting comes inv (suc n) k cursor h begin step (suc i) l =
+      let c = cursorStartOf setting (splineAt s k) cursor in
+      let next = cursorAfter rows s k c in
       let z =
-      piece-at setting inv n (k + 1) c (subst (λ (x : ℕ). inv x c) (suc-eq-add-one k) (step k cursor (far k n) h))
+      piece-at setting comes inv n (k + 1) next (subst (λ (x : ℕ). comes x next) (suc-eq-add-one k) (step k c (far k n) (begin k cursor (far k n) h)))
+      (λ j d m. begin j d (lt-of-lt-of-le m (le-of-eq (shift-one k n))))
       (λ j d m. step j d (lt-of-lt-of-le m (le-of-eq (shift-one k n)))) i (le-of-suc-le-suc l) in
       record {
         cursor = z .cursor;
-        is = ap (λ (x : List (List Item)). getD x (suc i) []) (cut-spline k cursor (walkFrom setting rows s n (k + 1) c)) ∙ z .is ∙ ap (λ (x : ℕ). splineItemsOf rows s x (z .cursor)) (shift-one k i);
+        is = ap (λ (x : List (List Item)). getD x (suc i) []) (cut-spline k c (walkFrom setting rows s n (k + 1) next)) ∙ z .is ∙ ap (λ (x : ℕ). splineItemsOf rows s x (z .cursor)) (shift-one k i);
         holds = subst (λ (x : ℕ). inv x (z .cursor)) (shift-one k i) (z .holds);
       }
     where
@@ -178,8 +189,9 @@ module _ (caps : Capacities) (w : World) (S : Sound caps w) (limit : caps .splin
   unfolding walkFrom
   walk-packed setting zero k cursor h = tt
   walk-packed setting (suc n) k cursor h =
-      all-append Packed (splineItemsOf (quadRowAt (w .quads)) (w .splines) k cursor) _ (spline-packed k cursor (le-trans (far k n) h))
-      (walk-packed setting n (k + 1) (cursorAfter (quadRowAt (w .quads)) (w .splines) k cursor) (le-trans (le-of-eq (shift-one k n)) h))
+      let start = cursorStartOf setting (splineAt (w .splines) k) cursor in
+      all-append Packed (splineItemsOf (quadRowAt (w .quads)) (w .splines) k start) _ (spline-packed k start (le-trans (far k n) h))
+      (walk-packed setting n (k + 1) (cursorAfter (quadRowAt (w .quads)) (w .splines) k start) (le-trans (le-of-eq (shift-one k n)) h))
     where
       far : (k n : ℕ) → k < k + suc n
       far k n = omega arith

@@ -66,11 +66,11 @@ joinedQuads =
 unfoldable pub joinedSplines : SplineTable
 joinedSplines =
     let none = replicate 2 zero32 in
-    splineTable (whole32 3 ∷ whole32 2 ∷ []) none none none none (0 ∷ 1 ∷ [])
+    splineTable (whole32 3 ∷ whole32 2 ∷ []) none none none none (0 ∷ 1 ∷ []) (0 ∷ 2 ∷ []) (2 ∷ 1 ∷ [])
 
 -- the quad of each item: Start, two steps, End, a step, End
-unfoldable pub joinedCursors : List ℕ
-joinedCursors = map (λ i. i .quad) (walkOf Screen (quadRowAt joinedQuads) joinedSplines 2)
+unfoldable pub joinedCursors : Setting → List ℕ
+joinedCursors setting = map (λ i. i .quad) (walkOf setting (quadRowAt joinedQuads) joinedSplines 2)
 
 pub record Example : Type 0 where
   pub given : List ℕ
@@ -131,5 +131,7 @@ promised =
     -- P11 "q 64 gives r 2; q 0 gives one piece."
     ∷ example (bitsOf (sixthRootOf (whole32 64)) ∷ piecesOf zero32 one32 one32 ∷ []) (0x40000000 ∷ 1 ∷ [])
     -- P12 "the second spline's step uses quad 1, the first spline's."
-    ∷ example joinedCursors (0 ∷ 0 ∷ 0 ∷ 0 ∷ 1 ∷ 0 ∷ [])
+    ∷ example (joinedCursors Screen) (0 ∷ 0 ∷ 0 ∷ 0 ∷ 1 ∷ 0 ∷ [])
+    -- P12 in the knife setting: "the cursor begins each spline at that first quad"
+    ∷ example (joinedCursors Knife) (0 ∷ 0 ∷ 0 ∷ 0 ∷ 2 ∷ 0 ∷ [])
     ∷ []

@@ -18,7 +18,7 @@ unfoldable pub emptyQuads : ℕ → QuadTable
 emptyQuads n = quadTable (zeros (15 * n)) (replicate n 0)
 
 unfoldable pub emptySplines : ℕ → SplineTable
-emptySplines n = splineTable (zeros n) (zeros n) (zeros n) (zeros n) (zeros n) (replicate n 0)
+emptySplines n = splineTable (zeros n) (zeros n) (zeros n) (zeros n) (zeros n) (replicate n 0) (replicate n 0) (replicate n 0)
 
 unfoldable pub emptyOutput : ℕ → Output
 emptyOutput n = output (replicate n 0) (zeros n) (zeros n) (replicate n 0)

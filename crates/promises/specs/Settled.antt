@@ -53,7 +53,8 @@ abbrev pub QuadsSettled : Type 0
 QuadsSettled = Settles (λ (q : Floats × List ℕ). quadTable (q .0) (q .1))
 
 abbrev pub SplinesSettled : Type 0
-SplinesSettled = Settles (λ (s : Floats × Floats × Floats × Floats × Floats × List ℕ). splineTable (s .0) (s .1) (s .2) (s .3) (s .4) (s .5))
+SplinesSettled =
+    Settles (λ (s : Floats × Floats × Floats × Floats × Floats × List ℕ × List ℕ × List ℕ). splineTable (s .0) (s .1) (s .2) (s .3) (s .4) (s .5) (s .6) (s .7))
 
 abbrev pub OutputSettled : Type 0
 OutputSettled = Settles (λ (o : List ℕ × Floats × Floats × List ℕ). output (o .0) (o .1) (o .2) (o .3))
