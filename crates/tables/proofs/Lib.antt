@@ -1,6 +1,7 @@
 pub mod RowLaws
 pub mod Written
 pub mod RunningSums
+pub mod Growth
 pub mod Pushes
 pub mod Runs
 pub mod Lengths

@@ -83,7 +83,7 @@ positive-natural (fin false m e) h = tt
 
 -- ---- one more curvature
 
-add-is : (x y : Float) → T (natural x) → T (natural y) → x ⊕ y ≡ round binary32 false (num x * den y + num y * den x) (den x * den y)
+pub add-is : (x y : Float) → T (natural x) → T (natural y) → x ⊕ y ≡ round binary32 false (num x * den y + num y * den x) (den x * den y)
 unfolding add
 add-is nan y h k = absurd h
 add-is (inf s) y h k = absurd h
@@ -158,7 +158,7 @@ sum-after s c S B fit =
 
 -- ---- the first sum of a spline is its quad's own curvature
 
-fits-shape : (m : ℕ) (e : ℤ) → T (fits binary32 (fin false (suc m) e)) → (suc m < 2 ^ 24) × (down e ≤ 2 ^ 149) × (suc m * up e < 2 ^ 128 * down e)
+pub fits-shape : (m : ℕ) (e : ℤ) → T (fits binary32 (fin false (suc m) e)) → (suc m < 2 ^ 24) × (down e ≤ 2 ^ 149) × (suc m * up e < 2 ^ 128 * down e)
 unfolding fits
 fits-shape m e h =
     let a = eqb (suc m % 2) 1 in
@@ -172,7 +172,7 @@ fits-shape m e h =
           (and-r (a && b && c) d h),
     )
 
-exponent : (k : ℕ) → 2 ^ suc k ≤ 2 ^ 149 → suc k ≤ 149
+pub exponent : (k : ℕ) → 2 ^ suc k ≤ 2 ^ 149 → suc k ≤ 149
 exponent k h = le-of-not (lt-of-not-le (λ (g : 150 ≤ suc k). lt-irrefl (2 ^ 149) (lt-of-lt-of-le (pow-lt g) h)))
   where
     le-of-not : suc k < 150 → suc k ≤ 149
