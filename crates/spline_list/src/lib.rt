@@ -7,8 +7,8 @@ ghost use Rattle.tables.specs.Tables.{splineTable, splineAt};
 ghost use Rattle.spline_list.specs.Rows.{putRowOf, splineAtOf, agreeOf, equalOf, countOf, outcomeOf, fillOf, spreadOf};
 use columns::flag_byte;
 use columns::put_f32;
-use columns::put_u32;
 use columns::put_u8;
+use columns::put_u32;
 use columns::put_usize;
 use primitives::SplineRow;
 

@@ -40,7 +40,8 @@ use denote.Builtin.{usize, f32, u8, u32, bool}
 use denote.Ref.{RefT, now}
 use denote.Lend.{Held}
 use denote.Index.{row as cells, place-is, elem-out, elem-put, opens-slice, closes-slice}
-use denote.Slice.{sliceTy, sliceVal, MutSlice, ShrSlice, heres, Room, slice-vals, mut-slice-tells, shr-slice-tells, shr-slice-copy, at-slice, codedHoleys}
+use denote.Slice.{sliceTy, sliceVal, MutSlice, ShrSlice, heres, Room, slice-vals as vals, mut-slice-tells, shr-slice-tells, shr-slice-copy, at-slice}
+use denote.Slice.{codedHoleys}
 use denote.Signature.{plain, shrSliceOf}
 use denote.Steps.{only, owned, facts, peeks, heard, nothing}
 use denote.Enum.Laws as EL
@@ -104,9 +105,10 @@ kept-number = stay-dropped (plain (λ _. usize)) yes
 
 abbrev stayed : Stays (f.ended .signature .params) (f.ended .kept)
 stayed =
-    let floats = kept-col f32 in
-    (stay-slice (0 ∷ []) tt (plain (λ _. R)),
-    (floats, (floats, (floats, (floats, (floats, (kept-col u8, (kept-col usize, (kept-col u32, (kept-number, tt))))))))))
+    let floats = kept-col f32 in (
+      stay-slice (0 ∷ []) tt (plain (λ _. R)),
+      (floats, (floats, (floats, (floats, (floats, (kept-col u8, (kept-col usize, (kept-col u32, (kept-number, tt))))))))),
+    )
 
 fills-len : (k : SplineTable) (i : ℕ) (ys : List SplineRow) → length (fills k i ys) ≡ length ys
 fills-len k i ys = stores-length (splineAt k) ys i
@@ -166,7 +168,7 @@ module _ {M : Type 1} (𝓤 : URA M) (H : Heap 𝓤) (A : Atoms 𝓤) (W : Given
   cs = (c₂, (c₃, (c₄, (c₅, (c₆, (c₇, (c₈, (c₉, tt))))))))
 
   abbrev vss : Valss Ts
-  vss = (slice-vals c₂, (slice-vals c₃, (slice-vals c₄, (slice-vals c₅, (slice-vals c₆, (slice-vals c₇, (slice-vals c₈, (slice-vals c₉, tt))))))))
+  vss = (vals c₂, (vals c₃, (vals c₄, (vals c₅, (vals c₆, (vals c₇, (vals c₈, (vals c₉, tt))))))))
 
   -- what the columns and a number own
   abbrev With : ℕ → Fml
@@ -175,10 +177,12 @@ module _ {M : Type 1} (𝓤 : URA M) (H : Heap 𝓤) (A : Atoms 𝓤) (W : Given
   abbrev list-val : List Val
   list-val = sliceVal (b, o) (length ys) ∷ []
 
+  -- the machine values of the columns and a number
+  abbrev with-vals : ℕ → Vals row-at.signature (κ′, tt)
+  with-vals i = (vals c₂, (vals c₃, (vals c₄, (vals c₅, (vals c₆, (vals c₇, (vals c₈, (vals c₉, (vint w64 i ∷ [], tt)))))))))
+
   abbrev at : Vals f.signature (κ, (κ′, tt))
-  at =
-      (list-val, (slice-vals c₂, (slice-vals c₃, (slice-vals c₄, (slice-vals c₅, (slice-vals c₆, (slice-vals c₇, (slice-vals c₈, (slice-vals c₉,
-      (vint w64 n ∷ [], tt))))))))))
+  at = (list-val, with-vals n)
 
   abbrev bound : walkOf 𝓤 H A f.ended stayed (f.clauses 𝓤 H A mem run) .Ghost
   bound = (((κ, (κ′, tt)), (q, (q′, tt)), tt, (list-at ys, (c₂, (c₃, (c₄, (c₅, (c₆, (c₇, (c₈, (c₉, (n, tt)))))))))), at), tt)
@@ -188,11 +192,7 @@ module _ {M : Type 1} (𝓤 : URA M) (H : Heap 𝓤) (A : Atoms 𝓤) (W : Given
 
   -- what the callees' triples bind outside
   abbrev to-row : ℕ → RowAt 𝓤 H A mem run .Ghost
-  to-row i =
-      let vals : Vals row-at.signature (κ′, tt) =
-      (slice-vals c₂, (slice-vals c₃, (slice-vals c₄, (slice-vals c₅, (slice-vals c₆, (slice-vals c₇, (slice-vals c₈, (slice-vals c₉,
-      (vint w64 i ∷ [], tt))))))))) in
-      (((κ′, tt), (q′, tt), tt, (c₂, (c₃, (c₄, (c₅, (c₆, (c₇, (c₈, (c₉, (i, tt))))))))), vals), tt)
+  to-row i = (((κ′, tt), (q′, tt), tt, (c₂, (c₃, (c₄, (c₅, (c₆, (c₇, (c₈, (c₉, (i, tt))))))))), with-vals i), tt)
 
   abbrev asks : Agree 𝓤 H A mem run .Ghost
   asks = to-agree 𝓤 H A mem run ys k n
@@ -218,8 +218,8 @@ module _ {M : Type 1} (𝓤 : URA M) (H : Heap 𝓤) (A : Atoms 𝓤) (W : Given
   exits : Rooms ys k → (i : ℕ) → i ≡ m → (r : Copied) (w : Val) → r ≡ outcomeOf agreed → ent 𝓤 (⋆ 𝓤 H A (Left i r w)) (Post w)
   exits rooms i e r w er =
       qed W (Left i r w) ∵
-      suffices ! _ (ends-at 𝓤 H A f.ended stayed (f.clauses 𝓤 H A mem run) W bound w r (fills k i ys,
-      (tt, (tt, (tt, (tt, (tt, (tt, (tt, (tt, (tt, tt))))))))))
+      suffices ! _ (ends-at 𝓤 H A f.ended stayed (f.clauses 𝓤 H A mem run) W bound w r
+      (fills k i ys, (tt, (tt, (tt, (tt, (tt, (tt, (tt, (tt, (tt, tt))))))))))
       (fills-len k i ys, (tt, (tt, (tt, (tt, (tt, (tt, (tt, (tt, (tt, tt))))))))))) $
       says ! (er, ap (λ (j : ℕ). fills k j ys) e ∙ all-or-none (λ (j : ℕ). fills k j ys) agreed n) $
       nothing ! $ move ! (4 ∷ 0 ∷ []) $ join ! $ move ! (3 ∷ 0 ∷ []) $ join ! $ frame ! $
@@ -230,9 +230,9 @@ module _ {M : Type 1} (𝓤 : URA M) (H : Heap 𝓤) (A : Atoms 𝓤) (W : Given
 
   module _ (l₀ l₁ l₂ l₃ l₄ l₅ l₆ l₇ l₈ l₉ l₁₀ l₁₁ l₁₂ l₁₃ l₁₄ l₁₅ l₁₆ l₁₇ l₁₈ l₁₉ l₂₀ l₂₁ l₂₂ l₂₃ l₂₄ l₂₅ l₂₆ : ℕ) where
     abbrev env : Env 𝓤 H
-    env = (C′.mir, l₀) ∷ (records, l₁) ∷ (floats, l₂) ∷ (floats, l₃) ∷ (floats, l₄) ∷ (floats, l₅) ∷ (floats, l₆) ∷ (flags, l₇) ∷ (firsts, l₈) ∷ (counts, l₉) ∷ (word, l₁₀) ∷ (tyBool, l₁₁) ∷ (word, l₁₂) ∷
-        (word, l₁₃) ∷ (word, l₁₄) ∷ (word, l₁₅) ∷ (word, l₁₆) ∷ (word, l₁₇) ∷ (word, l₁₈) ∷ (word, l₁₉) ∷ (word, l₂₀) ∷ (word, l₂₁) ∷ (word, l₂₂) ∷ (tyBool, l₂₃) ∷ (T′.mir, l₂₄) ∷
-        (word, l₂₅) ∷ (tyPtr, l₂₆) ∷ []
+    env = (C′.mir, l₀) ∷ (records, l₁) ∷ (floats, l₂) ∷ (floats, l₃) ∷ (floats, l₄) ∷ (floats, l₅) ∷ (floats, l₆) ∷ (flags, l₇) ∷ (firsts, l₈) ∷
+        (counts, l₉) ∷ (word, l₁₀) ∷ (tyBool, l₁₁) ∷ (word, l₁₂) ∷ (word, l₁₃) ∷ (word, l₁₄) ∷ (word, l₁₅) ∷ (word, l₁₆) ∷ (word, l₁₇) ∷ (word, l₁₈) ∷
+        (word, l₁₉) ∷ (word, l₂₀) ∷ (word, l₂₁) ∷ (word, l₂₂) ∷ (tyBool, l₂₃) ∷ (T′.mir, l₂₄) ∷ (word, l₂₅) ∷ (tyPtr, l₂₆) ∷ []
 
     -- what holds once the lengths are read
     abbrev Begun : List (Item 𝓤)
@@ -254,14 +254,14 @@ module _ {M : Type 1} (𝓤 : URA M) (H : Heap 𝓤) (A : Atoms 𝓤) (W : Given
         ∷ ‵ (froom word l₁₂ 0) ∷ ‵ (fdies word l₁₂)
         ∷ ‵ (froom tyBool l₁₁ 0) ∷ ‵ (fdies tyBool l₁₁)
         ∷ ‵ (fat fullShare word l₁₀ 0 (vint w64 n)) ∷ ‵ (fdies word l₁₀)
-        ∷ ‵ (fat fullShare counts l₉ 0 (only (slice-vals c₉))) ∷ ‵ (fdies counts l₉)
-        ∷ ‵ (fat fullShare firsts l₈ 0 (only (slice-vals c₈))) ∷ ‵ (fdies firsts l₈)
-        ∷ ‵ (fat fullShare flags l₇ 0 (only (slice-vals c₇))) ∷ ‵ (fdies flags l₇)
-        ∷ ‵ (fat fullShare floats l₆ 0 (only (slice-vals c₆))) ∷ ‵ (fdies floats l₆)
-        ∷ ‵ (fat fullShare floats l₅ 0 (only (slice-vals c₅))) ∷ ‵ (fdies floats l₅)
-        ∷ ‵ (fat fullShare floats l₄ 0 (only (slice-vals c₄))) ∷ ‵ (fdies floats l₄)
-        ∷ ‵ (fat fullShare floats l₃ 0 (only (slice-vals c₃))) ∷ ‵ (fdies floats l₃)
-        ∷ ‵ (fat fullShare floats l₂ 0 (only (slice-vals c₂))) ∷ ‵ (fdies floats l₂)
+        ∷ ‵ (fat fullShare counts l₉ 0 (only (vals c₉))) ∷ ‵ (fdies counts l₉)
+        ∷ ‵ (fat fullShare firsts l₈ 0 (only (vals c₈))) ∷ ‵ (fdies firsts l₈)
+        ∷ ‵ (fat fullShare flags l₇ 0 (only (vals c₇))) ∷ ‵ (fdies flags l₇)
+        ∷ ‵ (fat fullShare floats l₆ 0 (only (vals c₆))) ∷ ‵ (fdies floats l₆)
+        ∷ ‵ (fat fullShare floats l₅ 0 (only (vals c₅))) ∷ ‵ (fdies floats l₅)
+        ∷ ‵ (fat fullShare floats l₄ 0 (only (vals c₄))) ∷ ‵ (fdies floats l₄)
+        ∷ ‵ (fat fullShare floats l₃ 0 (only (vals c₃))) ∷ ‵ (fdies floats l₃)
+        ∷ ‵ (fat fullShare floats l₂ 0 (only (vals c₂))) ∷ ‵ (fdies floats l₂)
         ∷ ‵ (fat fullShare records l₁ 0 (sliceVal (b, o) (length ys))) ∷ ‵ (fdies records l₁)
         ∷ ‵ (froom C′.mir l₀ 0) ∷ ‵ (fdies C′.mir l₀)
         ∷ (‵ (flft κ q) ⊛ ‵ (flft κ′ q′) ⊛ ‵ ftrue) ∷ ‵ (fsep (MutSlice (named 0) κ R .own (list-at ys) (at .0)) (With n)) ∷ []
@@ -304,14 +304,14 @@ module _ {M : Type 1} (𝓤 : URA M) (H : Heap 𝓤) (A : Atoms 𝓤) (W : Given
         ∷ ‵ (fat fullShare word l₁₂ 0 (vint w64 m)) ∷ ‵ (fdies word l₁₂)
         ∷ ‵ (fat fullShare tyBool l₁₁ 0 (vbool agreed)) ∷ ‵ (fdies tyBool l₁₁)
         ∷ ‵ (fat fullShare word l₁₀ 0 (vint w64 n)) ∷ ‵ (fdies word l₁₀)
-        ∷ ‵ (fat fullShare counts l₉ 0 (only (slice-vals c₉))) ∷ ‵ (fdies counts l₉)
-        ∷ ‵ (fat fullShare firsts l₈ 0 (only (slice-vals c₈))) ∷ ‵ (fdies firsts l₈)
-        ∷ ‵ (fat fullShare flags l₇ 0 (only (slice-vals c₇))) ∷ ‵ (fdies flags l₇)
-        ∷ ‵ (fat fullShare floats l₆ 0 (only (slice-vals c₆))) ∷ ‵ (fdies floats l₆)
-        ∷ ‵ (fat fullShare floats l₅ 0 (only (slice-vals c₅))) ∷ ‵ (fdies floats l₅)
-        ∷ ‵ (fat fullShare floats l₄ 0 (only (slice-vals c₄))) ∷ ‵ (fdies floats l₄)
-        ∷ ‵ (fat fullShare floats l₃ 0 (only (slice-vals c₃))) ∷ ‵ (fdies floats l₃)
-        ∷ ‵ (fat fullShare floats l₂ 0 (only (slice-vals c₂))) ∷ ‵ (fdies floats l₂)
+        ∷ ‵ (fat fullShare counts l₉ 0 (only (vals c₉))) ∷ ‵ (fdies counts l₉)
+        ∷ ‵ (fat fullShare firsts l₈ 0 (only (vals c₈))) ∷ ‵ (fdies firsts l₈)
+        ∷ ‵ (fat fullShare flags l₇ 0 (only (vals c₇))) ∷ ‵ (fdies flags l₇)
+        ∷ ‵ (fat fullShare floats l₆ 0 (only (vals c₆))) ∷ ‵ (fdies floats l₆)
+        ∷ ‵ (fat fullShare floats l₅ 0 (only (vals c₅))) ∷ ‵ (fdies floats l₅)
+        ∷ ‵ (fat fullShare floats l₄ 0 (only (vals c₄))) ∷ ‵ (fdies floats l₄)
+        ∷ ‵ (fat fullShare floats l₃ 0 (only (vals c₃))) ∷ ‵ (fdies floats l₃)
+        ∷ ‵ (fat fullShare floats l₂ 0 (only (vals c₂))) ∷ ‵ (fdies floats l₂)
         ∷ ‵ (fat fullShare records l₁ 0 (sliceVal (b, o) (length ys))) ∷ ‵ (fdies records l₁)
         ∷ ‵ (froom C′.mir l₀ 0) ∷ ‵ (fdies C′.mir l₀) ∷ []
 
@@ -461,17 +461,19 @@ module _ {M : Type 1} (𝓤 : URA M) (H : Heap 𝓤) (A : Atoms 𝓤) (W : Given
         keep ! (0 ∷ 1 ∷ 2 ∷ 3 ∷ 6 ∷ 4 ∷ 7 ∷ 8 ∷ 9 ∷ 10 ∷ 11 ∷ 12 ∷ 13 ∷ 14 ∷ 15 ∷ 16 ∷ 17 ∷ 18 ∷ 19 ∷ 20 ∷ 21 ∷ 22 ∷ 23 ∷ 24 ∷ 25 ∷ 26 ∷ 27 ∷ 28 ∷ 29 ∷ 30 ∷
         31 ∷ 32 ∷ 33 ∷ 34 ∷ 35 ∷ 36 ∷ 37 ∷ 38 ∷ 39 ∷ 40 ∷ 41 ∷ 42 ∷ 43 ∷ 44 ∷ 45 ∷ 46 ∷ 47 ∷ 48 ∷ 49 ∷ 50 ∷ 51 ∷ 52 ∷ 53 ∷ 54 ∷ 55 ∷ 56 ∷ 57 ∷ 58 ∷ 59 ∷
         60 ∷ []) $
-        first ! $ blocks ! $ loops ! 𝓣 Nearer Nearer-wf (At 𝓣 known says-outcome rooms small l₀ l₁ l₂ l₃ l₄ l₅ l₆ l₇ l₈ l₉ l₁₀ l₁₁ l₁₂ l₁₃ l₁₄ l₁₅ l₁₆ l₁₇ l₁₈ l₁₉ l₂₀ l₂₁ l₂₂ l₂₃ l₂₄ l₂₅ l₂₆)
-        (turns 𝓣 known says-outcome rooms small l₀ l₁ l₂ l₃ l₄ l₅ l₆ l₇ l₈ l₉ l₁₀ l₁₁ l₁₂ l₁₃ l₁₄ l₁₅ l₁₆ l₁₇ l₁₈ l₁₉ l₂₀ l₂₁ l₂₂ l₂₃ l₂₄ l₂₅ l₂₆) (0, zero-le)))))))))))
+        first ! $ blocks ! $ loops ! 𝓣 Nearer Nearer-wf (At 𝓣 known says-outcome rooms small l₀ l₁ l₂ l₃ l₄ l₅ l₆ l₇ l₈ l₉ l₁₀ l₁₁ l₁₂ l₁₃ l₁₄ l₁₅ l₁₆ l₁₇ l₁₈
+        l₁₉ l₂₀ l₂₁ l₂₂ l₂₃ l₂₄ l₂₅ l₂₆)
+        (turns 𝓣 known says-outcome rooms small l₀ l₁ l₂ l₃ l₄ l₅ l₆ l₇ l₈ l₉ l₁₀ l₁₁ l₁₂ l₁₃ l₁₄ l₁₅ l₁₆ l₁₇ l₁₈ l₁₉ l₂₀ l₂₁ l₂₂ l₂₃ l₂₄ l₂₅ l₂₆)
+        (0, zero-le)))))))))))
 
     walk : Rooms ys k → n < 2 ^ 64
         → ent 𝓤 (onEntry 𝓤 H A f.signature (κ, (κ′, tt)) (q, (q′, tt)) (list-at ys, (c₂, (c₃, (c₄, (c₅, (c₆, (c₇, (c₈, (c₉, (n, tt)))))))))) at)
-        (WpFn 𝓤 H (𝓣 .C) (𝓣 .Λ) code.function (sliceVal (b, o) (length ys) ∷ only (slice-vals c₂) ∷ only (slice-vals c₃) ∷ only (slice-vals c₄) ∷ only
-        (slice-vals c₅) ∷ only (slice-vals c₆) ∷ only (slice-vals c₇) ∷ only (slice-vals c₈) ∷ only (slice-vals c₉) ∷ vint w64 n ∷ []) Post)
+        (WpFn 𝓤 H (𝓣 .C) (𝓣 .Λ) code.function (sliceVal (b, o) (length ys) ∷ only (vals c₂) ∷ only (vals c₃) ∷ only (vals c₄) ∷ only
+        (vals c₅) ∷ only (vals c₆) ∷ only (vals c₇) ∷ only (vals c₈) ∷ only (vals c₉) ∷ vint w64 n ∷ []) Post)
     walk rooms small =
         qed W ((‵ (flft κ q) ⊛ ‵ (flft κ′ q′) ⊛ ‵ ftrue) ∷ ‵ (fsep (MutSlice (named 0) κ R .own (list-at ys) (at .0)) (With n)) ∷ []) ∵
-        enter ! (𝓣 .C) (𝓣 .Λ) code.function (sliceVal (b, o) (length ys) ∷ only (slice-vals c₂) ∷ only (slice-vals c₃) ∷ only (slice-vals c₄) ∷ only
-        (slice-vals c₅) ∷ only (slice-vals c₆) ∷ only (slice-vals c₇) ∷ only (slice-vals c₈) ∷ only (slice-vals c₉) ∷ vint w64 n ∷ []) _ $
+        enter ! (𝓣 .C) (𝓣 .Λ) code.function (sliceVal (b, o) (length ys) ∷ only (vals c₂) ∷ only (vals c₃) ∷ only (vals c₄) ∷ only
+        (vals c₅) ∷ only (vals c₆) ∷ only (vals c₇) ∷ only (vals c₈) ∷ only (vals c₉) ∷ vint w64 n ∷ []) _ $
         alloc1 ! (λ l₀. alloc1 ! (λ l₁. alloc1 ! (λ l₂. alloc1 ! (λ l₃.
         alloc1 ! (λ l₄. alloc1 ! (λ l₅. alloc1 ! (λ l₆. alloc1 ! (λ l₇.
         alloc1 ! (λ l₈. alloc1 ! (λ l₉. alloc1 ! (λ l₁₀. alloc1 ! (λ l₁₁.
@@ -517,10 +519,10 @@ module _ {M : Type 1} (𝓤 : URA M) (H : Heap 𝓤) (A : Atoms 𝓤) (W : Given
   fill-walks : Walks 𝓤 H A f.ended stayed (WpFn 𝓤 H (𝓣 .C) (𝓣 .Λ) code.function) (f.clauses 𝓤 H A mem run)
   fill-walks =
       walked 𝓤 H A f.ended stayed (f.clauses 𝓤 H A mem run) (WpFn 𝓤 H (𝓣 .C) (𝓣 .Λ) code.function)
-      (λ κs. (slice-vals, (slice-vals, (slice-vals, (slice-vals, (slice-vals, (slice-vals, (slice-vals, (slice-vals, (slice-vals, (uint-vals w64, tt)))))))))))
-      (λ κs. let floats = shr-slice-tells (named 1) (κs .1 .0) f32 in
-      (mut-slice-tells (named 0) (κs .0) R, (floats, (floats, (floats, (floats, (floats, (shr-slice-tells (named 1) (κs .1 .0) u8,
-      (shr-slice-tells (named 1) (κs .1 .0) usize, (shr-slice-tells (named 1) (κs .1 .0) u32, (uint-tells w64, tt)))))))))))
+      (λ κs. (vals, (vals, (vals, (vals, (vals, (vals, (vals, (vals, (vals, (uint-vals w64, tt)))))))))))
+      (λ κs. let floats = shr-slice-tells (named 1) (κs .1 .0) f32 in let flags = shr-slice-tells (named 1) (κs .1 .0) u8 in
+      let firsts = shr-slice-tells (named 1) (κs .1 .0) usize in let counts = shr-slice-tells (named 1) (κs .1 .0) u32 in
+      (mut-slice-tells (named 0) (κs .0) R, (floats, (floats, (floats, (floats, (floats, (flags, (firsts, (counts, (uint-tells w64, tt)))))))))))
       (λ κs qs bounds a g are. via 𝓤 _ (fst∗ 𝓤 _ (emp 𝓤))
       (walk 𝓤 H A W mem run (κs .0) (κs .1 .0) (qs .0) (qs .1 .0) (a .0 .ptr .0) (a .0 .ptr .1) (a .0 .name) (a .0 .now)
       (a .1 .0) (a .1 .1 .0) (a .1 .1 .1 .0) (a .1 .1 .1 .1 .0) (a .1 .1 .1 .1 .1 .0) (a .1 .1 .1 .1 .1 .1 .0) (a .1 .1 .1 .1 .1 .1 .1 .0)
@@ -545,9 +547,10 @@ module _ {M : Type 1} (𝓤 : URA M) (H : Heap 𝓤) (A : Atoms 𝓤) (W : Given
       let gone-firsts = goes-dropped 𝓤 H A W 2 (shrSliceOf (1 ∷ []) tt (plain (λ _. usize))) yes (λ κs x f. refl) in
       let gone-counts = goes-dropped 𝓤 H A W 2 (shrSliceOf (1 ∷ []) tt (plain (λ _. u32))) yes (λ κs x f. refl) in
       let gone-number = goes-dropped 𝓤 H A W 2 (plain (λ _. usize)) yes (λ κs x f. refl) in
-      walk-meets 𝓤 H A f.ended stayed W
-      (goes-slice 𝓤 H A W 2 0 tt (plain (λ _. R)),
-      (gone-col, (gone-col, (gone-col, (gone-col, (gone-col, (gone-flags, (gone-firsts, (gone-counts, (gone-number, tt))))))))))
+      walk-meets 𝓤 H A f.ended stayed W (
+        goes-slice 𝓤 H A W 2 0 tt (plain (λ _. R)),
+        (gone-col, (gone-col, (gone-col, (gone-col, (gone-col, (gone-flags, (gone-firsts, (gone-counts, (gone-number, tt))))))))),
+      )
       (f.clauses 𝓤 H A mem run) (WpFn 𝓤 H (𝓣 .C) (𝓣 .Λ) code.function) (WpFn-mono 𝓤 H (W .laws) 𝓣 code.function) fill-walks
 
 pub fill-spec : {M : Type 1} → stated.statement M
