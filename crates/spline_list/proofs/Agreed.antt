@@ -21,7 +21,7 @@ use contract.Monad.{Fun}
 use types.Kit.{Given, _$_, _∵_, !, qed, join, fjoin, frame, done}
 use denote.Laws.{Is}
 use denote.Plain.{uint-makes, bool-makes}
-use denote.Builtin.{usize, f32, u8, bool}
+use denote.Builtin.{usize, f32, u8, u32, bool}
 use denote.Slice.{Room}
 use denote.Steps.{owned, nothing}
 use denote.Triple.Entry.{Vals}
@@ -44,6 +44,8 @@ pub record Equal (ys : List SplineRow) (t : SplineTable) (n : ℕ) : Type 0 wher
   pub p2x-has : n ≤ length (t .p2x)
   pub p2y-has : n ≤ length (t .p2y)
   pub contour-has : n ≤ length (t .contour)
+  pub first-quad-has : n ≤ length (t .first-quad)
+  pub quad-count-has : n ≤ length (t .quad-count)
 
 -- what is known of the lengths of slices, whatever they are
 pub record Rooms (ys : List SplineRow) (t : SplineTable) : Type 0 where
@@ -54,23 +56,27 @@ pub record Rooms (ys : List SplineRow) (t : SplineTable) : Type 0 where
   pub p2x-room : Room f32 (length (t .p2x))
   pub p2y-room : Room f32 (length (t .p2y))
   pub contour-room : Room u8 (length (t .contour))
+  pub first-quad-room : Room usize (length (t .first-quad))
+  pub quad-count-room : Room u32 (length (t .quad-count))
 
-all-true : (a b c d e f g : Bool) → (a && b && c && d && e && f && g) ≡ true
-    → (a ≡ true) × (b ≡ true) × (c ≡ true) × (d ≡ true) × (e ≡ true) × (f ≡ true) × (g ≡ true)
-all-true a b c d e f g h =
-    let h6 = and-eq-true-iff (a && b && c && d && e && f) g .0 h in
+all-true : (a b c d e f g p q : Bool) → (a && b && c && d && e && f && g && p && q) ≡ true
+    → (a ≡ true) × (b ≡ true) × (c ≡ true) × (d ≡ true) × (e ≡ true) × (f ≡ true) × (g ≡ true) × (p ≡ true) × (q ≡ true)
+all-true a b c d e f g p q h =
+    let h8 = and-eq-true-iff (a && b && c && d && e && f && g && p) q .0 h in
+    let h7 = and-eq-true-iff (a && b && c && d && e && f && g) p .0 (h8 .0) in
+    let h6 = and-eq-true-iff (a && b && c && d && e && f) g .0 (h7 .0) in
     let h5 = and-eq-true-iff (a && b && c && d && e) f .0 (h6 .0) in
     let h4 = and-eq-true-iff (a && b && c && d) e .0 (h5 .0) in
     let h3 = and-eq-true-iff (a && b && c) d .0 (h4 .0) in
     let h2 = and-eq-true-iff (a && b) c .0 (h3 .0) in
     let h1 = and-eq-true-iff a b .0 (h2 .0) in
-    (h1 .0, h1 .1, h2 .1, h3 .1, h4 .1, h5 .1, h6 .1)
+    (h1 .0, h1 .1, h2 .1, h3 .1, h4 .1, h5 .1, h6 .1, h7 .1, h8 .1)
 
 pub equal : (ys : List SplineRow) (t : SplineTable) (n : ℕ) → equalOf ys t n ≡ true → Equal ys t n
 equal ys t n e =
     let h =
     all-true (eqb n (length ys)) (leb n (length (t .curvature))) (leb n (length (t .p0x))) (leb n (length (t .p0y))) (leb n (length (t .p2x)))
-    (leb n (length (t .p2y))) (leb n (length (t .contour))) e in
+    (leb n (length (t .p2y))) (leb n (length (t .contour))) (leb n (length (t .first-quad))) (leb n (length (t .quad-count))) e in
     record {
       list-is = eqb-true n (length ys) (h .0);
       curvature-has = leb-true n (length (t .curvature)) (h .1);
@@ -79,6 +85,8 @@ equal ys t n e =
       p2x-has = leb-true n (length (t .p2x)) (h .4);
       p2y-has = leb-true n (length (t .p2y)) (h .5);
       contour-has = leb-true n (length (t .contour)) (h .6);
+      first-quad-has = leb-true n (length (t .first-quad)) (h .7);
+      quad-count-has = leb-true n (length (t .quad-count)) (h .8);
     }
 
 -- a row that is copied is below n, and the lengths agree
@@ -107,14 +115,16 @@ module _ {M : Type 1} (𝓤 : URA M) (H : Heap 𝓤) (A : Atoms 𝓤) (mem : Mem
   abbrev pub Outcome : Contract 𝓤
   Outcome = tripleOf 𝓤 H A outcome.signature (outcome.spec 𝓤 H A mem run)
 
-  abbrev lengths : (n list curvature p0x p0y p2x p2y contour : ℕ) → Agree .Ghost
-  lengths n list curvature p0x p0y p2x p2y contour =
-      let words : Vals agree.signature tt = (word n, (word list, (word curvature, (word p0x, (word p0y, (word p2x, (word p2y, (word contour, tt)))))))) in
-      ((tt, tt, tt, (n, (list, (curvature, (p0x, (p0y, (p2x, (p2y, (contour, tt)))))))), words), tt)
+  abbrev lengths : (n list curvature p0x p0y p2x p2y contour first-quad quad-count : ℕ) → Agree .Ghost
+  lengths n list curvature p0x p0y p2x p2y contour first-quad quad-count =
+      let words : Vals agree.signature tt =
+      (word n, (word list, (word curvature, (word p0x, (word p0y, (word p2x, (word p2y, (word contour, (word first-quad, (word quad-count, tt)))))))))) in
+      ((tt, tt, tt, (n, (list, (curvature, (p0x, (p0y, (p2x, (p2y, (contour, (first-quad, (quad-count, tt)))))))))), words), tt)
 
   abbrev pub to-agree : List SplineRow → SplineTable → ℕ → Agree .Ghost
   to-agree ys t n =
       lengths n (length ys) (length (t .curvature)) (length (t .p0x)) (length (t .p0y)) (length (t .p2x)) (length (t .p2y)) (length (t .contour))
+      (length (t .first-quad)) (length (t .quad-count))
 
   abbrev pub to-count : Bool → ℕ → Count .Ghost
   to-count agreed n = ((tt, tt, tt, (agreed, (n, tt)), (vbool agreed ∷ [], (word n, tt))), tt)
@@ -126,6 +136,8 @@ module _ {M : Type 1} (𝓤 : URA M) (H : Heap 𝓤) (A : Atoms 𝓤) (mem : Mem
     pub goes-agree : (ys : List SplineRow) (t : SplineTable) (n : ℕ) → Rooms ys t → n < 2 ^ 64 → ent 𝓤 (emp 𝓤) (Agree .pre (to-agree ys t n))
     goes-agree ys t n rooms small =
         qed W [] ∵ nothing ! $
+        owned ! usize (Is usize) (uint-makes 𝓤 H A W w64) (length (t .quad-count)) _ (refl, rooms .quad-count-room .0) $ fjoin ! $
+        owned ! usize (Is usize) (uint-makes 𝓤 H A W w64) (length (t .first-quad)) _ (refl, rooms .first-quad-room .0) $ fjoin ! $
         owned ! usize (Is usize) (uint-makes 𝓤 H A W w64) (length (t .contour)) _ (refl, rooms .contour-room .0) $ fjoin ! $
         owned ! usize (Is usize) (uint-makes 𝓤 H A W w64) (length (t .p2y)) _ (refl, rooms .p2y-room .0) $ fjoin ! $
         owned ! usize (Is usize) (uint-makes 𝓤 H A W w64) (length (t .p2x)) _ (refl, rooms .p2x-room .0) $ fjoin ! $

@@ -55,6 +55,12 @@ p2y-of v = v .p2 .y
 abbrev pub contour-of : SplineRow → ℕ
 contour-of v = flagByteOf (v .contour)
 
+abbrev pub first-quad-of : SplineRow → ℕ
+first-quad-of v = v .«first_quad»
+
+abbrev pub quad-count-of : SplineRow → ℕ
+quad-count-of v = v .«quad_count»
+
 -- the first n records are stored to one column
 abbrev pub puts : {X : Type 0} → (SplineRow → X) → ℕ → List SplineRow → List X → List X
 puts g n ys xs = stores (λ (i : ℕ). g (getD ys i blank)) n xs
@@ -64,6 +70,7 @@ puts-length g n ys xs = stores-length (λ (i : ℕ). g (getD ys i blank)) xs n
 
 pub puts-spreads : (ys : List SplineRow) (t : SplineTable) (n : ℕ)
     → splineTable (puts curvature-of n ys (t .curvature)) (puts p0x-of n ys (t .p0x)) (puts p0y-of n ys (t .p0y)) (puts p2x-of n ys (t .p2x))
-    (puts p2y-of n ys (t .p2y)) (puts contour-of n ys (t .contour)) ≡ spreads ys n t
+    (puts p2y-of n ys (t .p2y)) (puts contour-of n ys (t .contour)) (puts first-quad-of n ys (t .first-quad))
+    (puts quad-count-of n ys (t .quad-count)) ≡ spreads ys n t
 puts-spreads ys t zero = refl
 puts-spreads ys t (suc i) = ap (λ (s : SplineTable). putRowOf s i (getD ys i blank)) (puts-spreads ys t i)

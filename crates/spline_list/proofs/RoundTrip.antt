@@ -13,14 +13,16 @@ use Rattle.columns.proofs.Flags.{flag-back}
 use Rattle.tables.specs.Tables.{SplineTable, splineTable, splineAt}
 use Rattle.primitives.specs.declared.SplineRow.{SplineRow}
 use Rattle.spline_list.specs.Rows.{blank, equalOf, fills, spreads, fillOf, spreadOf}
-use Rattle.spline_list.proofs.Laws.{stores-length, stores-at, curvature-of, p0x-of, p0y-of, p2x-of, p2y-of, contour-of, puts, puts-length, puts-spreads}
+use Rattle.spline_list.proofs.Laws.{stores-length, stores-at, curvature-of, p0x-of, p0y-of, p2x-of, p2y-of, contour-of, first-quad-of, quad-count-of}
+use Rattle.spline_list.proofs.Laws.{puts, puts-length, puts-spreads}
 use Rattle.spline_list.proofs.Agreed.{Equal, equal}
 
 -- the columns once the list is spread
 abbrev written : List SplineRow → ℕ → SplineTable → SplineTable
 written ys n t =
     splineTable (puts curvature-of n ys (t .curvature)) (puts p0x-of n ys (t .p0x)) (puts p0y-of n ys (t .p0y)) (puts p2x-of n ys (t .p2x))
-    (puts p2y-of n ys (t .p2y)) (puts contour-of n ys (t .contour))
+    (puts p2y-of n ys (t .p2y)) (puts contour-of n ys (t .contour)) (puts first-quad-of n ys (t .first-quad))
+    (puts quad-count-of n ys (t .quad-count))
 
 module _ (ys : List SplineRow) (t : SplineTable) (n : ℕ) (e : Equal ys t n) where
   reads : {X : Type 0} (g : SplineRow → X) (xs : List X) (d : X) → n ≤ length xs → (i : ℕ) → i < n → getD (puts g n ys xs) i d ≡ g (getD ys i blank)
@@ -36,6 +38,8 @@ module _ (ys : List SplineRow) (t : SplineTable) (n : ℕ) (e : Equal ys t n) wh
         reads p2x-of (t .p2x) nan (e .p2x-has) i less,
         reads p2y-of (t .p2y) nan (e .p2y-has) i less,
         reads contour-of (t .contour) 0 (e .contour-has) i less,
+        reads first-quad-of (t .first-quad) 0 (e .first-quad-has) i less,
+        reads quad-count-of (t .quad-count) 0 (e .quad-count-has) i less,
         flag-back (getD ys i blank .contour),
       )
 
@@ -62,6 +66,8 @@ module _ (ys : List SplineRow) (t : SplineTable) (n : ℕ) (e : Equal ys t n) wh
         puts-length p2x-of n ys (t .p2x),
         puts-length p2y-of n ys (t .p2y),
         puts-length contour-of n ys (t .contour),
+        puts-length first-quad-of n ys (t .first-quad),
+        puts-length quad-count-of n ys (t .quad-count),
       )
 
 pub round-trip : (ys zs : List SplineRow) (t : SplineTable) (n : ℕ) → equalOf ys t n ≡ true → n ≡ length zs → fillOf (spreadOf ys n t) n zs ≡ ys

@@ -15,13 +15,14 @@ use Rattle.spline_list.specs.declared.Copied.{Copied}
 use Rattle.spline_list.specs.declared.Copied.the-variants.{All, Unequal}
 
 abbrev pub blank : SplineRow
-blank = record { curvature = nan; p0 = pointAt nan nan; p2 = pointAt nan nan; contour = false }
+blank = record { curvature = nan; p0 = pointAt nan nan; p2 = pointAt nan nan; contour = false; «first_quad» = 0; «quad_count» = 0 }
 
 -- a record put to row i
 abbrev pub putRowOf : SplineTable → ℕ → SplineRow → SplineTable
 putRowOf t i v =
     splineTable (set (t .curvature) i (v .curvature)) (set (t .p0x) i (v .p0 .x)) (set (t .p0y) i (v .p0 .y)) (set (t .p2x) i (v .p2 .x))
-    (set (t .p2y) i (v .p2 .y)) (set (t .contour) i (flagByteOf (v .contour)))
+    (set (t .p2y) i (v .p2 .y)) (set (t .contour) i (flagByteOf (v .contour))) (set (t .first-quad) i (v .«first_quad»))
+    (set (t .quad-count) i (v .«quad_count»))
 
 -- the record at i, or the case `Past` if i is past the list
 abbrev pub splineAtOf : List SplineRow → ℕ → Found
@@ -29,13 +30,14 @@ splineAtOf ys i = cond (ltb i (length ys)) (At (getD ys i blank)) Past
 
 -- the list and the columns agree in length: the list has a record for each of the n splines in use, and no column ends before the nth; what a column has
 -- beyond it is capacity
-abbrev pub agreeOf : ℕ → ℕ → ℕ → ℕ → ℕ → ℕ → ℕ → ℕ → Bool
-agreeOf n list curvature p0x p0y p2x p2y contour =
-    eqb n list && leb n curvature && leb n p0x && leb n p0y && leb n p2x && leb n p2y && leb n contour
+abbrev pub agreeOf : ℕ → ℕ → ℕ → ℕ → ℕ → ℕ → ℕ → ℕ → ℕ → ℕ → Bool
+agreeOf n list curvature p0x p0y p2x p2y contour first-quad quad-count =
+    eqb n list && leb n curvature && leb n p0x && leb n p0y && leb n p2x && leb n p2y && leb n contour && leb n first-quad && leb n quad-count
 
 abbrev pub equalOf : List SplineRow → SplineTable → ℕ → Bool
 equalOf ys t n =
     agreeOf n (length ys) (length (t .curvature)) (length (t .p0x)) (length (t .p0y)) (length (t .p2x)) (length (t .p2y)) (length (t .contour))
+    (length (t .first-quad)) (length (t .quad-count))
 
 abbrev pub outcomeOf : Bool → Copied
 outcomeOf agreed = cond agreed All Unequal

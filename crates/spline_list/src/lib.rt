@@ -8,6 +8,8 @@ ghost use Rattle.spline_list.specs.Rows.{putRowOf, splineAtOf, agreeOf, 
 use columns::flag_byte;
 use columns::put_f32;
 use columns::put_u8;
+use columns::put_u32;
+use columns::put_usize;
 use primitives::SplineRow;
 
 // The record at an index of a list, or that the index is past the list.
@@ -70,6 +72,8 @@ pub fn put_row(
     put_f32(p2x, i, v.p2.x);
     put_f32(p2y, i, v.p2.y);
     put_u8(contour, i, flag_byte(v.contour));
+    put_usize(first_quad, i, v.first_quad);
+    put_u32(quad_count, i, v.quad_count);
 }
 
 // Whether the lengths are equal: the list has a record for each of n splines, and no column ends before the nth.
@@ -85,7 +89,7 @@ fn agree(
     first_quad: usize,
     quad_count: usize,
 ) -> bool
-    ensures { λ r. ⌜ r ≡ agreeOf n list curvature p0x p0y p2x p2y contour ⌝ }
+    ensures { λ r. ⌜ r ≡ agreeOf n list curvature p0x p0y p2x p2y contour «first_quad» «quad_count» ⌝ }
 {
     if n != list {
         return false;
@@ -105,7 +109,13 @@ fn agree(
     if p2y < n {
         return false;
     }
-    n <= contour
+    if contour < n {
+        return false;
+    }
+    if first_quad < n {
+        return false;
+    }
+    n <= quad_count
 }
 
 // How many rows are copied: all, or none if the lengths are unequal.
@@ -204,6 +214,8 @@ pub fn spread(
         p2x[i] = v.p2.x;
         p2y[i] = v.p2.y;
         contour[i] = flag_byte(v.contour);
+        first_quad[i] = v.first_quad;
+        quad_count[i] = v.quad_count;
         i += 1;
     }
     outcome(agreed)

@@ -41,13 +41,38 @@ returns-6 c = rw (
 
 returns-7 : tie.Need-returns-7
 returns-7 c = rw (
-  eq-eqb _ _ (c .before .before .before .before .before .if1 .left),
-  le-leb _ _ (c .before .before .before .before .if2 .left),
-  le-leb _ _ (c .before .before .before .if3 .left),
-  le-leb _ _ (c .before .before .if4 .left),
-  le-leb _ _ (c .before .if5 .left),
-  le-leb _ _ (c .if6 .left),
+  eq-eqb _ _ (c .before .before .before .before .before .before .if1 .left),
+  le-leb _ _ (c .before .before .before .before .before .if2 .left),
+  le-leb _ _ (c .before .before .before .before .if3 .left),
+  le-leb _ _ (c .before .before .before .if4 .left),
+  le-leb _ _ (c .before .before .if5 .left),
+  le-leb _ _ (c .before .if6 .left),
+  lt-leb _ _ (c .if7 .taken),
+)
+
+returns-8 : tie.Need-returns-8
+returns-8 c = rw (
+  eq-eqb _ _ (c .before .before .before .before .before .before .before .if1 .left),
+  le-leb _ _ (c .before .before .before .before .before .before .if2 .left),
+  le-leb _ _ (c .before .before .before .before .before .if3 .left),
+  le-leb _ _ (c .before .before .before .before .if4 .left),
+  le-leb _ _ (c .before .before .before .if5 .left),
+  le-leb _ _ (c .before .before .if6 .left),
+  le-leb _ _ (c .before .if7 .left),
+  lt-leb _ _ (c .if8 .taken),
+)
+
+returns-9 : tie.Need-returns-9
+returns-9 c = rw (
+  eq-eqb _ _ (c .before .before .before .before .before .before .before .if1 .left),
+  le-leb _ _ (c .before .before .before .before .before .before .if2 .left),
+  le-leb _ _ (c .before .before .before .before .before .if3 .left),
+  le-leb _ _ (c .before .before .before .before .if4 .left),
+  le-leb _ _ (c .before .before .before .if5 .left),
+  le-leb _ _ (c .before .before .if6 .left),
+  le-leb _ _ (c .before .if7 .left),
+  le-leb _ _ (c .if8 .left),
 )
 
 pub agree-spec : {M : Type 1} → statement M
-agree-spec = tie.close (tie.spec returns returns-2 returns-3 returns-4 returns-5 returns-6 returns-7)
+agree-spec = tie.close (tie.spec returns returns-2 returns-3 returns-4 returns-5 returns-6 returns-7 returns-8 returns-9)

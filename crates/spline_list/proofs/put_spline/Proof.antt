@@ -124,10 +124,10 @@ module _ {M : Type 1} (𝓤 : URA M) (H : Heap 𝓤) (A : Atoms 𝓤) (W : Given
         (init ! 4 refl (tt, tt)) $
         first ! $ branches ! (load ! (from ! (stop !)) (look ! 4 refl))
         (λ less.
-        assigns ! (bin ! (load ! (from ! (stop !)) (look ! 10 refl)) (lit ! tt) (fits24 less)) (from ! (stop !)) (init ! 2 refl (tt, fits24 less)) $
+        assigns ! (bin ! (load ! (from ! (stop !)) (look ! 10 refl)) (lit ! tt) (fits40 less)) (from ! (stop !)) (init ! 2 refl (tt, fits40 less)) $
         assigns ! (bin ! (load ! (from ! (fld ! refl (stop !))) (look-in ! 12 (sub ! 0 refl (whole !)))) (load ! (from ! (stop !)) (look ! 2 refl)) tt)
         (from ! (stop !)) (init ! 0 refl (tt, tt)) $
-        rewrite ! 0 (λ (p : ℕ). ‵ (fat fullShare tyPtr l₇ 0 (vptr b p))) (sym (place-is 24 o i)) refl $
+        rewrite ! 0 (λ (p : ℕ). ‵ (fat fullShare tyPtr l₇ 0 (vptr b p))) (sym (place-is 40 o i)) refl $
         move ! (17 ∷ []) $ fsplit ! $ fsplit ! $ move ! (1 ∷ []) $ fsplit ! $ move ! (20 ∷ []) $ split ! $ move ! (2 ∷ 3 ∷ 0 ∷ []) $
         opens-slice ! tt R ys b o $ elem-out ! R (Is R) (shows 𝓤 H A R) (LL.vals T.the-type T′.the-laws) (LL.tells T.the-type T′.the-laws) fullShare ys i
         blank b o (inside less) (λ _.
@@ -152,8 +152,8 @@ module _ {M : Type 1} (𝓤 : URA M) (H : Heap 𝓤) (A : Atoms 𝓤) (W : Given
         inside : Holds (ltb i (length ys)) → i < length ys
         inside less = ltb→lt i (length ys) less
 
-        fits24 : Holds (ltb i (length ys)) → Fits w64 (i * 24)
-        fits24 less = let h = inside less in let r : length ys * 24 < 2 ^ 63 = gn .1 in record { fits = omega arith }
+        fits40 : Holds (ltb i (length ys)) → Fits w64 (i * 40)
+        fits40 less = let h = inside less in let r : length ys * 40 < 2 ^ 63 = gn .1 in record { fits = omega arith }
 
         typed : Holds (hasTy T′.mir mach) × WT mach
         typed = LL.lawful T.the-type T′.the-laws 𝓤 H A W .typed v _ gv .0

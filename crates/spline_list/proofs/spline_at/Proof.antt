@@ -1,4 +1,4 @@
--- `spline_list::spline_at` meets its contract: its MIR is walked by hand. The place of `list[i]` is 24 i past the slice's pointer, and the
+-- `spline_list::spline_at` meets its contract: its MIR is walked by hand. The place of `list[i]` is 40 i past the slice's pointer, and the
 -- record is read there whole; the answer is made by a call in either case, and all that the proof knows of those is that they meet their contracts.
 -- Assumes nothing.
 use mathlib.Core.Path.{_≡_, refl, sym, _∙_, ap}
@@ -147,10 +147,10 @@ module _ {M : Type 1} (𝓤 : URA M) (H : Heap 𝓤) (A : Atoms 𝓤) (W : Given
         (init ! 6 refl (tt, tt)) $
         first ! $ branches ! (load ! (from ! (stop !)) (look ! 6 refl))
         (λ less.
-        assigns ! (bin ! (load ! (from ! (stop !)) (look ! 10 refl)) (lit ! tt) (fits24 less)) (from ! (stop !)) (init ! 4 refl (tt, fits24 less)) $
+        assigns ! (bin ! (load ! (from ! (stop !)) (look ! 10 refl)) (lit ! tt) (fits40 less)) (from ! (stop !)) (init ! 4 refl (tt, fits40 less)) $
         assigns ! (bin ! (load ! (from ! (fld ! refl (stop !))) (look-in ! 12 (sub ! 0 refl (whole !)))) (load ! (from ! (stop !)) (look ! 4 refl)) tt)
         (from ! (stop !)) (init ! 2 refl (tt, tt)) $
-        rewrite ! 2 (λ (p : ℕ). ‵ (fat fullShare tyPtr l₆ 0 (vptr b p))) (sym (place-is 24 o i)) refl $
+        rewrite ! 2 (λ (p : ℕ). ‵ (fat fullShare tyPtr l₆ 0 (vptr b p))) (sym (place-is 40 o i)) refl $
         move ! (17 ∷ []) $ fsplit ! $ fsplit ! $ move ! (1 ∷ []) $ fsplit ! $ move ! (20 ∷ []) $ split ! $ move ! (3 ∷ 0 ∷ []) $
         looks-slice ! tt R (Is R) (shows 𝓤 H A R) (LL.vals T.the-type T′.the-laws) (LL.tells T.the-type T′.the-laws)
         (LL.copy T.the-type T′.the-copy 𝓤 H A W) ys b o (λ q′. elem-out ! R (Is R) (shows 𝓤 H A R) (LL.vals T.the-type T′.the-laws)
@@ -189,8 +189,8 @@ module _ {M : Type 1} (𝓤 : URA M) (H : Heap 𝓤) (A : Atoms 𝓤) (W : Given
         inside : Holds (ltb i (length ys)) → i < length ys
         inside less = ltb→lt i (length ys) less
 
-        fits24 : Holds (ltb i (length ys)) → Fits w64 (i * 24)
-        fits24 less = let h = inside less in let r : length ys * 24 < 2 ^ 63 = gn .1 in record { fits = omega arith }
+        fits40 : Holds (ltb i (length ys)) → Fits w64 (i * 40)
+        fits40 less = let h = inside less in let r : length ys * 40 < 2 ^ 63 = gn .1 in record { fits = omega arith }
 
         typed : Is R elem (mach ∷ []) → Holds (hasTy T′.mir mach) × WT mach
         typed g = LL.lawful T.the-type T′.the-laws 𝓤 H A W .typed elem _ g .0
