@@ -18,7 +18,7 @@ use Rattle.facts.proofs.Numbers.{shift, shift-one}
 use Rattle.leaves.specs.Single.{whole32}
 use Rattle.command.specs.declared.PointCommand.the-variants.{Incr}
 use Rattle.primitives.specs.declared.QuadRow.{QuadRow}
-use Rattle.tables.proofs.RunningSums.{Sum, Reaches, Up, lt-whole, below-up, up-below, up-two, up-limit}
+use Rattle.tables.proofs.RunningSums.{Sum, Reaches, grows-reaches, Up, lt-whole, below-up, up-below, up-two, up-limit}
 use Rattle.tables.proofs.Spans.{sumAt, ownerAt, Span, LastOf}
 use Rattle.walk.specs.Walk.{Item, item, cursorAt, stepsFrom, cursorFrom}
 use Rattle.promises.proofs.Cutting.{All}
@@ -101,7 +101,7 @@ module _ (rows : ℕ → QuadRow) (total : Float) (lo l j m : ℕ) (R : Span row
       le-suc i l h = omega arith
 
   reach : (i : ℕ) → lo ≤ i → i < l → Reaches (sumAt rows i) (sumAt rows (suc i))
-  reach i h k = R .grows i h (le-suc i l k)
+  reach i h k = grows-reaches (sumAt rows i) (sumAt rows (suc i)) (R .grows i h (le-suc i l k))
     where
       le-suc : (i l : ℕ) → i < l → suc i < suc l
       le-suc i l h = omega arith

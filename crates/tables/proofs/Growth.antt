@@ -11,7 +11,7 @@ use native.Mathlib.Omega.{arith}
 use lib.IntN.{pos, negsuc}
 use lib.Dec.{T, lit≤}
 use lib.Pow.{pow-add, pow-pos, pow-mono, shl-lt}
-use lib.Ieee.{Float, nan, inf, fin, binary32, le, fits}
+use lib.Ieee.{Float, nan, inf, fin, binary32, le}
 use lib.Ieee.Exact.{HasValue}
 use lib.Ieee.Nearest.{closest}
 use lib.Ieee.Order.{drop, kept}
@@ -23,7 +23,7 @@ use Rattle.rounding.proofs.Nearest.{kept-full}
 use Rattle.rounding.proofs.Signed.{gap}
 use Rattle.leaves.specs.Single.{_⊕_}
 use Rattle.leaves.specs.Whole.{limit32}
-use Rattle.tables.proofs.RunningSums.{Sum, Bent, positive-natural, add-is, sum-real, fits-shape, exponent}
+use Rattle.tables.proofs.RunningSums.{Sum, Grows, Bent, positive-natural, add-is, sum-real, fits-shape, exponent}
 
 -- ---- numbers: a fraction above M * 2 ^ t, where M has at most one digit more than the p that rounding keeps, is rounded to no less
 
@@ -81,14 +81,14 @@ round-reaches p n b M t P B small l =
 -- ---- floats
 
 -- a sum is a whole number of at most 24 digits over a power of two that divides 2 ^ 149
-shape : (s : Float) → T (fits binary32 s) → Sum s → (t : ℕ) × (2 ^ t * den s ≡ 2 ^ 149) × (num s < 2 ^ 24)
-shape nan F S = absurd (S .real)
-shape (inf i) F S = absurd (S .real)
-shape (fin true m e) F S = absurd (S .real)
-shape (fin false zero e) F S = absurd (S .real)
-shape (fin false (suc m) (pos k)) F S = (149, mul-one (2 ^ 149), lt-of-le-of-lt (S .most) (lit≤ tt))
-shape (fin false (suc m) (negsuc k)) F S =
-    let z = fits-shape m (negsuc k) F in (
+shape : (s : Float) → Sum s → (t : ℕ) × (2 ^ t * den s ≡ 2 ^ 149) × (num s < 2 ^ 24)
+shape nan S = absurd (S .real)
+shape (inf i) S = absurd (S .real)
+shape (fin true m e) S = absurd (S .real)
+shape (fin false zero e) S = absurd (S .real)
+shape (fin false (suc m) (pos k)) S = (149, mul-one (2 ^ 149), lt-of-le-of-lt (S .most) (lit≤ tt))
+shape (fin false (suc m) (negsuc k)) S =
+    let z = fits-shape m (negsuc k) (S .held) in (
       149 - suc k,
       sym (pow-add 2 (149 - suc k) (suc k)) ∙ ap (λ (x : ℕ). 2 ^ x) (back (exponent k (z .1))),
       lt-of-le-of-lt (le-of-eq (mul-one (suc m))) (z .0),
@@ -118,7 +118,7 @@ in-units M D u w g Y Z W e f h =
     (le-of-eq (sym (mul-assoc g Z D) ∙ ap (λ (x : ℕ). x * D) (sym f) ∙ mul-right-comm Y w D))))
     W
 
-module _ (s c : Float) (F : T (fits binary32 s)) (S : Sum s) (B : Bent c) (fit : T (le (s ⊕ c) limit32)) where
+module _ (s c : Float) (S : Sum s) (B : Bent c) (fit : T (le (s ⊕ c) limit32)) where
   -- the sum, in smallest values
   sum-value : HasValue (s ⊕ c) false (grid binary32 (num s * den c + num c * den s) (den s * den c)) (2 ^ 149)
   sum-value =
@@ -130,11 +130,11 @@ module _ (s c : Float) (F : T (fits binary32 s)) (S : Sum s) (B : Bent c) (fit :
       (positive-finite (s ⊕ c) (sum-real s c (positive-natural s (S .real)) (S .most) B fit)))))
 
   -- the sum grows by 1 or more
-  pub sum-grows : (num s + den s) * den (s ⊕ c) ≤ num (s ⊕ c) * den s
+  pub sum-grows : Grows s (s ⊕ c)
   sum-grows =
       let a = num s * den c + num c * den s in
       let b = den s * den c in
-      let z = shape s F S in
+      let z = shape s S in
       let t = z .0 in
       in-units (num s + den s) (den s) (2 ^ t) (2 ^ 149) (grid binary32 a b) (num (s ⊕ c)) (den (s ⊕ c)) (pow-pos 149) (z .1)
       (value→cross (s ⊕ c) (grid binary32 a b) (2 ^ 149) sum-value)
@@ -144,12 +144,11 @@ module _ (s c : Float) (F : T (fits binary32 s)) (S : Sum s) (B : Bent c) (fit :
       double : (n d : ℕ) → n < 2 ^ 24 → d < n → n + d < 2 ^ 25
       double n d h k = omega arith
 
-  -- a sum that comes to just the next whole number was whole itself
-  pub whole-before : (p : ℕ) → p * den s ≤ num s → num (s ⊕ c) ≡ suc p * den (s ⊕ c) → num s ≡ p * den s
-  whole-before p h e =
-      last (num s) (den s) (p * den s) (suc p * den s) h (suc-mul p (den s))
-      (le-of-mul-le-mul-right
-      (le-trans sum-grows (le-of-eq (ap (λ (x : ℕ). x * den s) e ∙ mul-right-comm (suc p) (den (s ⊕ c)) (den s)))) (den-pos (s ⊕ c)))
-    where
-      last : (n d a b : ℕ) → a ≤ n → b ≡ a + d → n + d ≤ b → n ≡ a
-      last n d a b h e k = omega arith
+-- ---- a sum that comes to just the next whole number was whole itself
+pub whole-before : (x y : Float) → Grows x y → (p : ℕ) → p * den x ≤ num x → num y ≡ suc p * den y → num x ≡ p * den x
+whole-before x y G p h e =
+    last (num x) (den x) (p * den x) (suc p * den x) h (suc-mul p (den x))
+    (le-of-mul-le-mul-right (le-trans G (le-of-eq (ap (λ (z : ℕ). z * den x) e ∙ mul-right-comm (suc p) (den y) (den x)))) (den-pos y))
+  where
+    last : (n d a b : ℕ) → a ≤ n → b ≡ a + d → n + d ≤ b → n ≡ a
+    last n d a b h e k = omega arith

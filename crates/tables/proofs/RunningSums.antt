@@ -12,7 +12,7 @@ use lib.IntN.{ℤ, pos, negsuc}
 use lib.Dec.{T, leb, ltb, eqb, lit≤, lit<, ltb→lt, lt→ltb, eqb→eq, leb→le, nltb→le, eqb·suc-zero}
 use lib.Pow.{pow-add, pow-pos, pow-lt, pow-mono, shl-lt}
 use lib.Ieee.{Float, nan, inf, fin, binary32, up, down, round, add, div, le, lt, eq, ofInt, ofBits, fits}
-use lib.Ieee.Fits.{up-pos, down-pos, and-l, and-r, and-i}
+use lib.Ieee.Fits.{up-pos, down-pos, and-l, and-r, and-i, add-fits}
 use lib.Ieee.Bits.{is-true}
 use lib.Ieee.Exact.{HasValue, round-exact}
 use lib.Ieee.Back.{round-whole}
@@ -23,8 +23,9 @@ use Rattle.facts.proofs.Tests.{same}
 use Rattle.leaves.specs.Single.{_⊕_, _⊘_, whole32, zero32, half32, one32}
 use Rattle.leaves.specs.Whole.{limit32, wholeUpOf}
 
--- finite, above 1 and at most 65,536
+-- an f32, finite, above 1 and at most 65,536
 pub record Sum (x : Float) : Type 0 where
+  pub held : T (fits binary32 x)
   pub real : T (positive x)
   pub over : den x < num x
   pub most : num x ≤ 65536 * den x
@@ -32,6 +33,20 @@ pub record Sum (x : Float) : Type 0 where
 -- y reaches the next whole number above x: of each whole number p at most x, the next one is at most y
 abbrev pub Reaches : Float → Float → Type 0
 Reaches x y = (p : ℕ) → p * den x ≤ num x → suc p * den y ≤ num y
+
+-- y is x + 1 or more
+abbrev pub Grows : Float → Float → Type 0
+Grows x y = (num x + den x) * den y ≤ num y * den x
+
+pub grows-reaches : (x y : Float) → Grows x y → Reaches x y
+grows-reaches x y G p h =
+    le-of-mul-le-mul-right
+    (le-trans (le-of-eq (mul-right-comm (suc p) (den y) (den x)))
+    (le-trans (mul-le-mul-right (den y) (more (num x) (den x) (p * den x) (suc p * den x) h (suc-mul p (den x)))) G))
+    (den-pos x)
+  where
+    more : (n d a b : ℕ) → a ≤ n → b ≡ a + d → b ≤ n + d
+    more n d a b h e = omega arith
 
 -- a quad's own curvature: an f32, finite and above 1
 pub record Bent (c : Float) : Type 0 where
@@ -141,17 +156,16 @@ module _ (s c : Float) (S : T (natural s)) (most : num s ≤ 65536 * den s) (B :
         (values-of-le (s ⊕ c) limit32 (num (s ⊕ c)) (den (s ⊕ c)) 65536 1 sum-real limit-positive (own-value (s ⊕ c) sum-real) limit-value fit)
 
 -- a sum above 1 stays above 1 when a quad's curvature is added
-pub sum-after : (s c : Float) → Sum s → Bent c → T (le (s ⊕ c) limit32) → Sum (s ⊕ c) × Reaches s (s ⊕ c)
+pub sum-after : (s c : Float) → Sum s → Bent c → T (le (s ⊕ c) limit32) → Sum (s ⊕ c)
 sum-after s c S B fit =
     let n = positive-natural s (S .real) in
-    let r = sum-reaches s c n (S .most) B fit in (
-      record {
-        real = sum-real s c n (S .most) B fit;
-        over = twice (den (s ⊕ c)) (num (s ⊕ c)) (den-pos (s ⊕ c)) (r 1 (le-trans (le-of-eq (one-mul (den s))) (le-of-lt (S .over))));
-        most = sum-most s c n (S .most) B fit;
-      },
-      r,
-    )
+    let r = sum-reaches s c n (S .most) B fit 1 (le-trans (le-of-eq (one-mul (den s))) (le-of-lt (S .over))) in
+    record {
+      held = add-fits binary32 s c;
+      real = sum-real s c n (S .most) B fit;
+      over = twice (den (s ⊕ c)) (num (s ⊕ c)) (den-pos (s ⊕ c)) r;
+      most = sum-most s c n (S .most) B fit;
+    }
   where
     twice : (d n : ℕ) → 0 < d → 2 * d ≤ n → d < n
     twice d n D h = omega arith
@@ -219,6 +233,7 @@ sum-first c B fit =
     let v : HasValue r false (num c) (den c) = subst (λ (z : Float). HasValue z false (num c) (den c)) (sym (from-zero c B))
     (held-exact c (B .held) (B .real)) in
     record {
+      held = add-fits binary32 zero32 c;
       real = sum-real zero32 c zero-natural m B fit;
       over = lt-of-mul-lt-mul-right (den c)
           (lt-of-lt-of-le (lt-of-le-of-lt (le-of-eq (mul-comm (den r) (den c))) (mul-lt-mul-of-pos-right (B .over) (den-pos r)))

@@ -1,5 +1,5 @@
--- The quads of one spline: they are consecutive and in order, each running sum is above 1 and at most 65,536 and reaches the next whole number above the one
--- before, and the spline's sum is its last quad's. Laws for an empty one, for tables that agree, and for one more quad. Assumes nothing.
+-- The quads of one spline: they are consecutive and in order, each running sum is above 1 and at most 65,536 and 1 or more above the one before, and
+-- the spline's sum is its last quad's. Laws for an empty one, for tables that agree, and for one more quad. Assumes nothing.
 use mathlib.Core.Path.{_≡_, refl, sym, ap, _∙_, subst, subst₂}
 use mathlib.Core.Logic.{_⊎_, inl, inr}
 use Prim.Native.Nat.{ℕ, zero, suc, _+_, _-_, _*_, _≤_, _<_, zero-le}
@@ -12,7 +12,8 @@ use lib.Ieee.Positive.{num, den, den-pos}
 use Rattle.leaves.specs.Single.{_⊕_, zero32}
 use Rattle.leaves.specs.Whole.{limit32}
 use Rattle.primitives.specs.declared.QuadRow.{QuadRow}
-use Rattle.tables.proofs.RunningSums.{Sum, Reaches, Bent, zero-natural, zero-num, positive-natural, sum-reaches, sum-after, sum-first}
+use Rattle.tables.proofs.RunningSums.{Sum, Grows, grows-reaches, Bent, sum-after, sum-first}
+use Rattle.tables.proofs.Growth.{sum-grows}
 
 -- a quad's running sum, and the number of its spline
 abbrev pub sumAt : (ℕ → QuadRow) → ℕ → Float
@@ -26,7 +27,7 @@ pub record Span (rows : ℕ → QuadRow) (total : Float) (lo hi j : ℕ) : Type 
   pub ordered : lo ≤ hi
   pub owned : (i : ℕ) → lo ≤ i → i < hi → ownerAt rows i ≡ j
   pub sums : (i : ℕ) → lo ≤ i → i < hi → Sum (sumAt rows i)
-  pub grows : (i : ℕ) → lo ≤ i → suc i < hi → Reaches (sumAt rows i) (sumAt rows (suc i))
+  pub grows : (i : ℕ) → lo ≤ i → suc i < hi → Grows (sumAt rows i) (sumAt rows (suc i))
   pub none : lo ≡ hi → total ≡ zero32
   pub last : (i : ℕ) → lo ≤ i → suc i ≡ hi → total ≡ sumAt rows i
 
@@ -63,7 +64,7 @@ module _ (rows rows' : ℕ → QuadRow) (total total' : Float) (lo hi j : ℕ) (
         ordered = S .ordered;
         owned = λ i h k. same-owner (A i k) ∙ S .owned i h k;
         sums = λ i h k. subst Sum (sym (same-sum (A i k))) (S .sums i h k);
-        grows = λ i h k. subst₂ Reaches (sym (same-sum (A i (le-of-lt k)))) (sym (same-sum (A (suc i) k))) (S .grows i h k);
+        grows = λ i h k. subst₂ Grows (sym (same-sum (A i (le-of-lt k)))) (sym (same-sum (A (suc i) k))) (S .grows i h k);
         none = λ z. e ∙ S .none z;
         last = λ i h z. e ∙ S .last i h z ∙ sym (same-sum (A i (le-of-eq z)));
       }
@@ -98,7 +99,7 @@ module _ (rows : ℕ → QuadRow) (total : Float) (lo hi j : ℕ) (S : Span rows
       let e = next lo d in
       let k = lt-of-le-of-lt (le-of-eq e) h in
       subst (λ (x : ℕ). suc (suc d) * den (sumAt rows x) ≤ num (sumAt rows x)) e
-      (S .grows (lo + d) (from lo d) k (suc d) (sum-counts d (le-of-lt k)))
+      (grows-reaches (sumAt rows (lo + d)) (sumAt rows (suc (lo + d))) (S .grows (lo + d) (from lo d) k) (suc d) (sum-counts d (le-of-lt k)))
     where
       next : (a b : ℕ) → suc (a + b) ≡ a + suc b
       next a b = omega arith
@@ -130,12 +131,13 @@ module _ (rows : ℕ → QuadRow) (total : Float) (lo hi j : ℕ) (S : Span rows
 -- ---- one more quad, at k
 module _ (rows rows' : ℕ → QuadRow) (total c : Float) (lo k j : ℕ) (S : Span rows total lo k j) (A : Agree rows rows' k) (B : Bent c)
     (fit : T (le (total ⊕ c) limit32)) (e : sumAt rows' k ≡ total ⊕ c) (o : ownerAt rows' k ≡ j) where
-  new-sum : Sum (total ⊕ c) × Reaches total (total ⊕ c)
+  new-sum : Sum (total ⊕ c) × (lo < k → Grows total (total ⊕ c))
   new-sum = elim (span-total rows total lo k j S) [
-    | inl z ↦
-        subst (λ (t : Float). T (le (t ⊕ c) limit32) → Sum (t ⊕ c) × Reaches t (t ⊕ c)) (sym (z .1))
-        (λ f. (sum-first c B f, sum-reaches zero32 c zero-natural (le-trans (le-of-eq zero-num) zero-le) B f)) fit
-    | inr l ↦ sum-after total c (l .sum) B fit
+    | inl z ↦ (
+      subst (λ (t : Float). T (le (t ⊕ c) limit32) → Sum (t ⊕ c)) (sym (z .1)) (sum-first c B) fit,
+      λ h. absurd (lt-irrefl k (lt-of-le-of-lt (le-of-eq (sym (z .0))) h)),
+    )
+    | inr l ↦ (sum-after total c (l .sum) B fit, λ h. sum-grows total c (l .sum) B fit)
   ]
 
   or-new : (P : ℕ → Type 0) → (i : ℕ) → i < suc k → (i < k → P i) → P k → P i
@@ -149,9 +151,9 @@ module _ (rows rows' : ℕ → QuadRow) (total c : Float) (lo k j : ℕ) (S : Sp
         sums = λ i h l. or-new (λ (x : ℕ). Sum (sumAt rows' x)) i l (λ g. subst Sum (sym (same-sum (A i g))) (S .sums i h g)) (subst Sum (sym e) (new-sum .0));
         grows = λ i h l. elim (eq-or-lt-of-le (le-of-suc-le-suc l)) [
           | inl z ↦
-              subst (λ (x : ℕ). Reaches (sumAt rows' i) (sumAt rows' x)) (sym z)
-              (subst₂ Reaches (S .last i h z ∙ sym (same-sum (A i (le-of-eq z)))) (sym e) (new-sum .1))
-          | inr g ↦ subst₂ Reaches (sym (same-sum (A i (le-of-lt g)))) (sym (same-sum (A (suc i) g))) (S .grows i h g)
+              subst (λ (x : ℕ). Grows (sumAt rows' i) (sumAt rows' x)) (sym z)
+              (subst₂ Grows (S .last i h z ∙ sym (same-sum (A i (le-of-eq z)))) (sym e) (new-sum .1 (lt-of-le-of-lt h (le-of-eq z))))
+          | inr g ↦ subst₂ Grows (sym (same-sum (A i (le-of-lt g)))) (sym (same-sum (A (suc i) g))) (S .grows i h g)
         ];
         none = λ z. absurd (nothing lo k (S .ordered) (le-of-eq (sym z)));
         last = λ i h z. sym e ∙ ap (sumAt rows') (sym (suc-inj z));
