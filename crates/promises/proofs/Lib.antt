@@ -27,6 +27,7 @@ pub mod Corners
 pub mod Counting
 pub mod StraightRound
 pub mod Filled
+pub mod SplineQuads
 pub mod Finite
 pub mod Slits
 pub mod LayoutLaws

@@ -14,6 +14,7 @@ use lib.ListN.{getD}
 use Rattle.answer.specs.declared.Answer.the-variants.{Done}
 use Rattle.command.specs.declared.PointCommand.the-variants.{Start, Incr, End}
 use Rattle.point.specs.declared.Setting.{Setting}
+use Rattle.point.specs.declared.Setting.the-variants.{Knife}
 use Rattle.primitives.specs.declared.Capacities.{Capacities}
 use Rattle.primitives.specs.declared.QuadRow.{QuadRow}
 use Rattle.tables.specs.Tables.{SplineTable, quadRowAt, splineAt}
@@ -31,7 +32,7 @@ use Rattle.promises.proofs.Decoding.{capsOf, job-sound}
 use Rattle.promises.proofs.Cutting.{All, all-append, all-map, all-member}
 use Rattle.promises.proofs.Walking.{Piece, piece-at}
 use Rattle.promises.proofs.Cursor.{Below, steps-under, Falls, first-falls, StepAt, step-at, steps-fall, cursor-ends, Reached, reached, falls-once}
-use Rattle.promises.proofs.Arrivals.{all-steps, none-left, Ends, ends, after-none, after-some, Early, starts-early, starts-exactly, stays-early}
+use Rattle.promises.proofs.Arrivals.{all-steps, none-left, Ends, ends, after-none, after-some, Early, starts-early, starts-exact, starts-exactly, stays-early}
 
 -- ---- a statement about the steps of a spline's items
 abbrev pub Steps : (Item → Type 0) → Item → Type 0
@@ -211,6 +212,12 @@ module _ (setting : Setting) (caps : Capacities) (w : World) (S : Sound caps w) 
         A =
             step-at rows (total k) (S .cut k) (L .at) k (ups k) (span-to k h L) (L .inside) (L .sum) (L .up) (stepSizeOf s k) (ups k - 1) 1 (S .cut k)
             (λ g. begin-falls k h L) (all-steps (ups k) (L .many)) (R .step) (R .least) (below (R .step) (ups k) (R .most))
+
+  -- for the knife that is so without condition
+  pub knife-exact : setting ≡ Knife → Exact
+  knife-exact e =
+      piece (λ (k c : ℕ). Unit {0}) exactly tt
+      (λ k c h u. ap (λ (x : Setting). cursorStartOf x (splineAt s k) c) e ∙ starts-exact caps w S k c h) (λ k c h u. tt)
 
   -- the spline of a quad ends at some quad, at or after it
   pub home-ends : (quad : ℕ) (H : Home caps w S quad) → (L : Ends caps w S (H .spline)) × (quad ≤ L .at)

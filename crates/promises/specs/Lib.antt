@@ -13,3 +13,4 @@ pub mod FlattenAnswers
 pub mod Settled
 pub mod ListingAnswers
 pub mod QuarterRound
+pub mod SplineQuads
