@@ -73,6 +73,15 @@ fn floats(rng: &mut Rng, len: usize) -> Vec<f32> {
     (0..len).map(|_| f32::from_bits(if rng.one_in(2) { 0x4000_0000 + rng.below(0x100_0000) as u32 } else { rng.next() as u32 })).collect()
 }
 
+/// A quad's number that a walk could take for its own, or any.
+fn any_number(rng: &mut Rng) -> usize {
+    if rng.one_in(2) {
+        rng.below(8) as usize
+    } else {
+        rng.next() as usize
+    }
+}
+
 /// A drawing whose points and words fit in `most`, or a store of any kind, lent with any lengths.
 pub fn any_flat(rng: &mut Rng, most: usize) -> Flat {
     let (mut st, mut columns) = match rng.below(8) {
@@ -139,6 +148,8 @@ pub fn any_flat(rng: &mut Rng, most: usize) -> Flat {
         p2x: one(rng, need.splines, ns),
         p2y: one(rng, need.splines, ns),
         contour: (0..length(rng, need.splines, ns)).map(|_| rng.next() as u8).collect(),
+        first_quad: (0..length(rng, need.splines, ns)).map(|_| any_number(rng)).collect(),
+        quad_count: (0..length(rng, need.splines, ns)).map(|_| any_number(rng) as u32).collect(),
     };
     let output = Output {
         words: (0..length(rng, words, nw)).map(|_| rng.next() as u32).collect(),
