@@ -252,7 +252,6 @@ fn smooth(rng: &mut Rng) -> Vec<Call> {
     calls.push(Call::Move(at));
     let mut angle = rng.between(0.0, 7.0);
     let scale = rng.pick(&[0.2, 1.0, 5.0, 30.0, 300.0]);
-    let go = |at: P, angle: f64, len: f64| p((at.x as f64 + len * angle.cos()) as f32, (at.y as f64 + len * angle.sin()) as f32);
     for _ in 0..2 + rng.below(14) {
         let l = scale * rng.between(0.2, 1.0);
         let bend = if rng.one_in(3) { 0.0 } else { rng.between(-1.5, 1.5) };
@@ -376,7 +375,6 @@ fn straight_and_round(rng: &mut Rng) -> Vec<Call> {
     let mut calls = vec![Call::Move(at)];
     let mut angle = if rng.one_in(2) { FRAC_PI_4 * rng.below(8) as f64 } else { rng.between(0.0, 7.0) };
     let scale = rng.pick(&[0.05, 1.0, 10.0, 300.0]);
-    let go = |at: P, angle: f64, len: f64| p((at.x as f64 + len * angle.cos()) as f32, (at.y as f64 + len * angle.sin()) as f32);
     for _ in 0..2 + rng.below(16) {
         angle += match rng.below(12) {
             0 => rng.between(-0.0015, 0.0015),

@@ -821,7 +821,7 @@ pub fn flatten_with(pieces: Pieces, setting: Setting, st: State, c: &Columns, q:
 #[cfg(test)]
 mod tests {
     use super::*;
-    use crate::{against::drawn, call::p, call::Call, original::knife};
+    use crate::{against::drawn, call::p, call::Call, drawings::sweeps, original::{knife, screen}};
 
     /// P6: a quad from the origin over (5,0) to (10,0), built.
     fn example() -> (State, Columns) {
@@ -944,6 +944,61 @@ mod tests {
         for (setting, answer) in [(Setting::Screen, 0), (Setting::Knife, 7)] {
             let (mut q, mut s, mut o) = (QuadTable::with_room(1), SplineTable::with_room(1), Output::with_room(5));
             assert_eq!(flatten(setting, st, &c, &mut q, &mut s, &mut o).answer, answer);
+        }
+    }
+
+    /// A sweep with the sums 2 and 3, whose last quad gets no step, and a straight quad after a turn: the second drawing of `sweeps`, which is built.
+    fn swept(setting: Setting) -> (SplineTable, Output, Flattened) {
+        let (st, c) = drawn(&sweeps()[1]).unwrap();
+        let (mut q, mut s, mut o) = (QuadTable::with_room(3), SplineTable::with_room(3), Output::with_room(7));
+        let f = flatten(setting, st, &c, &mut q, &mut s, &mut o);
+        (s, o, f)
+    }
+
+    #[test]
+    fn the_knife_begins_a_spline_at_its_first_quad() {
+        let (s, o, f) = swept(Setting::Knife);
+        assert_eq!(f, Flattened { answer: 0, splines: 3, quads: 3, points: 7 });
+        assert_eq!((&s.first_quad[..], &s.quad_count[..]), (&[0, 2, 3][..], &[2, 1, 0][..]));
+        assert_eq!(s.curvature, [3.0, 2.0, 0.0]);
+        let one = 0x3f80_0000;
+        assert_eq!(o.words, [0x7f80_0000, one, one, 0xff80_0000, one, 0xff80_0001, 0xffc0_0002]);
+        assert_eq!((o.x[4].to_bits(), o.y[4].to_bits()), (0x4003_c400, 0x3ff1_3000));
+        let seen = knife::flatten(&sweeps()[1]);
+        assert_eq!((seen.words, seen.quads), (o.words, vec![0, 0, 0, 0, 2, 0, 0]));
+        assert_eq!((seen.x, seen.y), (o.x, o.y));
+    }
+
+    #[test]
+    fn on_the_screen_the_step_runs_back() {
+        let (s, o, f) = swept(Setting::Screen);
+        assert_eq!(f, Flattened { answer: 0, splines: 3, quads: 3, points: 7 });
+        // the ranges are the same in both settings
+        assert_eq!((&s.first_quad[..], &s.quad_count[..]), (&[0, 2, 3][..], &[2, 1, 0][..]));
+        assert_eq!((o.words, o.x[4], o.y[4]), (swept(Setting::Knife).1.words, 0.0, 0.0));
+        assert_eq!(screen::flatten(&sweeps()[1]).quads, [0, 0, 0, 0, 1, 0, 0]);
+    }
+
+    #[test]
+    fn on_the_screen_quads_follow_a_line_in_its_spline() {
+        let calls = [Call::Quad(p(5.0, 0.0), p(10.0, 0.0)), Call::Line(p(10.0, 5.0)), Call::Quad(p(10.0, 7.0), p(10.0, 9.0)), Call::Quad(p(10.0, 11.0), p(10.0, 13.0))];
+        let (st, c) = drawn(&calls).unwrap();
+        for (setting, ranges) in [(Setting::Screen, vec![(0, 1), (1, 2)]), (Setting::Knife, vec![(0, 1), (1, 0), (1, 2)])] {
+            let (mut q, mut s, mut o) = (QuadTable::with_room(3), SplineTable::with_room(ranges.len()), Output::with_room(20));
+            assert_eq!(flatten(setting, st, &c, &mut q, &mut s, &mut o).answer, 0);
+            assert_eq!(s.first_quad.into_iter().zip(s.quad_count).collect::<Vec<_>>(), ranges);
+        }
+    }
+
+    #[test]
+    fn the_ranges_count_towards_the_room_for_splines() {
+        let (st, c) = drawn(&[Call::Line(p(4.0, 0.0)), Call::Line(p(4.0, 4.0))]).unwrap();
+        for (firsts, counts, splines) in [(2, 2, 2), (1, 2, 1), (2, 1, 1), (0, 2, 0), (2, 0, 0)] {
+            let (mut q, mut s, mut o) = (QuadTable::with_room(0), SplineTable::with_room(2), Output::with_room(3));
+            (s.first_quad, s.quad_count) = (vec![7; firsts], vec![7; counts]);
+            let f = flatten(Setting::Knife, st, &c, &mut q, &mut s, &mut o);
+            assert_eq!((f.answer, f.splines), (if splines == 2 { 0 } else { 7 }, splines));
+            assert!(s.first_quad[splines..].iter().all(|v| *v == 7) && s.quad_count[splines..].iter().all(|v| *v == 7));
         }
     }
 
