@@ -71,6 +71,8 @@ fn gives(
     let mut p2x = [0.0f32; SPLINES];
     let mut p2y = [0.0f32; SPLINES];
     let mut contour = [0u8; SPLINES];
+    let mut first_quad = [0usize; SPLINES];
+    let mut quad_count = [0u32; SPLINES];
     let mut words = [0u32; POINTS];
     let mut out_x = [0.0f32; POINTS];
     let mut out_y = [0.0f32; POINTS];
@@ -90,6 +92,8 @@ fn gives(
         &mut p2x,
         &mut p2y,
         &mut contour,
+        &mut first_quad,
+        &mut quad_count,
         &mut words,
         &mut out_x,
         &mut out_y,
@@ -98,7 +102,8 @@ fn gives(
     let answer = r.answer;
     let answered = answer::number(answer) == number;
     let counted = (r.splines == 1) & (r.quads == 32_768) & (r.points == points);
-    answered & counted & stepped(&words, points)
+    let owned = replay::number_at(&quad_count, 0, 0) == 32_768;
+    answered & counted & owned & stepped(&words, points)
 }
 
 // The same of the row of n quads, which also stores as many points.
