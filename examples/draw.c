@@ -20,13 +20,15 @@ static void show(const char *name, uint32_t setting) {
     static uint32_t partial_splines[QUADS];
     static float curvature[SPLINES], p0x[SPLINES], p0y[SPLINES], p2x[SPLINES], p2y[SPLINES];
     static uint8_t contour[SPLINES];
+    static size_t first_quad[SPLINES];
+    static uint32_t quad_count[SPLINES];
     static uint32_t words[LENGTH];
     static float out_x[LENGTH], out_y[LENGTH];
     static uint8_t end[LENGTH];
     size_t splines, quads, length;
     uint32_t answer = kermezhul_flatten(setting, points, used, opening, x, POINTS, y, POINTS, weight, POINTS, commands, POINTS, quad_rows,
         KERMEZHUL_QUAD_ROW * QUADS, partial_splines, QUADS, curvature, SPLINES, p0x, SPLINES, p0y, SPLINES, p2x, SPLINES, p2y, SPLINES, contour, SPLINES,
-        words, LENGTH, out_x, LENGTH, out_y, LENGTH, end, LENGTH, &splines, &quads, &length);
+        first_quad, SPLINES, quad_count, SPLINES, words, LENGTH, out_x, LENGTH, out_y, LENGTH, end, LENGTH, &splines, &quads, &length);
     printf("%s: answer %u, %zu splines, %zu quads, %zu points\n", name, answer, splines, quads, length);
     for (size_t i = 0; i < length; i++) printf("%9.4f %9.4f%s\n", out_x[i], out_y[i], end[i] == 1 ? "  end" : "");
 }

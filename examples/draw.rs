@@ -26,11 +26,12 @@ fn show(calls: &[Call], settings: &[(&str, Setting)]) {
     let mut rows = [0.0; QUAD_ROW * QUADS];
     let mut partial_splines = [0; QUADS];
     let mut spline = [[0.0; SPLINES]; 5];
-    let mut contour = [0; SPLINES];
+    let (mut contour, mut first_quad, mut quad_count) = ([0; SPLINES], [0; SPLINES], [0; SPLINES]);
     let (mut words, mut out, mut end) = ([0; POINTS], [[0.0; POINTS]; 2], [0; POINTS]);
     let mut quads = Quads { rows: &mut rows, partial_splines: &mut partial_splines };
     let [curvature, p0x, p0y, p2x, p2y] = &mut spline;
-    let mut splines = Splines { curvature, p0x, p0y, p2x, p2y, contour: &mut contour };
+    let mut splines =
+        Splines { curvature, p0x, p0y, p2x, p2y, contour: &mut contour, first_quad: &mut first_quad, quad_count: &mut quad_count };
     let [out_x, out_y] = &mut out;
     let mut output = Output { words: &mut words, x: out_x, y: out_y, end: &mut end };
     let drawn = Drawn { x: &x, y: &y, weight: &weight, commands: &commands };
