@@ -649,6 +649,8 @@ fn walk(setting: Setting, splines: &[Spline], quads: &[Quad]) -> Vec<Item> {
     }
     if splines.iter().all(|s| parted(s, quads)) {
         assert!(!strays_or_stepless, "each quad gets a step and no step strays");
+        let kept = items.iter().filter_map(|item| item.step).all(|step| step.going_on == step.quad);
+        assert!(kept, "where the sums part the knife's rule changes nothing");
     }
     items
 }
