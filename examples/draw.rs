@@ -1,6 +1,6 @@
-//! Draws a belt end with cubics, a small one of lines and quads (straights that run smoothly into a round), and a slit (a line out and the same line back),
-//! flattens them and prints their points. In the knife setting the points where straight meets round are among them, and the slit's far end; in the screen
-//! setting they are lost.
+//! Draws a belt end with cubics, a small one of lines and quads (straights that run smoothly into a round), a slit (a line out and the same line back), and two
+//! quads that make one sweep with a third after a turn, flattens them and prints their points. In the knife setting the points where straight meets round are among
+//! them, and the slit's far end; in the screen setting they are lost. After the sweep the screen's path runs back to (0,0), the knife's does not.
 //!
 //! `examples/run` builds and runs it.
 
@@ -77,4 +77,13 @@ fn main() {
         Call::Build,
     ];
     show(&slit, &[("slit, screen setting", Setting::Screen), ("slit, knife setting", Setting::Knife)]);
+
+    let sweep = [
+        Call::Move(-1.0, 0.0),
+        Call::Quad([-0.5, 0.0, 0.0, 0.0]),
+        Call::Quad([0.25830078125, 0.0, 2.058837890625, 0.88427734375]),
+        Call::Quad([2.058837890625, 1.88427734375, 2.058837890625, 2.88427734375]),
+        Call::Build,
+    ];
+    show(&sweep, &[("sweep, screen setting", Setting::Screen), ("sweep, knife setting", Setting::Knife)]);
 }
