@@ -465,6 +465,16 @@ fn by_one(rng: &mut Rng, sum: f32, at: P, angle: f64, turn: f64) -> Option<(P, P
     tries.into_iter().find(|q| own(*q) > 1.0 && sum + own(*q) == sum + 1.0)
 }
 
+/// Straight quads in a row.
+fn straights(at: &mut P, angle: f64, len: f64, n: u64) -> Vec<Call> {
+    let mut next = || {
+        let middle = go(*at, angle, len);
+        *at = go(middle, angle, len);
+        Call::Quad(middle, *at)
+    };
+    (0..n).map(|_| next()).collect()
+}
+
 /// Sweeps of straight quads that run into one another, each with a whole sum, and mostly a last quad or two by which that grows by 1. The next sweep begins with a
 /// turn, after a line, a line without length or a Move, or smoothly after a line.
 fn joined_sweeps(rng: &mut Rng) -> Vec<Call> {
@@ -474,11 +484,7 @@ fn joined_sweeps(rng: &mut Rng) -> Vec<Call> {
     for _ in 0..2 + rng.below(5) {
         let n = if rng.one_in(24) { 100 + rng.below(300) } else { 1 + rng.below(8) };
         let len = rng.between(0.05, 2.0);
-        for _ in 0..n {
-            let middle = go(at, angle, len);
-            at = go(middle, angle, len);
-            calls.push(Call::Quad(middle, at));
-        }
+        calls.extend(straights(&mut at, angle, len, n));
         for i in 0..rng.below(3) {
             let turn = rng.between(0.2, 1.2) * rng.sign() as f64;
             let Some((a, b)) = by_one(rng, (2 * n + i) as f32, at, angle, turn) else { break };
@@ -857,6 +863,21 @@ pub fn joints() -> Vec<Vec<Call>> {
     out
 }
 
+/// Moves and quads mirrored and turned by quarters, which rounds nothing.
+fn mirrored(calls: &[Call]) -> Vec<Vec<Call>> {
+    let ways = [(-1.0, 1.0, false), (1.0, -1.0, false), (-1.0, -1.0, false), (1.0, 1.0, true), (-1.0, 1.0, true), (1.0, -1.0, true)];
+    let other = |(x, y, swapped): (f32, f32, bool)| {
+        let to = |q: P| if swapped { p(x * q.y, y * q.x) } else { p(x * q.x, y * q.y) };
+        let turn = |c: &Call| match *c {
+            Call::Move(a) => Call::Move(to(a)),
+            Call::Quad(a, b) => Call::Quad(to(a), to(b)),
+            other => other,
+        };
+        calls.iter().map(turn).collect()
+    };
+    ways.into_iter().map(other).collect()
+}
+
 /// Sweeps whose sum grows from 2 to 3 with the last quad, which then gets no step, and what comes after them. The first is the example, the second begins another
 /// contour where that goes on.
 pub fn sweeps() -> Vec<Vec<Call>> {
@@ -891,15 +912,7 @@ pub fn sweeps() -> Vec<Vec<Call>> {
     for n in [2, 3, 7] {
         add(after(&[&row(n)[..], &[Quad(p(end.x, 20.0), p(20.0, 20.0)), Cubic(p(25.0, 20.0), p(30.0, 25.0), p(30.0, 40.0))]].concat()));
     }
-    // mirrored and turned by quarters, which rounds nothing
-    for (x, y, swapped) in [(-1.0, 1.0, false), (1.0, -1.0, false), (-1.0, -1.0, false), (1.0, 1.0, true), (-1.0, 1.0, true), (1.0, -1.0, true)] {
-        let to = |q: P| if swapped { p(x * q.y, y * q.x) } else { p(x * q.x, y * q.y) };
-        let turn = |c: &Call| match *c {
-            Quad(a, b) => Quad(to(a), to(b)),
-            other => other,
-        };
-        add([&[Move(to(start))], &sweep.map(|c| turn(&c))[..], &[turn(&turned)]].concat());
-    }
+    mirrored(&after(&[turned])).into_iter().for_each(&mut add);
     let mut rng = Rng(6);
     for _ in 0..100 {
         add(joined_sweeps(&mut rng));
