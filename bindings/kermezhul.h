@@ -56,16 +56,20 @@ uint32_t kermezhul_build(KERMEZHUL_DRAWING);
 
 /* Flattens the drawing as it is, closed or not. setting: 0 for the screen, any other number for the knife. Nothing of the drawing is changed.
  *
- * The settings differ in three things. After a line without length the knife keeps the direction before it, and the screen forgets it: a corner at a doubled
+ * The settings differ in four things. After a line without length the knife keeps the direction before it, and the screen forgets it: a corner at a doubled
  * point is then lost. For the knife a reversal of direction is a corner, for the screen it is none: a line out and the same line back then lose their far end.
  * For the knife a line and a quad never share a spline, for the screen they do if one runs smoothly into the other: the point where straight meets round is
- * then lost, and a chord goes across it. Cubics become quads; a quad whose control point lies on its start or end is a line.
+ * then lost, and a chord goes across it. Cubics become quads; a quad whose control point lies on its start or end is a line. For the knife the points inside a
+ * spline lie on its own quads; for the screen they may lie on those of an earlier one, whose last quad got no point, and the path then runs back.
  *
- * So the knife needs more room: at each smooth joint of straight and round one spline more, and one End more in words and outputs. A line without length after
+ * The knife needs more room: at each smooth joint of straight and round one spline more, and one End more in words and outputs. A line without length after
  * a quad, or at a contour's start before one, has a spline too, whose End repeats the point unless a line goes on smoothly from there.
  *
- * The work tables: the quad table, as above, and the spline table of six columns, whose capacity is its shortest column. words, out_x, out_y and out_end take
- * one entry for each point; out_end is 1 at a contour's last point.
+ * The work tables: the quad table, as above, and the spline table of eight columns, whose capacity is its shortest column. In both settings the quads of
+ * spline k are the quad_count[k] ones from first_quad[k] on. A spline of lines alone has none, and its first_quad is the number that the next quad has or would
+ * have. So first_quad[0] is 0, and first_quad[k] + quad_count[k] is first_quad[k + 1], for the last spline `quads`.
+ *
+ * words, out_x, out_y and out_end take one entry for each point; out_end is 1 at a contour's last point.
  *
  * On 0 `splines` and `quads` say how much the tables hold, and the first `length` words and outputs are written. On 3 nothing is written and all three are
  * 0. On 5 to 9 no word and no output is written, `length` is 0, and the tables hold what `splines` and `quads` say; 6 means that `quads` is the quad table's
@@ -75,7 +79,7 @@ uint32_t kermezhul_flatten(
     const float *x, size_t x_len, const float *y, size_t y_len, const float *weight, size_t weight_len, const uint8_t *commands, size_t commands_len,
     float *quad_rows, size_t quad_rows_len, uint32_t *partial_splines, size_t partial_splines_len,
     float *curvature, size_t curvature_len, float *p0x, size_t p0x_len, float *p0y, size_t p0y_len, float *p2x, size_t p2x_len, float *p2y, size_t p2y_len,
-    uint8_t *contour, size_t contour_len,
+    uint8_t *contour, size_t contour_len, size_t *first_quad, size_t first_quad_len, uint32_t *quad_count, size_t quad_count_len,
     uint32_t *words, size_t words_len, float *out_x, size_t out_x_len, float *out_y, size_t out_y_len, uint8_t *out_end, size_t out_end_len,
     size_t *splines, size_t *quads, size_t *length);
 

@@ -1,6 +1,6 @@
-//! Draws a belt end with cubics, a small one of lines and quads (straights that run smoothly into a round), and a slit (a line out and the same line back),
-//! flattens them and prints their points. In the knife setting the points where straight meets round are among them, and the slit's far end; in the screen
-//! setting they are lost.
+//! Draws a belt end with cubics, a small one of lines and quads (straights that run smoothly into a round), a slit (a line out and the same line back), and two
+//! quads that make one sweep with a third after a turn, flattens them and prints their points. In the knife setting the points where straight meets round are among
+//! them, and the slit's far end; in the screen setting they are lost. After the sweep the screen's path runs back to (0,0), the knife's does not.
 //!
 //! `examples/run` builds and runs it.
 
@@ -26,11 +26,12 @@ fn show(calls: &[Call], settings: &[(&str, Setting)]) {
     let mut rows = [0.0; QUAD_ROW * QUADS];
     let mut partial_splines = [0; QUADS];
     let mut spline = [[0.0; SPLINES]; 5];
-    let mut contour = [0; SPLINES];
+    let (mut contour, mut first_quad, mut quad_count) = ([0; SPLINES], [0; SPLINES], [0; SPLINES]);
     let (mut words, mut out, mut end) = ([0; POINTS], [[0.0; POINTS]; 2], [0; POINTS]);
     let mut quads = Quads { rows: &mut rows, partial_splines: &mut partial_splines };
     let [curvature, p0x, p0y, p2x, p2y] = &mut spline;
-    let mut splines = Splines { curvature, p0x, p0y, p2x, p2y, contour: &mut contour };
+    let mut splines =
+        Splines { curvature, p0x, p0y, p2x, p2y, contour: &mut contour, first_quad: &mut first_quad, quad_count: &mut quad_count };
     let [out_x, out_y] = &mut out;
     let mut output = Output { words: &mut words, x: out_x, y: out_y, end: &mut end };
     let drawn = Drawn { x: &x, y: &y, weight: &weight, commands: &commands };
@@ -76,4 +77,13 @@ fn main() {
         Call::Build,
     ];
     show(&slit, &[("slit, screen setting", Setting::Screen), ("slit, knife setting", Setting::Knife)]);
+
+    let sweep = [
+        Call::Move(-1.0, 0.0),
+        Call::Quad([-0.5, 0.0, 0.0, 0.0]),
+        Call::Quad([0.25830078125, 0.0, 2.058837890625, 0.88427734375]),
+        Call::Quad([2.058837890625, 1.88427734375, 2.058837890625, 2.88427734375]),
+        Call::Build,
+    ];
+    show(&sweep, &[("sweep, screen setting", Setting::Screen), ("sweep, knife setting", Setting::Knife)]);
 }

@@ -1,7 +1,7 @@
 //! Copies the original Rust to OUT_DIR, unchanged, and adds to `path.rs` a child module that reaches its private items.
 //! Parts of that module are cut out of the Rust's own text, so that nothing is imitated: the loop of `PathData::segments` over the
-//! commands, how `push_cubic` counts its pieces, and how two angles are compared. `path_knife.rs` is the same text with three things changed: one statement of
-//! `push_line`, the difference of two angles, and that a line and a quad never share a spline.
+//! commands, how `push_cubic` counts its pieces, and how two angles are compared. `path_knife.rs` is the same text with four things changed: one statement of
+//! `push_line`, the difference of two angles, that a line and a quad never share a spline, and where the cursor begins a spline.
 
 use std::{env, fs, path::PathBuf};
 
@@ -84,6 +84,19 @@ const KINDS: [[&str; 4]; 4] = [
     ],
 ];
 
+/// `populate_buffers` goes on from spline to spline with one cursor, `i`.
+const GOES_ON: &str = "
+        for (spline_i, spline) in self.splines.iter().enumerate() {
+            let subdivisions = spline.curvature.ceil() as usize;
+";
+
+/// The knife's begins each spline at the spline's first quad. No record of that is needed: each quad has its spline's number, and these never fall.
+const BEGINS: &str = "
+        for (spline_i, spline) in self.splines.iter().enumerate() {
+            i = self.partial_curvatures.partition_point(|quad| (quad.0 as usize) < spline_i);
+            let subdivisions = spline.curvature.ceil() as usize;
+";
+
 fn main() {
     let here = PathBuf::from(env::var("CARGO_MANIFEST_DIR").unwrap());
     // real_rayon/ is a folder deeper
@@ -122,5 +135,6 @@ fn main() {
     let knife = changed(&path, "pub fn push_line(", "pub fn push_quad(", "self.last_angle = angle;", "self.last_angle = angle.or(self.last_angle);");
     let knife = changed(&knife, "fn diff(a0: f32, a1: f32) -> f32", "let angle_changed = ", FOLDED, FULL);
     let knife = KINDS.iter().fold(knife, |text, [from, to, old, new]| changed(&text, from, to, old, new));
+    let knife = changed(&knife, "pub fn populate_buffers(", "pub fn eval_quad(", GOES_ON, BEGINS);
     fs::write(out.join("path_knife.rs"), with_probe(&knife, "false,")).unwrap();
 }

@@ -136,6 +136,8 @@ static float quad_rows[KERMEZHUL_QUAD_ROW * QUADS];
 static uint32_t partial_splines[QUADS];
 static float curvature[SPLINES], p0x[SPLINES], p0y[SPLINES], p2x[SPLINES], p2y[SPLINES];
 static uint8_t contour[SPLINES];
+static size_t first_quad[SPLINES];
+static uint32_t quad_count[SPLINES];
 static uint32_t words[LENGTH], setting;
 static float out_x[LENGTH], out_y[LENGTH];
 static uint8_t out_end[LENGTH];
@@ -143,7 +145,7 @@ static size_t splines, quads, length;
 static void call_flatten(void) {
     answer = CALL(kermezhul_flatten)(setting, points, used, opening, x, POINTS, y, POINTS, weight, POINTS, commands, COMMANDS, quad_rows,
         KERMEZHUL_QUAD_ROW * QUADS, partial_splines, QUADS, curvature, SPLINES, p0x, SPLINES, p0y, SPLINES, p2x, SPLINES, p2y, SPLINES, contour, SPLINES,
-        words, LENGTH, out_x, LENGTH, out_y, LENGTH, out_end, LENGTH, &splines, &quads, &length);
+        first_quad, SPLINES, quad_count, SPLINES, words, LENGTH, out_x, LENGTH, out_y, LENGTH, out_end, LENGTH, &splines, &quads, &length);
 }
 
 /* ---- the figures */

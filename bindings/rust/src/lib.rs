@@ -98,6 +98,10 @@ mod raw {
             p2y_len: usize,
             contour: *mut u8,
             contour_len: usize,
+            first_quad: *mut usize,
+            first_quad_len: usize,
+            quad_count: *mut u32,
+            quad_count_len: usize,
             words: *mut u32,
             words_len: usize,
             out_x: *mut f32,
@@ -174,18 +178,19 @@ impl Columns<'_> {
     }
 }
 
-/// What opens a spline, and so is a vertex of the cut. The settings differ in nothing else.
+/// What opens a spline, and so is a vertex of the cut, and on which quads its points lie. The settings differ in nothing else.
 #[derive(Clone, Copy, Debug, PartialEq, Eq)]
 pub enum Setting {
     /// A line without length forgets the direction before it, so that a corner at a doubled point is lost. A reversal of direction is no corner, so that a
     /// line out and the same line back lose their far end. A straight that runs smoothly into a round shares its spline, so that the point where they meet
-    /// is lost, and a chord goes across it.
+    /// is lost, and a chord goes across it. Points inside a spline may lie on the quads of an earlier one, whose last quad got no point, and the path then runs
+    /// back.
     Screen,
     /// A line without length keeps the direction before it. A reversal of direction is a corner: a line out and the same line back keep their far end. A line
     /// and a quad never share a spline, so that the point where straight meets round is a vertex. Cubics become quads; a quad whose control point lies on its
-    /// start or end is a line.
+    /// start or end is a line. The points inside a spline lie on its own quads.
     ///
-    /// So more room is needed: at each smooth joint of straight and round one spline more in [`Splines`], and one End more in [`Output`]. A line without
+    /// More room is needed: at each smooth joint of straight and round one spline more in [`Splines`], and one End more in [`Output`]. A line without
     /// length after a quad, or at a contour's start before one, has a spline too, whose End repeats the point unless a line goes on smoothly from there.
     Knife,
 }
@@ -206,6 +211,10 @@ pub struct Quads<'a> {
 }
 
 /// The spline table. Its capacity is its shortest column.
+///
+/// In both settings the quads of spline k are the `quad_count[k]` ones from `first_quad[k]` on. A spline of lines alone has none, and its `first_quad` is the
+/// number that the next quad has or would have. So `first_quad[0]` is 0, and `first_quad[k] + quad_count[k]` is `first_quad[k + 1]`, for the last spline the
+/// number of quads.
 pub struct Splines<'a> {
     pub curvature: &'a mut [f32],
     pub p0x: &'a mut [f32],
@@ -213,6 +222,8 @@ pub struct Splines<'a> {
     pub p2x: &'a mut [f32],
     pub p2y: &'a mut [f32],
     pub contour: &'a mut [u8],
+    pub first_quad: &'a mut [usize],
+    pub quad_count: &'a mut [u32],
 }
 
 /// The packed words and the points; `end` is 1 at a contour's last point.
@@ -279,6 +290,10 @@ pub fn flatten(setting: Setting, st: State, drawn: Drawn, q: &mut Quads, s: &mut
             s.p2y.len(),
             s.contour.as_mut_ptr(),
             s.contour.len(),
+            s.first_quad.as_mut_ptr(),
+            s.first_quad.len(),
+            s.quad_count.as_mut_ptr(),
+            s.quad_count.len(),
             o.words.as_mut_ptr(),
             o.words.len(),
             o.x.as_mut_ptr(),

@@ -1,6 +1,8 @@
 // A flattening into columns of this program's own, and what it leaves in them, as numbers. Room for 128 quads and an incomplete row, 128 splines and 1,024
 // words.
 use crate::layout::ALL;
+use crate::layout::FIRST_QUAD;
+use crate::layout::QUAD_COUNT;
 use crate::layout::QUADS;
 use crate::layout::first;
 use crate::layout::room;
@@ -8,6 +10,7 @@ use flatten::Flattened;
 use point::Setting;
 use replay::put_bytes;
 use replay::put_floats;
+use replay::put_sizes;
 use replay::put_words;
 use store::StoreState;
 ghost use Prim.Native.Nat.{_≤_};
@@ -16,9 +19,9 @@ ghost use Prim.Native.Nat.{_≤_};
 pub const UNTOUCHED: u32 = 167;
 
 // Which column is short: one of a table, by its number, or quad_rows once more. By its number that is lent with an incomplete row, as WHOLE_ROWS without.
-pub const WHOLE_ROWS: u32 = 12;
+pub const WHOLE_ROWS: u32 = 14;
 
-pub const NONE: u32 = 13;
+pub const NONE: u32 = 15;
 
 // The length of a column with a number for each row: full before row `place` if it is the short one, otherwise all its room.
 fn length(short: u32, column: u32, place: usize) -> usize
@@ -73,6 +76,8 @@ fn put_splines(
     p2x: &[f32; 128],
     p2y: &[f32; 128],
     contour: &[u8; 128],
+    first_quad: &[usize; 128],
+    quad_count: &[u32; 128],
 ) {
     put_floats(seen, first(6), curvature, room(6));
     put_floats(seen, first(7), p0x, room(7));
@@ -80,6 +85,8 @@ fn put_splines(
     put_floats(seen, first(9), p2x, room(9));
     put_floats(seen, first(10), p2y, room(10));
     put_bytes(seen, first(11), contour, room(11));
+    put_sizes(seen, first(FIRST_QUAD), first_quad, room(FIRST_QUAD));
+    put_words(seen, first(QUAD_COUNT), quad_count, room(QUAD_COUNT));
 }
 
 fn put_outputs(
@@ -89,10 +96,10 @@ fn put_outputs(
     out_y: &[f32; 1024],
     out_end: &[u8; 1024],
 ) {
-    put_words(seen, first(12), words, room(12));
-    put_floats(seen, first(13), out_x, room(13));
-    put_floats(seen, first(14), out_y, room(14));
-    put_bytes(seen, first(15), out_end, room(15));
+    put_words(seen, first(14), words, room(14));
+    put_floats(seen, first(15), out_x, room(15));
+    put_floats(seen, first(16), out_y, room(16));
+    put_bytes(seen, first(17), out_end, room(17));
 }
 
 // The flattening with the column `short` full before row `place`; at NONE no column is short.
@@ -117,6 +124,8 @@ pub fn flattened(
     let mut p2x = [float; 128];
     let mut p2y = [float; 128];
     let mut contour = [byte; 128];
+    let mut first_quad = [UNTOUCHED as usize; 128];
+    let mut quad_count = [UNTOUCHED; 128];
     let mut words = [UNTOUCHED; 1024];
     let mut out_x = [float; 1024];
     let mut out_y = [float; 1024];
@@ -136,13 +145,25 @@ pub fn flattened(
         &mut p2x[..length(short, 9, place)],
         &mut p2y[..length(short, 10, place)],
         &mut contour[..length(short, 11, place)],
+        &mut first_quad[..length(short, FIRST_QUAD, place)],
+        &mut quad_count[..length(short, QUAD_COUNT, place)],
         &mut words,
         &mut out_x,
         &mut out_y,
         &mut out_end,
     );
     put_quads(seen, &quad_rows, &partial_splines);
-    put_splines(seen, &curvature, &p0x, &p0y, &p2x, &p2y, &contour);
+    put_splines(
+        seen,
+        &curvature,
+        &p0x,
+        &p0y,
+        &p2x,
+        &p2y,
+        &contour,
+        &first_quad,
+        &quad_count,
+    );
     put_outputs(seen, &words, &out_x, &out_y, &out_end);
     r
 }

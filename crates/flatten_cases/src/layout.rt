@@ -1,17 +1,17 @@
-// What is seen of a drawing and its flattening, as numbers: the first entries of each of the 16 columns that `flatten::flatten` takes, in its order, from 0 on.
+// What is seen of a drawing and its flattening, as numbers: the first entries of each of the 18 columns that `flatten::flatten` takes, in its order, from 0 on.
 //
 //   0..2 x, y, weight   3 commands   4 quad_rows   5 partial_splines   6 curvature   7, 8 p0x, p0y   9, 10 p2x, p2y   11 contour
-//   12 words   13, 14 out_x, out_y   15 out_end
+//   12 first_quad   13 quad_count   14 words   15, 16 out_x, out_y   17 out_end
 ghost use Prim.Native.Nat.{_≤_};
 
-// 4 columns of 256 numbers, one of 1,934, 7 of 128 and 4 of 1,024.
-pub const ALL: usize = 7950;
+// 4 columns of 256 numbers, one of 1,934, 9 of 128 and 4 of 1,024.
+pub const ALL: usize = 8206;
 
 // Those of both tables.
-pub const TABLES: usize = 2830;
+pub const TABLES: usize = 3086;
 
 // Those of both tables and of the outputs.
-pub const RESULTS: usize = 6926;
+pub const RESULTS: usize = 7182;
 
 pub const QUADS: u32 = 4;
 
@@ -19,20 +19,24 @@ pub const PARTIAL_SPLINES: u32 = 5;
 
 pub const SPLINES: u32 = 6;
 
-pub const OUTPUTS: u32 = 12;
+pub const FIRST_QUAD: u32 = 12;
 
-pub const END: u32 = 16;
+pub const QUAD_COUNT: u32 = 13;
+
+pub const OUTPUTS: u32 = 14;
+
+pub const END: u32 = 18;
 
 // Where a column's numbers begin.
 pub fn first(column: u32) -> usize
-    ensures { λ r. ⌜ r ≤ 7950 ⌝ }
+    ensures { λ r. ⌜ r ≤ 8206 ⌝ }
 {
     let c = column as usize;
     match column {
         0..=3 => 256 * c,
         4 => 1024,
-        5..=11 => 2958 + 128 * (c - 5),
-        12..=15 => 3854 + 1024 * (c - 12),
+        5..=13 => 2958 + 128 * (c - 5),
+        14..=17 => 4110 + 1024 * (c - 14),
         _ => ALL,
     }
 }
@@ -44,8 +48,8 @@ pub fn room(column: u32) -> usize
     match column {
         0..=3 => 256,
         4 => 1934,
-        5..=11 => 128,
-        12..=15 => 1024,
+        5..=13 => 128,
+        14..=17 => 1024,
         _ => 0,
     }
 }

@@ -53,6 +53,11 @@ fn stepped(words: &[u32; POINTS], points: usize) -> bool {
     start & end & replay::all_are(words, 1, points - 2, 0x3f80_0000)
 }
 
+// The one spline has 32,768 quads.
+fn owns_all(quad_count: &[u32; SPLINES]) -> bool {
+    replay::number_at(quad_count, 0, 0) == 32_768
+}
+
 // Whether a row gives this answer for the first 32,768 of its quads, and writes as many points.
 fn gives(
     x: &[f32; POINTS],
@@ -71,6 +76,8 @@ fn gives(
     let mut p2x = [0.0f32; SPLINES];
     let mut p2y = [0.0f32; SPLINES];
     let mut contour = [0u8; SPLINES];
+    let mut first_quad = [0usize; SPLINES];
+    let mut quad_count = [0u32; SPLINES];
     let mut words = [0u32; POINTS];
     let mut out_x = [0.0f32; POINTS];
     let mut out_y = [0.0f32; POINTS];
@@ -90,6 +97,8 @@ fn gives(
         &mut p2x,
         &mut p2y,
         &mut contour,
+        &mut first_quad,
+        &mut quad_count,
         &mut words,
         &mut out_x,
         &mut out_y,
@@ -98,7 +107,7 @@ fn gives(
     let answer = r.answer;
     let answered = answer::number(answer) == number;
     let counted = (r.splines == 1) & (r.quads == 32_768) & (r.points == points);
-    answered & counted & stepped(&words, points)
+    answered & counted & owns_all(&quad_count) & stepped(&words, points)
 }
 
 // The same of the row of n quads, which also stores as many points.

@@ -6,8 +6,10 @@ use crate::flattening::WHOLE_ROWS;
 use crate::flattening::flattened;
 use crate::layout::ALL;
 use crate::layout::END;
+use crate::layout::FIRST_QUAD;
 use crate::layout::OUTPUTS;
 use crate::layout::PARTIAL_SPLINES;
+use crate::layout::QUAD_COUNT;
 use crate::layout::QUADS;
 use crate::layout::RESULTS;
 use crate::layout::SPLINES;
@@ -45,7 +47,7 @@ pub fn all_kept(got: &[u32; ALL], whole: &[u32; ALL], from: u32, to: u32, n: usi
     good
 }
 
-// Of n splines the starts are the whole run's, and so are the first `ended` sums and ends and the first `flagged` flags.
+// Of n splines the starts and first quads are the whole run's, and so are the first `ended` sums, ends and numbers of quads and the first `flagged` flags.
 fn splines_kept(
     got: &[u32; ALL],
     whole: &[u32; ALL],
@@ -59,7 +61,9 @@ fn splines_kept(
     let end_x = kept(got, whole, 9, ended, n);
     let end_y = kept(got, whole, 10, ended, n);
     let flag = kept(got, whole, 11, flagged, n);
-    sum & start_x & start_y & end_x & end_y & flag
+    let begin = kept(got, whole, FIRST_QUAD, n, n);
+    let count = kept(got, whole, QUAD_COUNT, ended, n);
+    sum & start_x & start_y & end_x & end_y & flag & begin & count
 }
 
 // The last spline carries the flag until the next one opens.
@@ -83,6 +87,13 @@ fn ends_at(got: &[u32; ALL], whole: &[u32; ALL], last: usize, x: usize, y: usize
     on_x & on_y
 }
 
+// Whether the quads of spline `last` are those from its first one to the one before `place`.
+fn ranges_to(got: &[u32; ALL], place: usize, last: usize) -> bool {
+    let begin = entry(got, FIRST_QUAD, last) as usize;
+    let count = entry(got, QUAD_COUNT, last) as usize;
+    begin + count == place
+}
+
 // A spline that the refused quad would have gone on with. It ends where that quad starts, or where the quad before it ended: a cubic's last piece may end a
 // rounding beside the next start.
 fn open_kept(got: &[u32; ALL], whole: &[u32; ALL], place: usize, last: usize) -> bool {
@@ -91,7 +102,7 @@ fn open_kept(got: &[u32; ALL], whole: &[u32; ALL], place: usize, last: usize) ->
     let before = extent(QUADS, below(place));
     let at_start = ends_at(got, whole, last, start, start + 3);
     let at_end = (place > 0) & ends_at(got, whole, last, before + 2, before + 5);
-    summed & (at_start | at_end)
+    summed & ranges_to(got, place, last) & (at_start | at_end)
 }
 
 fn quads_refused(

@@ -1,5 +1,5 @@
 -- Columns laid out as numbers in one list, and compared there. Past the end a list has 0, and nothing is written. Assumes nothing.
-use Prim.Native.Nat.{ℕ, zero, suc}
+use Prim.Native.Nat.{ℕ, zero, suc, min}
 use mathlib.Core.Bool.{Bool, true, _&&_}
 use mathlib.Core.List.{List, [], _∷_}
 use lib.Dec.{eqb}
@@ -14,6 +14,10 @@ laid number (suc n) at (v ∷ column) numbers = laid number n (suc at) column (s
 -- the number of an entry that is one
 unfoldable pub itself : ℕ → ℕ
 itself n = n
+
+-- the number of a size: the largest u32 for one that does not fit
+unfoldable pub cappedOf : ℕ → ℕ
+cappedOf n = min n 0xffff_ffff
 
 -- n numbers from a place on are the same
 unfoldable pub sameFrom : ℕ → ℕ → List ℕ → List ℕ → Bool

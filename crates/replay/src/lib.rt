@@ -13,6 +13,7 @@ pub use numbers::all_are;
 pub use numbers::number_at;
 pub use numbers::put_bytes;
 pub use numbers::put_floats;
+pub use numbers::put_sizes;
 pub use numbers::put_words;
 pub use numbers::same;
 pub use reading::float;

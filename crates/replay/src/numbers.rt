@@ -3,10 +3,11 @@ ghost use mathlib.Core.Path.{_≡_};
 ghost use Prim.Native.Nat.{_+_};
 ghost use lib.ListN.{getD, set};
 ghost use Rattle.leaves.specs.Bits.{bitsOf};
-ghost use Rattle.replay.specs.Numbers.{laid, itself, sameFrom, allFrom};
+ghost use Rattle.replay.specs.Numbers.{laid, itself, cappedOf, sameFrom, allFrom};
 use columns::read_f32;
 use columns::read_u8;
 use columns::read_u32;
+use columns::read_usize;
 
 // The number i places after a place; 0 past the end. The sum of the two may wrap, so it is taken only inside.
 pub fn number_at(numbers: &[u32], at: usize, i: usize) -> u32
@@ -56,6 +57,29 @@ pub fn put_words(numbers: &mut [u32], at: usize, column: &[u32], n: usize)
             return;
         }
         put_number(numbers, at, i, read_u32(column, i));
+        i += 1;
+    }
+}
+
+// A size as a number; a larger one is the largest.
+fn capped(n: usize) -> u32
+    ensures { λ r. ⌜ r ≡ cappedOf n ⌝ }
+{
+    if n < 0xffff_ffff {
+        return n as u32;
+    }
+    0xffff_ffff
+}
+
+pub fn put_sizes(numbers: &mut [u32], at: usize, column: &[usize], n: usize)
+    ensures { λ _. ⌜ now (numbers .exit) ≡ laid cappedOf n at (now (column .entry)) (now (numbers .entry)) ⌝ }
+{
+    let mut i = 0usize;
+    while i < n {
+        if column.len() <= i {
+            return;
+        }
+        put_number(numbers, at, i, capped(read_usize(column, i)));
         i += 1;
     }
 }

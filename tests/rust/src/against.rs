@@ -105,6 +105,8 @@ pub fn same_columns(f: Flattened, q: &QuadTable, s: &SplineTable, o: &Output, se
     floats("p2x", &s.p2x[..k], &t.p2x)?;
     floats("p2y", &s.p2y[..k], &t.p2y)?;
     whole("contour", &s.contour[..k], &t.contour)?;
+    whole("first_quad", &s.first_quad[..k], &t.first_quad)?;
+    whole("quad_count", &s.quad_count[..k], &t.quad_count)?;
     whole("words", &o.words[..m], &seen.words)?;
     floats("output x", &o.x[..m], &seen.x)?;
     floats("output y", &o.y[..m], &seen.y)?;

@@ -3,10 +3,11 @@
 use crate::{
     call::{p, Call, P},
     rng::Rng,
+    model::flatten::own_curvature,
     seen::Store,
 };
 
-pub const KINDS: [&str; 16] = [
+pub const KINDS: [&str; 17] = [
     "whole numbers",
     "numbers to 100",
     "huge numbers",
@@ -23,10 +24,12 @@ pub const KINDS: [&str; 16] = [
     "steps about a tenth of 0.0625",
     "slits and turns across ±π",
     "joints of straight and round",
+    "long joined sweeps",
 ];
 
-/// The kind with joints of straight and round, the last one.
+/// The last two kinds.
 pub const JOINTS: usize = 15;
+pub const SWEEPS: usize = 16;
 
 /// A random kind: those with very many points come an eighth as often as the others.
 pub fn kind(rng: &mut Rng) -> usize {
@@ -52,6 +55,7 @@ pub fn random(rng: &mut Rng, k: usize) -> Vec<Call> {
         12 => rounded(rng),
         14 => out_and_back(rng),
         JOINTS => straight_and_round(rng),
+        SWEEPS => joined_sweeps(rng),
         _ => mixed(rng, k),
     }
 }
@@ -248,7 +252,6 @@ fn smooth(rng: &mut Rng) -> Vec<Call> {
     calls.push(Call::Move(at));
     let mut angle = rng.between(0.0, 7.0);
     let scale = rng.pick(&[0.2, 1.0, 5.0, 30.0, 300.0]);
-    let go = |at: P, angle: f64, len: f64| p((at.x as f64 + len * angle.cos()) as f32, (at.y as f64 + len * angle.sin()) as f32);
     for _ in 0..2 + rng.below(14) {
         let l = scale * rng.between(0.2, 1.0);
         let bend = if rng.one_in(3) { 0.0 } else { rng.between(-1.5, 1.5) };
@@ -372,7 +375,6 @@ fn straight_and_round(rng: &mut Rng) -> Vec<Call> {
     let mut calls = vec![Call::Move(at)];
     let mut angle = if rng.one_in(2) { FRAC_PI_4 * rng.below(8) as f64 } else { rng.between(0.0, 7.0) };
     let scale = rng.pick(&[0.05, 1.0, 10.0, 300.0]);
-    let go = |at: P, angle: f64, len: f64| p((at.x as f64 + len * angle.cos()) as f32, (at.y as f64 + len * angle.sin()) as f32);
     for _ in 0..2 + rng.below(16) {
         angle += match rng.below(12) {
             0 => rng.between(-0.0015, 0.0015),
@@ -441,6 +443,78 @@ fn straight_and_round(rng: &mut Rng) -> Vec<Call> {
     calls
 }
 
+/// `len` from a point on.
+fn go(at: P, angle: f64, len: f64) -> P {
+    p((at.x as f64 + len * angle.cos()) as f32, (at.y as f64 + len * angle.sin()) as f32)
+}
+
+/// A quad that goes on from `at` in this direction, then turns, and is just so curved that a whole sum grows by 1 with it: its own curvature is above 1, and the rest
+/// is lost in rounding. Where none is found there is none.
+fn by_one(rng: &mut Rng, sum: f32, at: P, angle: f64, turn: f64) -> Option<(P, P)> {
+    let quad = |len: f64, wobble: f64| {
+        let control = go(at, angle, len);
+        (control, go(control, angle + turn, len * (1.0 + wobble)))
+    };
+    let own = |(a, b): (P, P)| own_curvature(at, a, b);
+    // a curvature grows with the root of the lengths
+    let len = (own(quad(1.0, 0.0)) as f64).powi(-2);
+    if !(0.01..1000.0).contains(&len) {
+        return None;
+    }
+    let tries = (0..400).map(|_| quad(len * (1.0 + rng.between(-1e-6, 2e-6)), rng.between(-1e-6, 1e-6)));
+    tries.into_iter().find(|q| own(*q) > 1.0 && sum + own(*q) == sum + 1.0)
+}
+
+/// Straight quads in a row.
+fn straights(at: &mut P, angle: f64, len: f64, n: u64) -> Vec<Call> {
+    let mut next = || {
+        let middle = go(*at, angle, len);
+        *at = go(middle, angle, len);
+        Call::Quad(middle, *at)
+    };
+    (0..n).map(|_| next()).collect()
+}
+
+/// Sweeps of straight quads that run into one another, each with a whole sum, and mostly a last quad or two by which that grows by 1. The next sweep begins with a
+/// turn, after a line, a line without length or a Move, or smoothly after a line.
+fn joined_sweeps(rng: &mut Rng) -> Vec<Call> {
+    let mut at = if rng.one_in(2) { p(0.0, 0.0) } else { p(coordinate(rng, 1), coordinate(rng, 1)) };
+    let mut calls = vec![Call::Move(at)];
+    let mut angle = rng.between(0.0, 7.0);
+    for _ in 0..2 + rng.below(5) {
+        let n = if rng.one_in(24) { 100 + rng.below(300) } else { 1 + rng.below(8) };
+        let len = rng.between(0.05, 2.0);
+        calls.extend(straights(&mut at, angle, len, n));
+        for i in 0..rng.below(3) {
+            let turn = rng.between(0.2, 1.2) * rng.sign() as f64;
+            let Some((a, b)) = by_one(rng, (2 * n + i) as f32, at, angle, turn) else { break };
+            calls.push(Call::Quad(a, b));
+            (at, angle) = (b, angle + turn);
+        }
+        match rng.below(8) {
+            0 => {
+                at = go(at, angle, len);
+                calls.push(Call::Line(at));
+            }
+            1 => {
+                angle += rng.between(0.5, 5.5);
+                at = go(at, angle, len);
+                calls.push(Call::Line(at));
+            }
+            2 => calls.push(Call::Line(at)),
+            3 => {
+                at = if rng.one_in(2) { at } else { go(at, angle, 3.0) };
+                calls.push(Call::Move(at));
+            }
+            _ => angle += rng.between(0.5, 5.5),
+        }
+    }
+    if !rng.one_in(5) {
+        calls.push(Call::Build);
+    }
+    calls
+}
+
 /// Straight quads of length 1 in a row: the sum 65,536 is accepted, one quad more gives answer 8. Too long for the fixed lists.
 pub fn long_rows() -> Vec<Vec<Call>> {
     let row = |n: u16| (0..n).map(|i| Call::Quad(p(i as f32 + 0.5, 0.0), p(i as f32 + 1.0, 0.0))).collect();
@@ -454,11 +528,12 @@ fn add_both(out: &mut Vec<Vec<Call>>, calls: Vec<Call>) {
     out.push(built);
 }
 
-/// Drawings made for one rule each, the slits, and the joints of straight and round.
+/// Drawings made for one rule each, the slits, the joints of straight and round, and the sweeps.
 pub fn directed() -> Vec<Vec<Call>> {
     let mut out = by_rule();
     out.extend(slits());
     out.extend(joints());
+    out.extend(sweeps());
     out
 }
 
@@ -788,9 +863,65 @@ pub fn joints() -> Vec<Vec<Call>> {
     out
 }
 
+/// Moves and quads mirrored and turned by quarters, which rounds nothing.
+fn mirrored(calls: &[Call]) -> Vec<Vec<Call>> {
+    let ways = [(-1.0, 1.0, false), (1.0, -1.0, false), (-1.0, -1.0, false), (1.0, 1.0, true), (-1.0, 1.0, true), (1.0, -1.0, true)];
+    let other = |(x, y, swapped): (f32, f32, bool)| {
+        let to = |q: P| if swapped { p(x * q.y, y * q.x) } else { p(x * q.x, y * q.y) };
+        let turn = |c: &Call| match *c {
+            Call::Move(a) => Call::Move(to(a)),
+            Call::Quad(a, b) => Call::Quad(to(a), to(b)),
+            other => other,
+        };
+        calls.iter().map(turn).collect()
+    };
+    ways.into_iter().map(other).collect()
+}
+
+/// Sweeps whose sum grows from 2 to 3 with the last quad, which then gets no step, and what comes after them. The first is the example, the second begins another
+/// contour where that goes on.
+pub fn sweeps() -> Vec<Vec<Call>> {
+    use Call::*;
+    let mut out: Vec<Vec<Call>> = Vec::new();
+    let mut add = |calls: Vec<Call>| add_both(&mut out, calls);
+    let at = |x: u32, y: u32| p(f32::from_bits(x), f32::from_bits(y));
+    // sums 2 and 3
+    let start = at(0xbf80_0000, 0);
+    let sweep = [Quad(at(0xbf00_0000, 0), p(0.0, 0.0)), Quad(at(0x3e84_4000, 0), at(0x4003_c400, 0x3f62_6000))];
+    let end = at(0x4003_c400, 0x3f62_6000);
+    let turned = Quad(at(0x4003_c400, 0x3ff1_3000), at(0x4003_c400, 0x4038_9800));
+    let after = |next: &[Call]| [&[Move(start)], &sweep[..], next].concat();
+    add(after(&[turned]));
+    add(after(&[Move(p(10.0, 0.0)), Quad(p(11.0, 0.0), p(12.0, 0.0))]));
+    // lines in between, with and without length, which have no quad; and a dropped quad
+    let far = p(end.x, 9.0);
+    add(after(&[Line(far), Quad(p(5.0, 9.0), p(8.0, 9.0)), Quad(p(9.0, 9.0), p(9.0, 5.0))]));
+    add(after(&[Line(far), Line(p(0.0, 9.0)), Quad(p(0.0, 5.0), p(0.0, 4.0))]));
+    add(after(&[Line(end), turned, Line(p(end.x, 8.0)), Quad(p(end.x, 9.0), p(end.x, 10.0))]));
+    add(after(&[Quad(end, end), turned]));
+    // a line first: on the screen it shares the spline
+    add([&[Move(p(-9.0, 0.0)), Line(start)], &sweep[..], &[turned]].concat());
+    add([&[Line(start), Move(start)], &sweep[..], &[turned, Build]].concat());
+    // a second such sweep, a row of straight ones and a round after it
+    let back = |c: &Call| match *c {
+        Quad(a, b) => Quad(p(end.x - 1.0 - a.x, end.y - a.y), p(end.x - 1.0 - b.x, end.y - b.y)),
+        other => other,
+    };
+    add(after(&[&sweep.map(|c| back(&c))[..], &[turned]].concat()));
+    let row = |n: u32| (0..n).map(|i| Quad(p(end.x, end.y + i as f32 + 0.5), p(end.x, end.y + i as f32 + 1.0))).collect::<Vec<_>>();
+    for n in [2, 3, 7] {
+        add(after(&[&row(n)[..], &[Quad(p(end.x, 20.0), p(20.0, 20.0)), Cubic(p(25.0, 20.0), p(30.0, 25.0), p(30.0, 40.0))]].concat()));
+    }
+    mirrored(&after(&[turned])).into_iter().for_each(&mut add);
+    let mut rng = Rng(6);
+    for _ in 0..100 {
+        add(joined_sweeps(&mut rng));
+    }
+    out
+}
+
 /// A straight quad (sum 2), then one whose own curvature is 1 + 2^-23, so that the sum is 3; a turn, and a straight quad.
 fn stray() -> Vec<Vec<Call>> {
-    use crate::model::flatten::own_curvature;
     let mut out = Vec::new();
     let mut rng = Rng(12);
     for angle in [0.3f64, 0.7, 1.1, 1.5, -0.4, -0.9] {

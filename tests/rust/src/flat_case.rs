@@ -73,6 +73,15 @@ fn floats(rng: &mut Rng, len: usize) -> Vec<f32> {
     (0..len).map(|_| f32::from_bits(if rng.one_in(2) { 0x4000_0000 + rng.below(0x100_0000) as u32 } else { rng.next() as u32 })).collect()
 }
 
+/// A quad's number that a walk could take for its own, or any.
+fn any_number(rng: &mut Rng) -> usize {
+    if rng.one_in(2) {
+        rng.below(8) as usize
+    } else {
+        rng.next() as usize
+    }
+}
+
 /// A drawing whose points and words fit in `most`, or a store of any kind, lent with any lengths.
 pub fn any_flat(rng: &mut Rng, most: usize) -> Flat {
     let (mut st, mut columns) = match rng.below(8) {
@@ -139,6 +148,8 @@ pub fn any_flat(rng: &mut Rng, most: usize) -> Flat {
         p2x: one(rng, need.splines, ns),
         p2y: one(rng, need.splines, ns),
         contour: (0..length(rng, need.splines, ns)).map(|_| rng.next() as u8).collect(),
+        first_quad: (0..length(rng, need.splines, ns)).map(|_| any_number(rng)).collect(),
+        quad_count: (0..length(rng, need.splines, ns)).map(|_| any_number(rng) as u32).collect(),
     };
     let output = Output {
         words: (0..length(rng, words, nw)).map(|_| rng.next() as u32).collect(),
@@ -159,6 +170,30 @@ pub fn every_length() -> Vec<Flat> {
         for numbers in 0..=4 * QUAD_ROW {
             let quads = QuadTable { rows: floats(&mut rng, numbers), partial_splines: (0..owners).map(|_| rng.next() as u32).collect() };
             out.push(Flat { setting, st, columns: columns.clone(), quads, splines: SplineTable::with_room(3), output: Output::with_room(64) });
+        }
+    }
+    out
+}
+
+/// Three splines whose table is lent with one column in turn of every length up to one more than they need.
+pub fn every_spline_length() -> Vec<Flat> {
+    let calls = [Call::Quad(p(5.0, 0.0), p(10.0, 0.0)), Call::Line(p(10.0, 5.0)), Call::Quad(p(5.0, 5.0), p(5.0, 9.0))];
+    let (st, columns) = drawn(&calls).expect("it is drawn");
+    let mut out = Vec::new();
+    for (setting, column) in [Setting::Screen, Setting::Knife].into_iter().flat_map(|s| (0..8).map(move |c| (s, c))) {
+        for n in 0..=4 {
+            let mut splines = SplineTable::with_room(4);
+            match column {
+                0 => splines.curvature.truncate(n),
+                1 => splines.p0x.truncate(n),
+                2 => splines.p0y.truncate(n),
+                3 => splines.p2x.truncate(n),
+                4 => splines.p2y.truncate(n),
+                5 => splines.contour.truncate(n),
+                6 => splines.first_quad.truncate(n),
+                _ => splines.quad_count.truncate(n),
+            }
+            out.push(Flat { setting, st, columns: columns.clone(), quads: QuadTable::with_room(2), splines, output: Output::with_room(64) });
         }
     }
     out
@@ -187,6 +222,15 @@ mod tests {
             let room = flat.quads.capacity();
             let f = flat.by_model();
             assert_eq!((f.answer, f.quads), if room < 3 { (6, room) } else { (0, 3) });
+        }
+    }
+
+    #[test]
+    fn three_splines_need_three_entries_of_each_column() {
+        for (i, mut flat) in every_spline_length().into_iter().enumerate() {
+            let room = i % 5;
+            let f = flat.by_model();
+            assert_eq!((f.answer, f.splines), if room < 3 { (7, room) } else { (0, 3) });
         }
     }
 }

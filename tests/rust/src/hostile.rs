@@ -126,6 +126,8 @@ pub fn by_library(f: &mut Flat) -> Flattened {
         p2x: &mut s.p2x,
         p2y: &mut s.p2y,
         contour: &mut s.contour,
+        first_quad: &mut s.first_quad,
+        quad_count: &mut s.quad_count,
     };
     let mut output = lib::Output { words: &mut o.words, x: &mut o.x, y: &mut o.y, end: &mut o.end };
     let setting = match f.setting {
@@ -162,6 +164,8 @@ fn kept(lent: &Flat, left: &Flat, f: Flattened) -> Result<(), String> {
     }
     past("partial_splines", &q.partial_splines, &r.partial_splines, f.quads)?;
     past("contour", &s.contour, &t.contour, f.splines)?;
+    past("first_quad", &s.first_quad, &t.first_quad, f.splines)?;
+    past("quad_count", &s.quad_count, &t.quad_count, f.splines)?;
     past("words", &o.words, &p.words, f.points)?;
     past("end", &o.end, &p.end, f.points)
 }
@@ -191,6 +195,9 @@ pub fn flatten_both(lent: &Flat) -> Result<Flattened, String> {
     }
     if q.partial_splines != r.partial_splines || s.contour != t.contour || o.words != p.words || o.end != p.end {
         return Err(told("partial_splines, contour, words or end differ from the model's".to_string()));
+    }
+    if s.first_quad != t.first_quad || s.quad_count != t.quad_count {
+        return Err(told("first_quad or quad_count differ from the model's".to_string()));
     }
     kept(lent, &ours, a).map_err(told)?;
     Ok(a)

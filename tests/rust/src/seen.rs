@@ -21,6 +21,9 @@ pub struct Tables {
     pub p2x: Vec<f32>,
     pub p2y: Vec<f32>,
     pub contour: Vec<u8>,
+    /// where its quads begin in the quad table, and how many there are
+    pub first_quad: Vec<usize>,
+    pub quad_count: Vec<u32>,
 }
 
 /// Tables, words and points of a flattened drawing. `steps` and `quads` are the original's work columns beside the words.

@@ -5,7 +5,7 @@
 use against_rust::{
     number,
     against::{compare_drawing, compare_store, Counts, Room},
-    drawings::{by_hand, directed, kind_below, long_rows, random, rational_difference, DIFFERENT, JOINTS, KINDS},
+    drawings::{by_hand, directed, kind_below, long_rows, random, rational_difference, DIFFERENT, JOINTS, KINDS, SWEEPS},
     call::{p, Call},
     model::{self, cover, flatten::{exact_pieces, pieces_of}},
     original::screen,
@@ -42,7 +42,7 @@ fn main() {
 
     let directed = directed();
     let joints = drawings / 8;
-    println!("{} directed drawings, {drawings} random ones and {joints} with joints of straight and round, seed {seed}", directed.len());
+    println!("{} directed drawings, {drawings} random ones and {joints} each with joints of straight and round and with sweeps, seed {seed}", directed.len());
     for calls in &directed {
         tell(compare_drawing(calls, true, &mut room, &mut n));
     }
@@ -66,10 +66,12 @@ fn main() {
         tell(compare_drawing(&calls, i % 64 == 0, &mut room, &mut n));
     }
     // they come last, so that the random ones before are the same as without them
-    for i in 0..joints {
-        by_kind[JOINTS] += 1;
-        let calls = random(&mut rng, JOINTS);
-        tell(compare_drawing(&calls, i % 64 == 0, &mut room, &mut n));
+    for k in [JOINTS, SWEEPS] {
+        for i in 0..joints {
+            by_kind[k] += 1;
+            let calls = random(&mut rng, k);
+            tell(compare_drawing(&calls, i % 64 == 0, &mut room, &mut n));
+        }
     }
     for (name, count) in KINDS.iter().zip(by_kind) {
         println!("{count:9}  {name}");

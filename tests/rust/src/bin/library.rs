@@ -7,7 +7,7 @@ use against_rust::{
     against::{same_columns, same_store},
     call::{written, Call},
     drawings::{directed, kind, random},
-    flat_case::{any_flat, every_length, Flat, Lent},
+    flat_case::{any_flat, every_length, every_spline_length, Flat, Lent},
     hostile::{by_library, call_both, flatten_both, leaves_on, replay_both},
     model::{
         flatten::{exact_pieces, pieces_of},
@@ -139,6 +139,11 @@ fn main() {
         t.tell(flatten_both(flat));
     }
     println!("{} flattenings of three quads, with every length of the quad table's columns", lengths.len());
+    let lengths = every_spline_length();
+    for flat in &lengths {
+        t.tell(flatten_both(flat));
+    }
+    println!("{} flattenings of three splines, with every length of each column of the spline table", lengths.len());
 
     // the library itself against the original: store, tables, words and points, both settings; drawn on and flattened again in between
     let mut compared = Compared::default();

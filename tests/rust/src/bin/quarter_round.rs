@@ -36,10 +36,10 @@ fn main() {
             println!("{}  {}  {}", b(&row[..3]), b(&row[3..6]), b(&row[6..9]));
             println!("    {}  {spline}", b(&row[9..]));
         }
-        println!("```\n\nSplines (sum, start, end, flag):\n\n```");
+        println!("```\n\nSplines (sum, start, end, flag, first quad, number of quads):\n\n```");
         for i in 0..t.curvature.len() {
             let b = |v: f32| format!("{:08x}", v.to_bits());
-            println!("{} {} {} {} {} {}", b(t.curvature[i]), b(t.p0x[i]), b(t.p0y[i]), b(t.p2x[i]), b(t.p2y[i]), t.contour[i]);
+            println!("{} {} {} {} {} {} {} {}", b(t.curvature[i]), b(t.p0x[i]), b(t.p0y[i]), b(t.p2x[i]), b(t.p2y[i]), t.contour[i], t.first_quad[i], t.quad_count[i]);
         }
         println!("```\n");
     }

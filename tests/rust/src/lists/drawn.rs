@@ -4,7 +4,7 @@ use super::row;
 use crate::{
     against::{compare_drawing, drawn, Counts, Room},
     call::{p, Call, P},
-    drawings::{by_rule, joints, kind, kind_below, random, slits},
+    drawings::{by_rule, joints, kind, kind_below, random, slits, sweeps},
     model::{cover, flatten::{exact_pieces, pieces_of}, QUAD_ROW},
     original::{knife, screen},
     rng::Rng,
@@ -56,10 +56,8 @@ fn drawing(text: &mut String, setting: u32, calls: &[Call], store: &Store, seen:
         row(text, &numbers);
     }
     for i in 0..t.curvature.len() {
-        row(
-            text,
-            &[t.curvature[i].to_bits(), t.p0x[i].to_bits(), t.p0y[i].to_bits(), t.p2x[i].to_bits(), t.p2y[i].to_bits(), t.contour[i] as u32],
-        );
+        let points = [t.curvature[i], t.p0x[i], t.p0y[i], t.p2x[i], t.p2y[i]].map(f32::to_bits);
+        row(text, &[&points[..], &[t.contour[i] as u32, t.first_quad[i] as u32, t.quad_count[i]]].concat());
     }
     for i in 0..seen.words.len() {
         row(text, &[seen.words[i], seen.x[i].to_bits(), seen.y[i].to_bits(), seen.end[i] as u32]);
@@ -76,8 +74,8 @@ struct Limits {
 const SMALL: Limits = Limits { points: 40, quads: 10, words: 40 };
 const LARGE: Limits = Limits { points: 200, quads: 126, words: 1000 };
 
-/// As many drawings from the first on, and the joints after them, are flattened with full columns: with those in the knife setting between them they are FULL of
-/// `flatten_cases`.
+/// As many drawings from the first on, and the joints and sweeps after them, are flattened with full columns: with those in the knife setting between them they are
+/// FULL of `flatten_cases`.
 const FULL: usize = 240;
 
 fn fits(calls: &[Call], l: &Limits) -> bool {
@@ -159,10 +157,14 @@ pub fn fixed() -> String {
     }
     // the first slits are examples; 151 is odd too. They are listed in the knife setting alone
     let slits = slits().into_iter().enumerate().filter(|(i, calls)| consider(calls.clone(), *i < 8 || i % 151 == 0, &SMALL, 0)).count();
-    // joints of straight and round, in both settings. They are chosen last, so that the others stay, and listed among those that are flattened with full columns
+    // joints of straight and round, and sweeps, in both settings. They are chosen last, so that the others stay, and listed among those that are flattened with
+    // full columns
     let of_joints = |i: usize| i < 6 || i < 174 && i % 7 == 0 || i % 151 == 0;
     let joints = joints().into_iter().enumerate().filter(|(i, calls)| consider(calls.clone(), of_joints(*i), &SMALL, 0)).count();
-    let last = chosen.split_off(chosen.len() - joints);
+    let of_sweeps = |i: usize| i < 4 || i % 5 == 0;
+    let sweeps = sweeps().into_iter().enumerate().filter(|(i, calls)| consider(calls.clone(), of_sweeps(*i), &SMALL, 0)).count();
+    let both = joints + sweeps;
+    let last = chosen.split_off(chosen.len() - both);
     chosen.splice(FULL..FULL, last);
 
     let mut text = String::new();
@@ -171,21 +173,22 @@ pub fn fixed() -> String {
         let store = screen::store(calls);
         let [a, b] = [screen::flatten(calls), knife::flatten(calls)];
         let slit = i + slits >= chosen.len();
-        let joint = (FULL..FULL + joints).contains(&i);
+        let twice = (FULL..FULL + both).contains(&i);
         if !slit {
             drawing(&mut text, 0, calls, &store, &a);
             screens += 1;
         }
-        if slit || joint || a.words != b.words {
+        if slit || twice || (&a.words, &a.x, &a.y) != (&b.words, &b.x, &b.y) {
             drawing(&mut text, 1, calls, &store, &b);
             knives += 1;
         }
-        if i + 1 == FULL + joints {
+        if i + 1 == FULL + both {
             println!("the first {} drawings, {screens} of them in the screen setting, are flattened with full columns", screens + knives);
         }
     }
     println!("{} drawings for flatten_cases, {screens} in the screen setting and {knives} in the knife setting", screens + knives);
     println!("{joints:6} drawings  joints of straight and round, in both settings");
+    println!("{sweeps:6} drawings  sweeps, in both settings");
     println!("{slits:6} drawings  slits and turns across ±π");
     for (name, often) in cover::NAMES.iter().zip(seen_often) {
         println!("{often:6} drawings  {name}");

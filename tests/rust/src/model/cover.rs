@@ -2,7 +2,7 @@
 
 use std::cell::RefCell;
 
-pub const NAMES: [&str; 38] = [
+pub const NAMES: [&str; 44] = [
     "splines opened by a contour mark",
     "splines opened by an angle",
     "splines opened by a gap",
@@ -21,7 +21,7 @@ pub const NAMES: [&str; 38] = [
     "Starts after a gap",
     "joints of exactly 0.0625, without a Start",
     "steps",
-    "  of them on a quad of another spline",
+    "  of them, on the screen, on a quad of another spline",
     "  of them with t clamped to 0",
     "  of them with t clamped to 1",
     "  of them with t = -0",
@@ -41,6 +41,12 @@ pub const NAMES: [&str; 38] = [
     "  of them between two pieces of a cubic",
     "  of them after a dropped quad",
     "primitives of the knife joined to a spline after a dropped quad",
+    "quads joined to a spline that has quads",
+    "splines of the screen that begin with a line and get quads",
+    "splines of lines between splines of quads",
+    "splines of the knife that begin at another quad than the one before left off at",
+    "  of them after a spline of lines",
+    "points of the knife that are others by that",
 ];
 
 pub const MARK: usize = 0;
@@ -81,6 +87,12 @@ pub const KIND_NO_ANGLE: usize = 34;
 pub const KIND_IN_CUBIC: usize = 35;
 pub const KIND_DROPPED: usize = 36;
 pub const JOINED_DROPPED: usize = 37;
+pub const MORE_QUADS: usize = 38;
+pub const LINE_THEN_QUADS: usize = 39;
+pub const LINES_BETWEEN: usize = 40;
+pub const BEGINS: usize = 41;
+pub const BEGINS_AFTER_LINES: usize = 42;
+pub const POINT_MOVED: usize = 43;
 
 /// What no drawing does.
 pub const NEVER: [usize; 2] = [NOT_FINITE, SCREEN_ONLY];

@@ -33,6 +33,8 @@ pub struct SplineTable {
     pub p2x: Vec<f32>,
     pub p2y: Vec<f32>,
     pub contour: Vec<u8>,
+    pub first_quad: Vec<usize>,
+    pub quad_count: Vec<u32>,
 }
 
 /// The lent words and outputs.
@@ -72,11 +74,14 @@ impl SplineTable {
             p2x: vec![0.0; n],
             p2y: vec![0.0; n],
             contour: vec![0; n],
+            first_quad: vec![0; n],
+            quad_count: vec![0; n],
         }
     }
 
     fn capacity(&self) -> usize {
-        [&self.curvature, &self.p0x, &self.p0y, &self.p2x, &self.p2y].map(|c| c.len()).into_iter().chain([self.contour.len(), 4_194_304]).min().unwrap()
+        let floats = [&self.curvature, &self.p0x, &self.p0y, &self.p2x, &self.p2y].map(|c| c.len());
+        floats.into_iter().chain([self.contour.len(), self.first_quad.len(), self.quad_count.len(), 4_194_304]).min().unwrap()
     }
 }
 
@@ -218,7 +223,16 @@ struct Spline {
     start: P,
     end: P,
     flag: bool,
+    /// as many quads were stored when it was opened
+    first_quad: usize,
     quads: usize,
+}
+
+impl Spline {
+    /// Its quads, which the ranges of the splines before it leave to it.
+    fn own<'a>(&self, quads: &'a [Quad]) -> &'a [Quad] {
+        &quads[self.first_quad..self.first_quad + self.quads]
+    }
 }
 
 #[derive(Clone, Copy, Debug)]
@@ -350,7 +364,7 @@ impl Run {
                 self.splines.last_mut().unwrap().flag = false;
             }
             self.mark = false;
-            self.splines.push(Spline { kind, sum: 0.0, start, end, flag: true, quads: 0 });
+            self.splines.push(Spline { kind, sum: 0.0, start, end, flag: true, first_quad: self.quads.len(), quads: 0 });
         } else {
             self.splines.last_mut().unwrap().end = end;
         }
@@ -427,6 +441,11 @@ impl Run {
         let n = self.splines.len();
         let spline = &mut self.splines[n - 1];
         spline.sum = sum;
+        if spline.quads > 0 {
+            count(cover::MORE_QUADS);
+        } else if spline.kind == Kind::Straight {
+            count(cover::LINE_THEN_QUADS);
+        }
         spline.quads += 1;
         self.last = out;
         self.quads.push(Quad { points, x0, dx_recip, k0, dk, own, sum, spline: n - 1 });
@@ -510,11 +529,20 @@ pub fn errors_of(st: State, c: &Columns) -> Vec<(f32, f32)> {
     out
 }
 
-/// One entry of the walk: its word, and for a step its size, number and quad.
+/// A step: its number and size, its quad, and the quad that it would have if the cursor went on from spline to spline, as it does on the screen.
+#[derive(Clone, Copy, Debug)]
+struct Step {
+    p: usize,
+    size: f32,
+    quad: usize,
+    going_on: usize,
+}
+
+/// One entry of the walk.
 struct Item {
     word: u32,
     spline: usize,
-    step: Option<(f32, usize, usize)>,
+    step: Option<Step>,
     start: bool,
     flag: bool,
 }
@@ -535,89 +563,145 @@ fn walk_length(splines: &[Spline]) -> u64 {
     (0..splines.len()).map(|k| starts(splines, k) as u64 + subdivisions(&splines[k]).saturating_sub(1) as u64 + 1).sum()
 }
 
-fn walk(splines: &[Spline], quads: &[Quad]) -> Vec<Item> {
+/// The cursor for step p: it goes on by one, and no further, if p exceeds the sum of its quad.
+fn cursor_at(quads: &[Quad], p: usize, cursor: usize) -> usize {
+    cursor + (p as f32 > quads[cursor].sum) as usize
+}
+
+/// The steps of a spline, with the cursor from here on and, beside it, from where the spline before left it.
+fn steps(s: &Spline, quads: &[Quad], from: usize, left: usize) -> Vec<Step> {
+    let m = subdivisions(s);
+    let (mut quad, mut going_on) = (from, left);
+    (1..m)
+        .map(|p| {
+            quad = cursor_at(quads, p, quad);
+            going_on = cursor_at(quads, p, going_on);
+            Step { p, size: s.sum / m as f32, quad, going_on }
+        })
+        .collect()
+}
+
+/// How many steps are on a quad of another spline, and whether one of the spline's quads gets none.
+fn astray(k: usize, s: &Spline, quads: &[Quad], steps: &[Step]) -> (usize, bool) {
+    assert!(steps.iter().all(|step| quads[step.quad].spline <= k), "a step on a quad after its spline's last");
+    let strays = steps.iter().filter(|step| quads[step.quad].spline != k).count();
+    (0..strays).for_each(|_| count(cover::STRAY));
+    let mut used: Vec<usize> = steps.iter().map(|step| step.quad).collect();
+    used.dedup();
+    let stepless = used.len() < s.quads;
+    if s.quads >= 2 {
+        count(cover::SEVERAL);
+    }
+    if stepless {
+        count(cover::STEPLESS);
+    }
+    // where none strays only the last quad can be left out
+    assert!(strays > 0 || used.len() + 1 >= s.quads, "two quads without a step");
+    (strays, stepless)
+}
+
+fn count_joint(splines: &[Spline], k: usize) {
+    let s = &splines[k];
+    if k > 0 && starts(splines, k) && !splines[k - 1].flag {
+        count(cover::START_GAP);
+    }
+    if !starts(splines, k) && length(minus(splines[k - 1].end, s.start)) == 0.0625 {
+        count(cover::NO_START);
+    }
+    if s.sum > 0.0 && s.sum.ceil() == s.sum {
+        count(cover::WHOLE);
+    }
+    if s.quads == 0 && k > 0 && k + 1 < splines.len() && splines[k - 1].quads > 0 && splines[k + 1].quads > 0 {
+        count(cover::LINES_BETWEEN);
+    }
+}
+
+fn walk(setting: Setting, splines: &[Spline], quads: &[Quad]) -> Vec<Item> {
     let mut items = Vec::new();
-    let mut cursor = 0;
-    let (mut strays, mut stepless) = (0, 0);
+    let mut left = 0;
+    let mut strays_or_stepless = false;
     for (k, s) in splines.iter().enumerate() {
         let low = k as u32 % 4_194_304;
+        count_joint(splines, k);
         if starts(splines, k) {
-            if k > 0 && !splines[k - 1].flag {
-                count(cover::START_GAP);
-            }
             items.push(Item { word: 0x7f80_0000 + low, spline: k, step: None, start: true, flag: false });
-        } else if length(minus(splines[k - 1].end, s.start)) == 0.0625 {
-            count(cover::NO_START);
         }
-        let m = subdivisions(s);
-        if m as f32 == s.sum && m > 0 {
-            count(cover::WHOLE);
-        }
-        let first = items.len();
-        for p in 1..m {
-            if p as f32 > quads[cursor].sum {
-                cursor += 1;
-            }
-            let size = s.sum / m as f32;
-            assert!(cursor < quads.len(), "a step after the last quad");
-            assert!(quads[cursor].spline <= k, "a step on a quad after its spline's last");
-            if quads[cursor].spline != k {
-                strays += 1;
-                count(cover::STRAY);
-            }
-            items.push(Item { word: canon(size).to_bits(), spline: k, step: Some((size, p, cursor)), start: false, flag: false });
-        }
-        if s.quads >= 2 {
-            count(cover::SEVERAL);
-            let mut used: Vec<usize> = items[first..].iter().map(|i| i.step.unwrap().2).collect();
-            used.dedup();
-            if used.len() < s.quads {
-                stepless += 1;
-                count(cover::STEPLESS);
+        // "In the knife setting the cursor begins each spline at that first quad."
+        let from = match setting {
+            Setting::Screen => left,
+            Setting::Knife => s.first_quad,
+        };
+        if s.quads > 0 && from != left {
+            count(cover::BEGINS);
+            if splines[k - 1].quads == 0 {
+                count(cover::BEGINS_AFTER_LINES);
             }
         }
-        if m > 0 {
-            cursor += 1;
+        let steps = steps(s, quads, from, left);
+        let (strays, stepless) = astray(k, s, quads, &steps);
+        if setting == Setting::Knife {
+            assert_eq!((strays, stepless), (0, !parted(s, quads)), "no step strays, and the last quad gets one exactly if its sum parts from the one before");
         }
+        strays_or_stepless |= strays > 0 || stepless;
+        left = steps.last().map_or(left, |step| step.going_on) + (subdivisions(s) > 0) as usize;
+        items.extend(steps.into_iter().map(|step| Item { word: canon(step.size).to_bits(), spline: k, step: Some(step), start: false, flag: false }));
         items.push(Item { word: 0xff80_0000 + low + if s.flag { 0x40_0000 } else { 0 }, spline: k, step: None, start: false, flag: s.flag });
     }
-    if parted(splines, quads) {
-        assert_eq!((strays, stepless), (0, 0), "each quad gets a step and no step strays");
+    if splines.iter().all(|s| parted(s, quads)) {
+        assert!(!strays_or_stepless, "each quad gets a step and no step strays");
+        let kept = items.iter().filter_map(|item| item.step).all(|step| step.going_on == step.quad);
+        assert!(kept, "where the sums part the knife's rule changes nothing");
     }
     items
 }
 
-/// In every spline of two or more quads a whole number lies strictly between the last two running sums.
-fn parted(splines: &[Spline], quads: &[Quad]) -> bool {
-    let mut end = 0;
-    splines.iter().all(|s| {
-        end += s.quads;
-        s.quads < 2 || quads[end - 2].sum.floor() + 1.0 < quads[end - 1].sum
-    })
+/// In a spline of two or more quads a whole number lies strictly between the last two running sums.
+fn parted(s: &Spline, quads: &[Quad]) -> bool {
+    match s.own(quads) {
+        [.., a, b] => a.sum.floor() + 1.0 < b.sum,
+        _ => true,
+    }
+}
+
+/// The ranges in order cover the quad table, and each quad lies in the range of its own spline.
+fn ranged(splines: &[Spline], quads: &[Quad]) -> bool {
+    let mut next = 0;
+    let each = splines.iter().enumerate().all(|(k, s)| {
+        let first = next;
+        next += s.quads;
+        s.first_quad == first && next <= quads.len() && s.own(quads).iter().all(|q| q.spline == k)
+    });
+    each && next == quads.len()
 }
 
 /// No line is in a spline with quads: it begins where its first quad does and ends where its last one does, bit for bit. The others have no quad.
 fn apart(splines: &[Spline], quads: &[Quad]) -> bool {
     let same = |a: P, b: P| (a.x.to_bits(), a.y.to_bits()) == (b.x.to_bits(), b.y.to_bits());
-    let mut end = 0;
-    splines.iter().all(|s| {
-        let own = &quads[end..end + s.quads];
-        end += s.quads;
-        match (s.kind, own) {
-            (Kind::Straight, []) => true,
-            (Kind::Round, [first, ..]) => same(s.start, first.points[0].applied()) && same(s.end, own[own.len() - 1].points[2].applied()),
-            _ => false,
-        }
+    splines.iter().all(|s| match (s.kind, s.own(quads)) {
+        (Kind::Straight, []) => true,
+        (Kind::Round, own @ [first, ..]) => same(s.start, first.points[0].applied()) && same(s.end, own[own.len() - 1].points[2].applied()),
+        _ => false,
     })
 }
 
-fn step_point(quads: &[Quad], size: f32, p: usize, i: usize) -> P {
-    count(cover::STEP);
+/// Where a step is on quad i, before it is brought between 0 and 1.
+fn parameter(quads: &[Quad], step: Step, i: usize) -> f32 {
     let q = &quads[i];
     let before = if i > 0 && quads[i - 1].spline == q.spline { quads[i - 1].sum } else { 0.0 };
-    let ratio = size.mul_add(p as f32, -before) * (1.0 / q.own);
+    let ratio = step.size.mul_add(step.p as f32, -before) * (1.0 / q.own);
     let x = inv_curvature(ratio.mul_add(q.dk, q.k0));
-    let raw = (x - q.x0) * q.dx_recip;
+    (x - q.x0) * q.dx_recip
+}
+
+fn on_quad(q: &Quad, t: f32) -> P {
+    let [a, b, c] = q.points;
+    let r = 1.0 / three(t, a.w, b.w, c.w);
+    P { x: three(t, a.x, b.x, c.x) * r, y: three(t, a.y, b.y, c.y) * r }
+}
+
+fn step_point(quads: &[Quad], step: Step) -> P {
+    count(cover::STEP);
+    let raw = parameter(quads, step, step.quad);
     let t = if raw < 0.0 {
         count(cover::CLAMP0);
         0.0
@@ -630,9 +714,14 @@ fn step_point(quads: &[Quad], size: f32, p: usize, i: usize) -> P {
     if t == 0.0 && t.is_sign_negative() {
         count(cover::MINUS0);
     }
-    let [a, b, c] = q.points;
-    let r = 1.0 / three(t, a.w, b.w, c.w);
-    P { x: three(t, a.x, b.x, c.x) * r, y: three(t, a.y, b.y, c.y) * r }
+    let point = on_quad(&quads[step.quad], t);
+    if step.going_on != step.quad {
+        let other = on_quad(&quads[step.going_on], parameter(quads, step, step.going_on).clamp(0.0, 1.0));
+        if (other.x.to_bits(), other.y.to_bits()) != (point.x.to_bits(), point.y.to_bits()) {
+            count(cover::POINT_MOVED);
+        }
+    }
+    point
 }
 
 fn put<T: Copy>(column: &mut [T], values: impl Iterator<Item = T>) {
@@ -699,6 +788,9 @@ pub fn flatten_with(pieces: Pieces, setting: Setting, st: State, c: &Columns, q:
     put_floats(&mut s.p2x, splines.iter().map(|r| r.end.x));
     put_floats(&mut s.p2y, splines.iter().map(|r| r.end.y));
     put(&mut s.contour, splines.iter().map(|r| r.flag as u8));
+    put(&mut s.first_quad, splines.iter().map(|r| r.first_quad));
+    put(&mut s.quad_count, splines.iter().map(|r| r.quads as u32));
+    assert!(ranged(&splines, &quads), "a quad belongs to one spline, and the ranges follow one another");
 
     let counts = Flattened { answer, splines: splines.len(), quads: quads.len(), points: 0 };
     if answer != 0 {
@@ -709,11 +801,11 @@ pub fn flatten_with(pieces: Pieces, setting: Setting, st: State, c: &Columns, q:
         return Flattened { answer: 9, ..counts };
     }
     assert!(setting == Setting::Screen || apart(&splines, &quads), "a line and a quad share a spline");
-    let items = walk(&splines, &quads);
+    let items = walk(setting, &splines, &quads);
     assert_eq!(items.len() as u64, n);
     for (i, item) in items.iter().enumerate() {
         let p = match item.step {
-            Some((size, p, quad)) => step_point(&quads, size, p, quad),
+            Some(step) => step_point(&quads, step),
             None if item.start => splines[item.spline].start,
             None => splines[item.spline].end,
         };
@@ -731,7 +823,7 @@ pub fn flatten_with(pieces: Pieces, setting: Setting, st: State, c: &Columns, q:
 #[cfg(test)]
 mod tests {
     use super::*;
-    use crate::{against::drawn, call::p, call::Call, original::knife};
+    use crate::{against::drawn, call::p, call::Call, drawings::sweeps, original::{knife, screen}};
 
     /// P6: a quad from the origin over (5,0) to (10,0), built.
     fn example() -> (State, Columns) {
@@ -854,6 +946,61 @@ mod tests {
         for (setting, answer) in [(Setting::Screen, 0), (Setting::Knife, 7)] {
             let (mut q, mut s, mut o) = (QuadTable::with_room(1), SplineTable::with_room(1), Output::with_room(5));
             assert_eq!(flatten(setting, st, &c, &mut q, &mut s, &mut o).answer, answer);
+        }
+    }
+
+    /// A sweep with the sums 2 and 3, whose last quad gets no step, and a straight quad after a turn: the second drawing of `sweeps`, which is built.
+    fn swept(setting: Setting) -> (SplineTable, Output, Flattened) {
+        let (st, c) = drawn(&sweeps()[1]).unwrap();
+        let (mut q, mut s, mut o) = (QuadTable::with_room(3), SplineTable::with_room(3), Output::with_room(7));
+        let f = flatten(setting, st, &c, &mut q, &mut s, &mut o);
+        (s, o, f)
+    }
+
+    #[test]
+    fn the_knife_begins_a_spline_at_its_first_quad() {
+        let (s, o, f) = swept(Setting::Knife);
+        assert_eq!(f, Flattened { answer: 0, splines: 3, quads: 3, points: 7 });
+        assert_eq!((&s.first_quad[..], &s.quad_count[..]), (&[0, 2, 3][..], &[2, 1, 0][..]));
+        assert_eq!(s.curvature, [3.0, 2.0, 0.0]);
+        let one = 0x3f80_0000;
+        assert_eq!(o.words, [0x7f80_0000, one, one, 0xff80_0000, one, 0xff80_0001, 0xffc0_0002]);
+        assert_eq!((o.x[4].to_bits(), o.y[4].to_bits()), (0x4003_c400, 0x3ff1_3000));
+        let seen = knife::flatten(&sweeps()[1]);
+        assert_eq!((seen.words, seen.quads), (o.words, vec![0, 0, 0, 0, 2, 0, 0]));
+        assert_eq!((seen.x, seen.y), (o.x, o.y));
+    }
+
+    #[test]
+    fn on_the_screen_the_step_runs_back() {
+        let (s, o, f) = swept(Setting::Screen);
+        assert_eq!(f, Flattened { answer: 0, splines: 3, quads: 3, points: 7 });
+        // the ranges are the same in both settings
+        assert_eq!((&s.first_quad[..], &s.quad_count[..]), (&[0, 2, 3][..], &[2, 1, 0][..]));
+        assert_eq!((o.words, o.x[4], o.y[4]), (swept(Setting::Knife).1.words, 0.0, 0.0));
+        assert_eq!(screen::flatten(&sweeps()[1]).quads, [0, 0, 0, 0, 1, 0, 0]);
+    }
+
+    #[test]
+    fn on_the_screen_quads_follow_a_line_in_its_spline() {
+        let calls = [Call::Quad(p(5.0, 0.0), p(10.0, 0.0)), Call::Line(p(10.0, 5.0)), Call::Quad(p(10.0, 7.0), p(10.0, 9.0)), Call::Quad(p(10.0, 11.0), p(10.0, 13.0))];
+        let (st, c) = drawn(&calls).unwrap();
+        for (setting, ranges) in [(Setting::Screen, vec![(0, 1), (1, 2)]), (Setting::Knife, vec![(0, 1), (1, 0), (1, 2)])] {
+            let (mut q, mut s, mut o) = (QuadTable::with_room(3), SplineTable::with_room(ranges.len()), Output::with_room(20));
+            assert_eq!(flatten(setting, st, &c, &mut q, &mut s, &mut o).answer, 0);
+            assert_eq!(s.first_quad.into_iter().zip(s.quad_count).collect::<Vec<_>>(), ranges);
+        }
+    }
+
+    #[test]
+    fn the_ranges_count_towards_the_room_for_splines() {
+        let (st, c) = drawn(&[Call::Line(p(4.0, 0.0)), Call::Line(p(4.0, 4.0))]).unwrap();
+        for (firsts, counts, splines) in [(2, 2, 2), (1, 2, 1), (2, 1, 1), (0, 2, 0), (2, 0, 0)] {
+            let (mut q, mut s, mut o) = (QuadTable::with_room(0), SplineTable::with_room(2), Output::with_room(3));
+            (s.first_quad, s.quad_count) = (vec![7; firsts], vec![7; counts]);
+            let f = flatten(Setting::Knife, st, &c, &mut q, &mut s, &mut o);
+            assert_eq!((f.answer, f.splines), (if splines == 2 { 0 } else { 7 }, splines));
+            assert!(s.first_quad[splines..].iter().all(|v| *v == 7) && s.quad_count[splines..].iter().all(|v| *v == 7));
         }
     }
 
