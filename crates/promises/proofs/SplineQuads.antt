@@ -229,3 +229,86 @@ module _ (caps : Capacities) (w : World) (S : Sound caps w) (points : ℕ) (o : 
             let a = owned caps w S i k (F .stored) (F .own) in
             absurd (F .first (S .cut k) u (S .span k h .owned (S .cut k) (le-refl (S .cut k)) (lt-of-le-of-lt l (a .2))))
       ]
+
+  -- the spline that a quad and a later one share ends after the first of them
+  gets-inner : (k i j : ℕ) → i < j → j < w .state .quads → splineOfQuad left i ≡ k → splineOfQuad left j ≡ k → QuadHasStep Knife left i
+  gets-inner k i j l h e g =
+      let a = owner-ends k i (lt-of-lt-of-le l (le-of-lt h)) e in
+      let L = a .2 in
+      let b = owned caps w S j k h g in
+      gets-step Knife caps w S points o exact k (a .0) L i
+      (reached-early rows (total k) (S .cut k) (L .at) k (ups k) (span-to Knife caps w S points o k (a .0) L) (L .inside) (L .sum) (L .up) i (a .1)
+      (before i j (L .at) (S .cut (suc k)) l (b .2) (L .next)))
+    where
+      before : (i j at hi : ℕ) → i < j → j < hi → suc at ≡ hi → i < at
+      before i j at hi l h e = omega arith
+
+  -- the last of two or more
+  module _ (k i : ℕ) (Q : LastQuad left k (suc i)) (e : splineOfQuad left i ≡ k) where
+    abbrev own : (k < w .state .splines) × (S .cut k ≤ suc i) × (L : Ends caps w S k) × (suc i ≤ L .at)
+    own = owner-ends k (suc i) (Q .stored) (Q .own)
+
+    abbrev h : k < w .state .splines
+    h = own .0
+
+    abbrev L : Ends caps w S k
+    L = own .2
+
+    at-last : suc i ≡ L .at
+    at-last = elim (eq-or-lt-of-le (own .3)) [
+      | inl z ↦ z
+      | inr u ↦
+          let b = le-of-eq (L .next) in
+          absurd (Q .last (L .at) u (lt-of-lt-of-le b (cut-le caps w S (suc k) h)) (S .span k h .owned (L .at) (L .inside) b))
+    ]
+
+    low : S .cut k ≤ i
+    low = owned caps w S i k (lt-of-lt-of-le (le-refl (suc i)) (le-of-lt (Q .stored))) e .1
+
+    abbrev x : Float
+    x = sumOfQuad left i
+
+    abbrev y : Float
+    y = sumOfQuad left (suc i)
+
+    step-between : QuadHasStep Knife left (suc i) → Between x y
+    step-between G =
+        let stays = step-stays Knife caps w S points o exact (G .spline) (G .item) (G .is-step) .1 in
+        let same : G .spline ≡ k = sym stays ∙ ap (splineOfQuad left) (G .uses) ∙ Q .own in
+        let F = step-falls Knife caps w S points o exact k h L (G .item) (subst (λ (j : ℕ). StepOf Knife left j (G .item)) same (G .is-step)) in
+        let p = G .item .step in
+        record {
+          whole = p;
+          over = F .0 .above i (sym (G .uses)) low;
+          under = subst (λ (j : ℕ). p * den (sumAt rows j) < num (sumAt rows j)) (sym at-last) (up-below (sumAt rows (L .at)) (ups k) p (L .up) (F .1));
+        }
+
+    between-step : Between x y → QuadHasStep Knife left (suc i)
+    between-step B =
+        subst (QuadHasStep Knife left) (sym at-last)
+        (gets-step Knife caps w S points o exact k h L (L .at)
+        (reached-last rows (total k) (S .cut k) (L .at) k (ups k) (span-to Knife caps w S points o k h L) (L .inside) (L .sum) (L .up) i low at-last
+        (B .whole, B .over, subst (λ (j : ℕ). B .whole * den (sumAt rows j) < num (sumAt rows j)) at-last (B .under))))
+
+  knife-quads : StepsOfQuads left
+  knife-quads = record { first = gets-first; inner = gets-inner; last = λ k i Q e. (step-between k i Q e, between-step k i Q e) }
+
+-- ---- for an accepted drawing
+pub stays-in-range : KnifeStays
+unfolding walked
+stays-in-range job h knife k i =
+    subst (λ (f : Flattening). StepOf Knife f k i → InRange f k (i .quad)) (sym (passed job h .result))
+    (knife-stays (capsOf job) (worldOf job) (job-sound job) (finishedOf job .result .points) (finishedOf job .output) k i)
+
+pub steps-where-spread : KnifeSteps
+unfolding walked
+steps-where-spread job h knife =
+    subst (λ (f : Flattening). Spread f → (quad : ℕ) → quad < f .result .quads → QuadHasStep Knife f quad) (sym (passed job h .result))
+    (λ s. spread-steps Knife (capsOf job) (worldOf job) (job-sound job) (finishedOf job .result .points) (finishedOf job .output) s
+    (exact (capsOf job) (worldOf job) (job-sound job) (finishedOf job .result .points) (finishedOf job .output)))
+
+pub steps-of-quads : KnifeQuads
+unfolding walked
+steps-of-quads job h knife =
+    subst StepsOfQuads (sym (passed job h .result))
+    (knife-quads (capsOf job) (worldOf job) (job-sound job) (finishedOf job .result .points) (finishedOf job .output))

@@ -11,6 +11,9 @@ from-bits-requires c κs = search needs
 cast-byte : tie.Need-cast-byte
 cast-byte c = search needs
 
+cast-first-quad : tie.Need-cast-first-quad
+cast-first-quad c = search needs
+
 length-of-rows-requires : tie.Need-length-of-rows-requires
 length-of-rows-requires c κs = search needs
 
@@ -83,17 +86,35 @@ array-borrow-prefix-contour c = c .length7 .ensures
 slice-aggregate-flatten-8 : tie.Need-slice-aggregate-flatten-8
 slice-aggregate-flatten-8 c = sym (length-take-le _ _ (array-borrow-prefix-contour (c .before)))
 
+length-requires-8 : tie.Need-length-requires-8
+length-requires-8 c κs = search needs
+
+array-borrow-prefix-first-quad : tie.Need-array-borrow-prefix-first-quad
+array-borrow-prefix-first-quad c = search needs
+
 slice-aggregate-flatten-9 : tie.Need-slice-aggregate-flatten-9
-slice-aggregate-flatten-9 c = search needs
+slice-aggregate-flatten-9 c = sym (length-take-le _ _ (array-borrow-prefix-first-quad (c .before)))
+
+length-requires-9 : tie.Need-length-requires-9
+length-requires-9 c κs = search needs
+
+array-borrow-prefix-quad-count : tie.Need-array-borrow-prefix-quad-count
+array-borrow-prefix-quad-count c = search needs
 
 slice-aggregate-flatten-10 : tie.Need-slice-aggregate-flatten-10
-slice-aggregate-flatten-10 c = search needs
+slice-aggregate-flatten-10 c = sym (length-take-le _ _ (array-borrow-prefix-quad-count (c .before)))
 
 slice-aggregate-flatten-11 : tie.Need-slice-aggregate-flatten-11
 slice-aggregate-flatten-11 c = search needs
 
 slice-aggregate-flatten-12 : tie.Need-slice-aggregate-flatten-12
 slice-aggregate-flatten-12 c = search needs
+
+slice-aggregate-flatten-13 : tie.Need-slice-aggregate-flatten-13
+slice-aggregate-flatten-13 c = search needs
+
+slice-aggregate-flatten-14 : tie.Need-slice-aggregate-flatten-14
+slice-aggregate-flatten-14 c = search needs
 
 flatten-requires : tie.Need-flatten-requires
 flatten-requires c κs = search needs
@@ -116,6 +137,7 @@ flattened-spec =
     (tie.spec
     from-bits-requires
     cast-byte
+    cast-first-quad
     length-of-rows-requires
     array-borrow-prefix-quad-rows
     slice-aggregate-flatten
@@ -140,10 +162,16 @@ flattened-spec =
     length-requires-7
     array-borrow-prefix-contour
     slice-aggregate-flatten-8
+    length-requires-8
+    array-borrow-prefix-first-quad
     slice-aggregate-flatten-9
+    length-requires-9
+    array-borrow-prefix-quad-count
     slice-aggregate-flatten-10
     slice-aggregate-flatten-11
     slice-aggregate-flatten-12
+    slice-aggregate-flatten-13
+    slice-aggregate-flatten-14
     flatten-requires
     put-quads-requires
     put-splines-requires

@@ -5,10 +5,10 @@ use Rattle.flatten_cases.proofs.refusing.each_enough.Statement.{stateme
 use Rattle.flatten_cases.proofs.refusing.each_enough.Tie as tie
 
 abbrev Inv-loop : tie.InvT-loop
-Inv-loop x y weight commands st setting whole got₀ r tally₀ short₀ got tally short = short ≤ 13
+Inv-loop x y weight commands st setting whole got₀ r tally₀ short₀ got tally short = short ≤ 15
 
 abbrev μ-loop : tie.MeasureT-loop
-μ-loop x y weight commands st setting whole got₀ r tally₀ short₀ got tally short = 13 - short
+μ-loop x y weight commands st setting whole got₀ r tally₀ short₀ got tally short = 15 - short
 
 flattened-requires : tie.Need-flattened-requires Inv-loop μ-loop
 flattened-requires c κs = search needs
