@@ -35,7 +35,7 @@ use Rattle.tables.proofs.Growth.{whole-before}
 use Rattle.tables.proofs.Spans.{sumAt, span-total}
 use Rattle.tables.proofs.Sound.{Sound, cut-le}
 use Rattle.tables.proofs.Owners.{Home, home, home-owner, owned, sum-round, zero-straight, not-both}
-use Rattle.walk.specs.Walk.{Item, subdivisionsOf, startsOf, cursorStartOf, cursorAfter, splineItemsOf, walkFrom, walkOf, wordsOf}
+use Rattle.walk.specs.Walk.{Item, subdivisionsOf, stepSizeOf, startsOf, cursorStartOf, cursorAfter, splineItemsOf, walkFrom, walkOf, wordOf, wordsOf}
 use Rattle.flatten.specs.Flatten.{Flattening, Output, flattened, flattening, fitsOutput, writeOutput, walked, tabled, flattenDrawable, flattenOf}
 use Rattle.promises.specs.Accepted.{Job, flatteningOf, Accepted, walkIn, pieceOf}
 use Rattle.promises.specs.Demand3.{StepOf, LastQuad, splineOfQuad, sumOfQuad, Between, Spread, QuadHasStep}
@@ -45,7 +45,7 @@ use Rattle.promises.specs.SplineQuads.{GrownByOne, FailsWhereWhole, NoWo
 use Rattle.promises.proofs.Flattened.{worldOf, itemsIn, finishedOf, passed}
 use Rattle.promises.proofs.Decoding.{capsOf, job-sound}
 use Rattle.promises.proofs.Walking.{commandOf, piece-commands}
-use Rattle.promises.proofs.Arrivals.{Ends, ends, starts-exact}
+use Rattle.promises.proofs.Arrivals.{Ends, starts-exactly}
 use Rattle.promises.proofs.Cursor.{Reached, reached-first, reached-early, reached-last}
 use Rattle.promises.proofs.Steps.{Exact, FallsIn, span-to, step-falls, step-inside, step-stays, gets-step, home-ends, knife-exact, stays-exact, spread-steps}
 
@@ -187,7 +187,7 @@ condition-fails job =
     (λ i h. absurd (not-suc-le-zero h)) (fails-where-whole (capsOf job) (worldOf job) (job-sound job))
 
 -- ---- the steps of the knife
-module _ (caps : Capacities) (w : World) (S : Sound caps w) (points : ℕ) (o : Output) where
+module _ (setting : Setting) (knife : setting ≡ Knife) (caps : Capacities) (w : World) (S : Sound caps w) (points : ℕ) (o : Output) where
   abbrev left : Flattening
   left = flattening (flattened Done (w .state .splines) (w .state .quads) points) (w .quads) (w .splines) o
 
@@ -200,27 +200,27 @@ module _ (caps : Capacities) (w : World) (S : Sound caps w) (points : ℕ) (o : 
   abbrev total : ℕ → Float
   total k = splineAt (w .splines) k .curvature
 
-  exact : Exact Knife caps w S points o
-  exact = knife-exact Knife caps w S points o refl
+  exact : Exact setting caps w S points o
+  exact = knife-exact setting caps w S points o knife
 
-  knife-stays : (k : ℕ) (i : Item) → StepOf Knife left k i → InRange left k (i .quad)
-  knife-stays k i T = let g = step-inside Knife caps w S points o exact k i T in in-range caps w S Done points o k (i .quad) (T .spline) (g .0) (g .1)
+  knife-stays : (k : ℕ) (i : Item) → StepOf setting left k i → InRange left k (i .quad)
+  knife-stays k i T = let g = step-inside setting caps w S points o exact k i T in in-range caps w S Done points o k (i .quad) (T .spline) (g .0) (g .1)
 
   -- spline k, which has quad i, ends at or after it
   owner-ends : (k i : ℕ) → i < w .state .quads → splineOfQuad left i ≡ k
       → (h : k < w .state .splines) × (S .cut k ≤ i) × (L : Ends caps w S k) × (i ≤ L .at)
   owner-ends k i h e =
       let a = owned caps w S i k h e in
-      let E = home-ends Knife caps w S points o i (record { spline = k; inside = a .0; low = a .1; high = a .2 }) in
+      let E = home-ends setting caps w S points o i (record { spline = k; inside = a .0; low = a .1; high = a .2 }) in
       (a .0, a .1, E .0, E .1)
 
-  gets-first : (k i : ℕ) → FirstQuad left k i → QuadHasStep Knife left i
+  gets-first : (k i : ℕ) → FirstQuad left k i → QuadHasStep setting left i
   gets-first k i F =
       let a = owner-ends k i (F .stored) (F .own) in
       let L = a .2 in
-      gets-step Knife caps w S points o exact k (a .0) L i
-      (subst (λ (x : ℕ). Reached rows (total k) (S .cut k) (L .at) k (ups k) (span-to Knife caps w S points o k (a .0) L) (L .inside) (L .sum) (L .up) x) (begins k i F (a .0) (a .1))
-      (reached-first rows (total k) (S .cut k) (L .at) k (ups k) (span-to Knife caps w S points o k (a .0) L) (L .inside) (L .sum) (L .up)))
+      gets-step setting caps w S points o exact k (a .0) L i
+      (subst (λ (x : ℕ). Reached rows (total k) (S .cut k) (L .at) k (ups k) (span-to setting caps w S points o k (a .0) L) (L .inside) (L .sum) (L .up) x) (begins k i F (a .0) (a .1))
+      (reached-first rows (total k) (S .cut k) (L .at) k (ups k) (span-to setting caps w S points o k (a .0) L) (L .inside) (L .sum) (L .up)))
     where
       begins : (k i : ℕ) → FirstQuad left k i → k < w .state .splines → S .cut k ≤ i → S .cut k ≡ i
       begins k i F h l = elim (eq-or-lt-of-le l) [
@@ -231,13 +231,13 @@ module _ (caps : Capacities) (w : World) (S : Sound caps w) (points : ℕ) (o : 
       ]
 
   -- the spline that a quad and a later one share ends after the first of them
-  gets-inner : (k i j : ℕ) → i < j → j < w .state .quads → splineOfQuad left i ≡ k → splineOfQuad left j ≡ k → QuadHasStep Knife left i
+  gets-inner : (k i j : ℕ) → i < j → j < w .state .quads → splineOfQuad left i ≡ k → splineOfQuad left j ≡ k → QuadHasStep setting left i
   gets-inner k i j l h e g =
       let a = owner-ends k i (lt-of-lt-of-le l (le-of-lt h)) e in
       let L = a .2 in
       let b = owned caps w S j k h g in
-      gets-step Knife caps w S points o exact k (a .0) L i
-      (reached-early rows (total k) (S .cut k) (L .at) k (ups k) (span-to Knife caps w S points o k (a .0) L) (L .inside) (L .sum) (L .up) i (a .1)
+      gets-step setting caps w S points o exact k (a .0) L i
+      (reached-early rows (total k) (S .cut k) (L .at) k (ups k) (span-to setting caps w S points o k (a .0) L) (L .inside) (L .sum) (L .up) i (a .1)
       (before i j (L .at) (S .cut (suc k)) l (b .2) (L .next)))
     where
       before : (i j at hi : ℕ) → i < j → j < hi → suc at ≡ hi → i < at
@@ -265,17 +265,11 @@ module _ (caps : Capacities) (w : World) (S : Sound caps w) (points : ℕ) (o : 
     low : S .cut k ≤ i
     low = owned caps w S i k (lt-of-lt-of-le (le-refl (suc i)) (le-of-lt (Q .stored))) e .1
 
-    abbrev x : Float
-    x = sumOfQuad left i
-
-    abbrev y : Float
-    y = sumOfQuad left (suc i)
-
-    step-between : QuadHasStep Knife left (suc i) → Between x y
+    step-between : QuadHasStep setting left (suc i) → Between (sumOfQuad left i) (sumOfQuad left (suc i))
     step-between G =
-        let stays = step-stays Knife caps w S points o exact (G .spline) (G .item) (G .is-step) .1 in
+        let stays = step-stays setting caps w S points o exact (G .spline) (G .item) (G .is-step) .1 in
         let same : G .spline ≡ k = sym stays ∙ ap (splineOfQuad left) (G .uses) ∙ Q .own in
-        let F = step-falls Knife caps w S points o exact k h L (G .item) (subst (λ (j : ℕ). StepOf Knife left j (G .item)) same (G .is-step)) in
+        let F = step-falls setting caps w S points o exact k h L (G .item) (subst (λ (j : ℕ). StepOf setting left j (G .item)) same (G .is-step)) in
         let p = G .item .step in
         record {
           whole = p;
@@ -283,32 +277,112 @@ module _ (caps : Capacities) (w : World) (S : Sound caps w) (points : ℕ) (o : 
           under = subst (λ (j : ℕ). p * den (sumAt rows j) < num (sumAt rows j)) (sym at-last) (up-below (sumAt rows (L .at)) (ups k) p (L .up) (F .1));
         }
 
-    between-step : Between x y → QuadHasStep Knife left (suc i)
+    between-step : Between (sumOfQuad left i) (sumOfQuad left (suc i)) → QuadHasStep setting left (suc i)
     between-step B =
-        subst (QuadHasStep Knife left) (sym at-last)
-        (gets-step Knife caps w S points o exact k h L (L .at)
-        (reached-last rows (total k) (S .cut k) (L .at) k (ups k) (span-to Knife caps w S points o k h L) (L .inside) (L .sum) (L .up) i low at-last
+        subst (QuadHasStep setting left) (sym at-last)
+        (gets-step setting caps w S points o exact k h L (L .at)
+        (reached-last rows (total k) (S .cut k) (L .at) k (ups k) (span-to setting caps w S points o k h L) (L .inside) (L .sum) (L .up) i low at-last
         (B .whole, B .over, subst (λ (j : ℕ). B .whole * den (sumAt rows j) < num (sumAt rows j)) at-last (B .under))))
 
-  knife-quads : StepsOfQuads left
+  knife-quads : StepsOfQuads setting left
   knife-quads = record { first = gets-first; inner = gets-inner; last = λ k i Q e. (step-between k i Q e, between-step k i Q e) }
 
 -- ---- for an accepted drawing
 pub stays-in-range : KnifeStays
 unfolding walked
 stays-in-range job h knife k i =
-    subst (λ (f : Flattening). StepOf Knife f k i → InRange f k (i .quad)) (sym (passed job h .result))
-    (knife-stays (capsOf job) (worldOf job) (job-sound job) (finishedOf job .result .points) (finishedOf job .output) k i)
+    subst (λ (f : Flattening). StepOf (job .setting) f k i → InRange f k (i .quad)) (sym (passed job h .result))
+    (knife-stays (job .setting) knife (capsOf job) (worldOf job) (job-sound job) (finishedOf job .result .points) (finishedOf job .output) k i)
 
 pub steps-where-spread : KnifeSteps
 unfolding walked
 steps-where-spread job h knife =
-    subst (λ (f : Flattening). Spread f → (quad : ℕ) → quad < f .result .quads → QuadHasStep Knife f quad) (sym (passed job h .result))
-    (λ s. spread-steps Knife (capsOf job) (worldOf job) (job-sound job) (finishedOf job .result .points) (finishedOf job .output) s
-    (exact (capsOf job) (worldOf job) (job-sound job) (finishedOf job .result .points) (finishedOf job .output)))
+    subst (λ (f : Flattening). Spread f → (quad : ℕ) → quad < f .result .quads → QuadHasStep (job .setting) f quad) (sym (passed job h .result))
+    (λ s. spread-steps (job .setting) (capsOf job) (worldOf job) (job-sound job) (finishedOf job .result .points) (finishedOf job .output) s
+    (exact (job .setting) knife (capsOf job) (worldOf job) (job-sound job) (finishedOf job .result .points) (finishedOf job .output)))
 
 pub steps-of-quads : KnifeQuads
 unfolding walked
 steps-of-quads job h knife =
-    subst StepsOfQuads (sym (passed job h .result))
-    (knife-quads (capsOf job) (worldOf job) (job-sound job) (finishedOf job .result .points) (finishedOf job .output))
+    subst (StepsOfQuads (job .setting)) (sym (passed job h .result))
+    (knife-quads (job .setting) knife (capsOf job) (worldOf job) (job-sound job) (finishedOf job .result .points) (finishedOf job .output))
+
+-- ---- what the knife's beginning changes
+-- the words of a spline are the same from every cursor
+map-twice : {A B C : Type 0} (f : A → B) (g : B → C) (l : List A) → map g (map f l) ≡ map (λ (x : A). g (f x)) l
+map-twice f g [] = refl
+map-twice f g (x ∷ l) = ap (λ (r : List _). g (f x) ∷ r) (map-twice f g l)
+
+map-join : {A B : Type 0} (f : A → B) (l m : List A) → map f (l ++ m) ≡ map f l ++ map f m
+map-join f [] m = refl
+map-join f (x ∷ l) m = ap (λ (r : List _). f x ∷ r) (map-join f l m)
+
+piece-words : (rows : ℕ → QuadRow) (s : SplineTable) (k c : ℕ) → wordsOf (splineItemsOf rows s k c) ≡ map packOf (pieceOf s k)
+unfolding wordsOf wordOf
+piece-words rows s k c = sym (map-twice commandOf packOf (splineItemsOf rows s k c)) ∙ ap (map packOf) (piece-commands rows s k c)
+
+walk-words : (setting setting' : Setting) (rows : ℕ → QuadRow) (s : SplineTable) (n k c c' : ℕ)
+    → wordsOf (walkFrom setting rows s n k c) ≡ wordsOf (walkFrom setting' rows s n k c')
+unfolding walkFrom wordsOf
+walk-words setting setting' rows s zero k c c' = refl
+walk-words setting setting' rows s (suc n) k c c' =
+    let b = cursorStartOf setting (splineAt s k) c in
+    let b' = cursorStartOf setting' (splineAt s k) c' in
+    map-join wordOf (splineItemsOf rows s k b) _
+    ∙ ap₂ (λ (x y : List ℕ). x ++ y) (piece-words rows s k b ∙ sym (piece-words rows s k b'))
+    (walk-words setting setting' rows s n (k + 1) (cursorAfter rows s k b) (cursorAfter rows s k b'))
+    ∙ sym (map-join wordOf (splineItemsOf rows s k b') _)
+
+pub no-word-changes : NoWordChanges
+unfolding walkOf
+no-word-changes rows s n = walk-words Knife Screen rows s n 0 0 0
+
+screen-starts : (row : SplineRow) (c : ℕ) → cursorStartOf Screen row c ≡ c
+unfolding cursorStartOf
+screen-starts row c = refl
+
+-- where the cursor comes to each spline at its first quad, the walk is the screen's
+module _ (setting : Setting) (caps : Capacities) (w : World) (S : Sound caps w) (points : ℕ) (o : Output)
+    (spread : Spread (flattening (flattened Done (w .state .splines) (w .state .quads) points) (w .quads) (w .splines) o)) where
+  abbrev from : Setting → ℕ → ℕ → ℕ → List Item
+  from x n k c = walkFrom x (quadRowAt (w .quads)) (w .splines) n k c
+
+  walk-same : (n k c : ℕ) → k + n ≤ w .state .splines → c ≡ S .cut k → from setting n k c ≡ from Screen n k c
+  unfolding walkFrom
+  walk-same zero k c h e = refl
+  walk-same (suc n) k c h e =
+      let l = le-trans (far k n) h in
+      let items = splineItemsOf (quadRowAt (w .quads)) (w .splines) k in
+      let next = cursorAfter (quadRowAt (w .quads)) (w .splines) k in
+      let z = stays-exact setting caps w S points o spread k c l e in
+      ap (λ (b : ℕ). items b ++ from setting n (k + 1) (next b)) (starts-exactly caps w S setting k c l e ∙ sym e)
+      ∙ ap (λ (r : List Item). items c ++ r)
+      (walk-same n (k + 1) (next c) (le-trans (le-of-eq (shift-one k n)) h) (z ∙ ap (S .cut) (suc-eq-add-one k)))
+      ∙ ap (λ (b : ℕ). items b ++ from Screen n (k + 1) (next b)) (sym (screen-starts (splineAt (w .splines) k) c))
+    where
+      far : (k n : ℕ) → k < k + suc n
+      far k n = omega arith
+
+  pub items-same : itemsIn setting w ≡ itemsIn Screen w
+  unfolding walkOf
+  items-same = walk-same (w .state .splines) 0 0 (le-of-eq (zero-add (w .state .splines))) (sym (S .first))
+
+pub no-point-changes : NoPointChanges
+unfolding walked
+no-point-changes job h =
+    let w = worldOf job in
+    subst (λ (f : Flattening). Spread f → f .output ≡ writeOutput (quadRowAt (f .quads)) (f .splines) (walkIn Screen f) (job .output)) (sym (passed job h .result))
+    (λ s. ap (λ (items : List Item). writeOutput (quadRowAt (w .quads)) (w .splines) items (job .output))
+    (items-same (job .setting) (capsOf job) w (job-sound job) (finishedOf job .result .points) (finishedOf job .output) s))
+
+-- ---- the screen
+screen-from : (rows : ℕ → QuadRow) (s : SplineTable) (first-quad quad-count : List ℕ) (n k c : ℕ)
+    → walkFrom Screen rows (retold s first-quad quad-count) n k c ≡ walkFrom Screen rows s n k c
+unfolding walkFrom cursorStartOf splineItemsOf cursorAfter subdivisionsOf stepSizeOf startsOf splineAt
+screen-from rows s first-quad quad-count zero k c = refl
+screen-from rows s first-quad quad-count (suc n) k c =
+    ap (λ (r : List Item). splineItemsOf rows s k c ++ r) (screen-from rows s first-quad quad-count n (k + 1) (cursorAfter rows s k c))
+
+pub screen-reads-neither : ScreenReadsNeither
+unfolding walkOf
+screen-reads-neither rows s first-quad quad-count n = screen-from rows s first-quad quad-count n 0 0

@@ -5,6 +5,7 @@ use mathlib.Core.Logic.{_↔_}
 use mathlib.Core.List.{List}
 use lib.Ieee.{Float}
 use lib.Ieee.Positive.{num, den}
+use Rattle.point.specs.declared.Setting.{Setting}
 use Rattle.point.specs.declared.Setting.the-variants.{Screen, Knife}
 use Rattle.primitives.specs.declared.Kind.the-variants.{Straight}
 use Rattle.primitives.specs.declared.QuadRow.{QuadRow}
@@ -51,22 +52,23 @@ LinesHaveNone =
 -- "without it no step strays any more"
 abbrev pub KnifeStays : Type 0
 KnifeStays =
-    (job : Job) → Accepted job → job .setting ≡ Knife → (k : ℕ) (i : Item) → StepOf Knife (flatteningOf job) k i → InRange (flatteningOf job) k (i .quad)
+    (job : Job) → Accepted job → job .setting ≡ Knife → (k : ℕ) (i : Item)
+    → StepOf (job .setting) (flatteningOf job) k i → InRange (flatteningOf job) k (i .quad)
 
 -- it "then needs a whole number between the last two sums only for each quad to get a step"
 abbrev pub KnifeSteps : Type 0
 KnifeSteps =
     (job : Job) → Accepted job → job .setting ≡ Knife → Spread (flatteningOf job)
-    → (quad : ℕ) → quad < flatteningOf job .result .quads → QuadHasStep Knife (flatteningOf job) quad
+    → (quad : ℕ) → quad < flatteningOf job .result .quads → QuadHasStep (job .setting) (flatteningOf job) quad
 
 -- a spline's first quad, and every one after which another of its spline comes, always gets a step; the last of two or more exactly if a whole number lies between
-pub record StepsOfQuads (f : Flattening) : Type 0 where
-  pub first : (k i : ℕ) → FirstQuad f k i → QuadHasStep Knife f i
-  pub inner : (k i j : ℕ) → i < j → j < f .result .quads → splineOfQuad f i ≡ k → splineOfQuad f j ≡ k → QuadHasStep Knife f i
-  pub last : (k i : ℕ) → LastQuad f k (suc i) → splineOfQuad f i ≡ k → QuadHasStep Knife f (suc i) ↔ Between (sumOfQuad f i) (sumOfQuad f (suc i))
+pub record StepsOfQuads (setting : Setting) (f : Flattening) : Type 0 where
+  pub first : (k i : ℕ) → FirstQuad f k i → QuadHasStep setting f i
+  pub inner : (k i j : ℕ) → i < j → j < f .result .quads → splineOfQuad f i ≡ k → splineOfQuad f j ≡ k → QuadHasStep setting f i
+  pub last : (k i : ℕ) → LastQuad f k (suc i) → splineOfQuad f i ≡ k → QuadHasStep setting f (suc i) ↔ Between (sumOfQuad f i) (sumOfQuad f (suc i))
 
 abbrev pub KnifeQuads : Type 0
-KnifeQuads = (job : Job) → Accepted job → job .setting ≡ Knife → StepsOfQuads (flatteningOf job)
+KnifeQuads = (job : Job) → Accepted job → job .setting ≡ Knife → StepsOfQuads (job .setting) (flatteningOf job)
 
 -- ---- where the condition fails
 -- x is a whole number, and y the next one
