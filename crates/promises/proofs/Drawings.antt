@@ -32,7 +32,7 @@ use Rattle.tables.specs.Tables.{quadCapacityOf, splineCapacityOf, capacitiesOf,
 use Rattle.walk.specs.Walk.{subdivisionsOf, stepSizeOf, startsOf, cursorStartOf, cursorAt, stepsFrom, cursorFrom, cursorAfter, splineItemsOf, walkFrom, walkOf, wordOf, wordsOf}
 use Rattle.evaluate.specs.Evaluate.{previousSumOf, parameterOf, stepPointOf, commandPointOf, itemPointOf, pointsOf}
 use Rattle.flatten.specs.Flatten.{over, fitsOutput, writeOutput, walked, tabled, flattenDrawable, flattenOf}
-use Rattle.promises.specs.Examples.{Example, drawn, flat, wordsAfter, pointsAfter, rowAfter, storedAfter, joinedQuads, joinedSplines, joinedCursors}
+use Rattle.promises.specs.Examples.{Example, drawn, flat, wordsAfter, pointsAfter, rangesAfter, rowAfter, storedAfter, joinedQuads, joinedSplines, joinedCursors}
 use Rattle.promises.specs.Drawings.{drawings, wordsAlong}
 use Rattle.promises.specs.Room.{emptyColumns, emptyQuads, emptySplines, emptyOutput}
 
@@ -47,7 +47,7 @@ unfolding wordsAlong rootIn root rooted bitsOf floatOf fmaOf piecesOf cutTo sixt
     quadCountOf splineEditOf cubicFrom commandPrimitivesOf primitivesFrom primitivesOf tablesOf applyOf pushOf runOf flagByteOf isFlagOf quadCapacityOf
     splineCapacityOf capacitiesOf numbersOf putQuad numberAt quadRowAt clearFlag putSpline splineAt lastSplineOf subdivisionsOf stepSizeOf startsOf
     cursorStartOf cursorAt stepsFrom cursorFrom cursorAfter splineItemsOf walkFrom walkOf wordOf wordsOf previousSumOf parameterOf stepPointOf commandPointOf
-    itemPointOf pointsOf over fitsOutput writeOutput walked tabled flattenDrawable flattenOf drawn flat wordsAfter pointsAfter rowAfter storedAfter
+    itemPointOf pointsOf over fitsOutput writeOutput walked tabled flattenDrawable flattenOf drawn flat wordsAfter pointsAfter rangesAfter rowAfter storedAfter
     joinedQuads joinedSplines joinedCursors emptyColumns emptyQuads emptySplines emptyOutput trailingZeros size span climb odd units round neg sum add
     sub mul div lt eq le ofInt isNan ofFields ofBits toBits
 drawings-hold = refl

@@ -107,9 +107,9 @@ module _ (caps : Capacities) (w : World) (S : Sound caps w) (answer : Answer) (p
   lines-none k h = elim (span-total (quadRowAt (w .quads)) (row .curvature) (S .cut k) (S .cut (suc k)) k (S .span k h)) [
     | inl z ↦ (λ e. empty (S .cut k) (quadCount f k) (S .cut (suc k)) (S .ranged k h .count) (z .0), λ e. zero-straight row (z .1))
     | inr z ↦ (
-        λ e. absurd (not-both e (sum-round row (z .sum))),
-        λ e. absurd (some (S .cut k) (quadCount f k) (S .cut (suc k)) (z .at) (S .ranged k h .count) e (z .inside) (z .next)),
-      )
+      λ e. absurd (not-both e (sum-round row (z .sum))),
+      λ e. absurd (some (S .cut k) (quadCount f k) (S .cut (suc k)) (z .at) (S .ranged k h .count) e (z .inside) (z .next)),
+    )
   ]
     where
       row : SplineRow

@@ -14,7 +14,7 @@ use Rattle.tables.specs.Tables.{capacitiesOf, quadRowAt}
 use Rattle.tables.specs.Run.{World, world, runOf, startState}
 use Rattle.walk.specs.Walk.{walkOf, wordsOf}
 use Rattle.promises.specs.Room.{emptyQuads, emptySplines}
-use Rattle.promises.specs.Examples.{Example, example, P, wordsAfter, pointsAfter}
+use Rattle.promises.specs.Examples.{Example, example, P, wordsAfter, pointsAfter, rangesAfter}
 
 -- a line along the x axis
 abbrev pub along : Float → Float → Primitive
@@ -65,6 +65,15 @@ quadAsLine = Line (P 10 0) ∷ Quad (P 10 0) (P 20 0) ∷ Line (P 30 0) ∷ []
 abbrev pub quadThenDot : List Call
 quadThenDot = Quad (P 5 0) (P 10 0) ∷ Line (P 10 0) ∷ Build ∷ []
 
+-- 02, Six: "long joined sweeps". A straight quad, whose curvature is 2, and one that runs on smoothly and adds just 1; after a turn a straight quad; a line back
+abbrev pub sweep : List Call
+sweep =
+    Move (pointAt (f32 0xbf80_0000) zero32)
+    ∷ Quad (pointAt (f32 0xbf00_0000) zero32) (P 0 0)
+    ∷ Quad (pointAt (f32 0x3e84_4000) zero32) (pointAt (f32 0x4003_c400) (f32 0x3f62_6000))
+    ∷ Quad (pointAt (f32 0x4003_c400) (f32 0x3ff1_3000)) (pointAt (f32 0x4003_c400) (f32 0x4038_9800))
+    ∷ Build ∷ []
+
 abbrev pub drawings : List Example
 drawings =
     -- two triangles: a Move does not reset the running number of splines
@@ -113,6 +122,18 @@ drawings =
     ∷ example (pointsAfter Knife quadThenDot)
     (0x00000000 ∷ 0x40A00000 ∷ 0x41200000 ∷ 0x41200000 ∷ 0x00000000
     ∷ 0x00000000 ∷ 0x00000000 ∷ 0x00000000 ∷ 0x00000000 ∷ 0x00000000 ∷ [])
+    -- the sums 2 and 3, then 2, then none; the words and the ranges, first quads and then numbers of quads, are the same in both settings
+    ∷ example (wordsAfter Knife sweep) (0 ∷ 0x7F800000 ∷ 0x3F800000 ∷ 0x3F800000 ∷ 0xFF800000 ∷ 0x3F800000 ∷ 0xFF800001 ∷ 0xFFC00002 ∷ [])
+    ∷ example (wordsAfter Screen sweep) (0 ∷ 0x7F800000 ∷ 0x3F800000 ∷ 0x3F800000 ∷ 0xFF800000 ∷ 0x3F800000 ∷ 0xFF800001 ∷ 0xFFC00002 ∷ [])
+    ∷ example (rangesAfter Knife sweep) (0 ∷ 2 ∷ 3 ∷ 2 ∷ 1 ∷ 0 ∷ [])
+    ∷ example (rangesAfter Screen sweep) (0 ∷ 2 ∷ 3 ∷ 2 ∷ 1 ∷ 0 ∷ [])
+    -- the fifth point is the second spline's step: "in the knife setting the cursor begins each spline at that first quad"; the screen's runs back to (0,0)
+    ∷ example (pointsAfter Knife sweep)
+    (0xBF800000 ∷ 0xBF000000 ∷ 0x00000000 ∷ 0x4003C400 ∷ 0x4003C400 ∷ 0x4003C400 ∷ 0xBF800000
+    ∷ 0x00000000 ∷ 0x00000000 ∷ 0x00000000 ∷ 0x3F626000 ∷ 0x3FF13000 ∷ 0x40389800 ∷ 0x00000000 ∷ [])
+    ∷ example (pointsAfter Screen sweep)
+    (0xBF800000 ∷ 0xBF000000 ∷ 0x00000000 ∷ 0x4003C400 ∷ 0x00000000 ∷ 0x4003C400 ∷ 0xBF800000
+    ∷ 0x00000000 ∷ 0x00000000 ∷ 0x00000000 ∷ 0x3F626000 ∷ 0x00000000 ∷ 0x40389800 ∷ 0x00000000 ∷ [])
     -- a line that starts exactly 0.0625 from the last end opens a spline, and no Start is written
     ∷ example (wordsAlong (gapTo (f32 0x4121_0000))) (0x7F800000 ∷ 0xFF800000 ∷ 0xFFC00001 ∷ [])
     -- one f32 nearer it joins the spline, one f32 further a Start is written

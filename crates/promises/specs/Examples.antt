@@ -53,6 +53,13 @@ pointsAfter setting calls =
 unfoldable pub rowAfter : Setting → List Call → List ℕ
 rowAfter setting calls = let q = flat setting calls .quads in map bitsOf (take 15 (q .rows)) ++ take 1 (q .partial-splines)
 
+-- the splines' first quads, then their numbers of quads
+unfoldable pub rangesAfter : Setting → List Call → List ℕ
+rangesAfter setting calls =
+    let f = flat setting calls in
+    let n = f .result .splines in
+    take n (f .splines .first-quad) ++ take n (f .splines .quad-count)
+
 -- the number of points in the store, and the first one's bits
 unfoldable pub storedAfter : List Call → List ℕ
 storedAfter calls = let o = drawn calls in o .state .points ∷ map bitsOf (take 1 (o .columns .x) ++ take 1 (o .columns .y))
