@@ -55,6 +55,11 @@ DRAWINGS = {
     "slit": [("move", 0, 0), ("line", 10, 0), ("line", 10, 5), ("line", 5, 5), ("line", 10, 5), ("line", 10, 10), ("line", 0, 10)],
     # a small belt end of lines and quads: each straight runs smoothly into the round
     "straight-and-round": [("move", 0, 0), ("line", 10, 0), ("quad", 12, 0, 12, 2), ("quad", 12, 4, 10, 4), ("line", 0, 4)],
+    # two quads that make one sweep, whose sums are 2 and 3, and after a turn a third
+    "sweep": [
+        ("move", -1, 0), ("quad", -0.5, 0, 0, 0), ("quad", 0.25830078125, 0, 2.058837890625, 0.88427734375),
+        ("quad", 2.058837890625, 1.88427734375, 2.058837890625, 2.88427734375),
+    ],
 }
 
 # the drawings that are drawn in both settings: what is said under each side, and the part that is drawn once more, enlarged (x, y, width, height)
@@ -65,6 +70,7 @@ TWICE = {
         ["a vertex where straight", "meets round (green rings)"],
         (9.0, -0.25, 2.8, 1.1),
     ),
+    "sweep": (["after the turn the path", "runs back to (0,0)"], ["after the turn the path", "goes on to (2.06, 1.88)"], None),
 }
 
 

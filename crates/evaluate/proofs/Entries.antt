@@ -140,7 +140,7 @@ module _ (setting : Setting) (rows : ℕ → QuadRow) (s : SplineTable) (k : ℕ
 
   -- the cursor at its beginning
   abbrev pub begins : ℕ
-  begins = cursorStartOf setting (splineAt s k) (from .cursor)
+  begins = cursorStartOf setting (splineAt s k .«first_quad») (from .cursor)
 
   -- a whole spline
   pub spline-written : writeSplineOf setting rows k (startsOf s k) (splineAt s k) from o
@@ -167,7 +167,7 @@ walk-from-written : (setting : Setting) (rows : ℕ → QuadRow) (s : SplineTabl
 unfolding writeWalkFrom walkFrom writeItems
 walk-from-written setting rows s zero k from o = refl
 walk-from-written setting rows s (suc n) k from o =
-    let start = cursorStartOf setting (splineAt s k) (from .cursor) in
+    let start = cursorStartOf setting (splineAt s k .«first_quad») (from .cursor) in
     let items = splineItemsOf rows s k start in
     let cursor = leftAt setting rows s k start in
     ap (λ (w : Written). writeWalkFrom setting rows s n (k + 1) (w .place) (w .output)) (spline-written setting rows s k from o)

@@ -88,9 +88,9 @@ module _
   stepping-end h = let e : left ≡ 0 = omega arith in sym (g .same ∙ ap (λ (m : ℕ). writeStepsFrom rows size m p (placeAt at cursor) o) e)
 
 -- ---- one spline
-screen-starts : (row : SplineRow) (cursor : ℕ) → cursorStartOf Screen row cursor ≡ cursor
+screen-starts : (first cursor : ℕ) → cursorStartOf Screen first cursor ≡ cursor
 unfolding cursorStartOf
-screen-starts row cursor = refl
+screen-starts first cursor = refl
 
 pub few : (n : ℕ) (sum : Float) → n ≡ stepsOf sum → n ≤ 65536
 few n sum e = rw e (steps-bound sum)
@@ -105,25 +105,25 @@ start-place starts k first from to o₀ o e = go starts _ e
     go true o' h = let a = ap (λ (w : Written). w .place .at) h in (omega arith, ap (λ (w : Written). w .place .cursor) h)
     go false o' h = let a = ap (λ (w : Written). w .place .at) h in (omega arith, ap (λ (w : Written). w .place .cursor) h)
 
-pub end-place : (setting : Setting) (rows : ℕ → QuadRow) (row : SplineRow) (size : Float) (n cursor : ℕ) (from start to : Place) (o₀ o : Output) → n ≤ 65536
+pub end-place : (setting : Setting) (rows : ℕ → QuadRow) (size : Float) (n first cursor : ℕ) (from start to : Place) (o₀ o : Output) → n ≤ 65536
     → (from .at ≤ 0x4000_0000_0000_0000) × (setting ≡ Screen → from .cursor ≤ 0x4000_0000_0000_0000)
-    → cursor ≡ cursorStartOf setting row (from .cursor)
+    → cursor ≡ cursorStartOf setting first (from .cursor)
     → (start .at ≤ from .at + 1) × (start .cursor ≡ cursor)
     → written o to ≡ writeStepsOf rows size n start o₀
     → (to .at ≤ 0x4000_0000_0002_0000) × (setting ≡ Screen → to .cursor ≤ 0x4000_0000_0002_0000)
 unfolding writeStepsOf
-end-place setting rows row size n cursor from start to o₀ o h f b g e =
+end-place setting rows size n first cursor from start to o₀ o h f b g e =
     let p = ap (λ (w : Written). w .place) e ∙ steps-place rows size n 1 start o₀ in
     let a = ap (λ (x : Place). x .at) p in
     let c = ap (λ (x : Place). x .cursor) p in
     (omega (arith, f .0, g .0), λ z. omega (arith, cursor-from-bound rows n 1 (start .cursor), f .1 z, c, g .1, same z))
   where
     same : setting ≡ Screen → cursor ≡ from .cursor
-    same z = b ∙ ap (λ (x : Setting). cursorStartOf x row (from .cursor)) z ∙ screen-starts row (from .cursor)
+    same z = b ∙ ap (λ (x : Setting). cursorStartOf x first (from .cursor)) z ∙ screen-starts first (from .cursor)
 
 pub spline-passes : (setting : Setting) (rows : ℕ → QuadRow) (k : ℕ) (starts : Bool) (row : SplineRow) (from start to : Place) (o₀ o₁ o₂ o₃ : Output) (size : Float)
     (n word cursor next : ℕ)
-    → cursor ≡ cursorStartOf setting row (from .cursor)
+    → cursor ≡ cursorStartOf setting (row .«first_quad») (from .cursor)
     → written o₁ start ≡ writeStartOf starts k (row .p0) (placeAt (from .at) cursor) o₀
     → size ≡ sizeOf (row .curvature)
     → n ≡ stepsOf (row .curvature)
@@ -161,13 +161,13 @@ after-bound rows s k cursor =
     go true m c h l = omega arith
     go false m c h l = omega arith
 
-left-screen : (rows : ℕ → QuadRow) (s : SplineTable) (k cursor : ℕ) → leftAt Screen rows s k (cursorStartOf Screen (splineAt s k) cursor) ≤ cursor + 65537
+left-screen : (rows : ℕ → QuadRow) (s : SplineTable) (k cursor : ℕ) → leftAt Screen rows s k (cursorStartOf Screen (splineAt s k .«first_quad») cursor) ≤ cursor + 65537
 unfolding leftAt cursorStartOf
 left-screen rows s k cursor = after-bound rows s k cursor
 
 left-bound : (setting : Setting) (rows : ℕ → QuadRow) (s : SplineTable) (k cursor : ℕ) → setting ≡ Screen
-    → leftAt setting rows s k (cursorStartOf setting (splineAt s k) cursor) ≤ cursor + 65537
-left-bound setting rows s k cursor z = subst (λ (x : Setting). leftAt x rows s k (cursorStartOf x (splineAt s k) cursor) ≤ cursor + 65537) (sym z)
+    → leftAt setting rows s k (cursorStartOf setting (splineAt s k .«first_quad») cursor) ≤ cursor + 65537
+left-bound setting rows s k cursor z = subst (λ (x : Setting). leftAt x rows s k (cursorStartOf x (splineAt s k .«first_quad») cursor) ≤ cursor + 65537) (sym z)
     (left-screen rows s k cursor)
 
 walk-more : (setting : Setting) (rows : ℕ → QuadRow) (s : SplineTable) (left k : ℕ) (from : Place) (o : Output) → 0 < left
@@ -191,7 +191,7 @@ module _
       let p = ap (λ (x : Written). x .place) (w ∙ spline-written setting rows s k place o) in
       let pa = ap (λ (x : Place). x .at) p in
       let pc = ap (λ (x : Place). x .cursor) p in
-      let start = cursorStartOf setting (splineAt s k) (place .cursor) in
+      let start = cursorStartOf setting (splineAt s k .«first_quad») (place .cursor) in
       let la = spline-length rows s k start in
       let lb = spline-length-bound k (splineAt s (k - 1)) (splineAt s k) in
       record {

@@ -1,6 +1,6 @@
 -- Scaffolding: the walk of `deliverOf` (Delivery) written entry by entry, for the contracts of private functions in src/writing.rt; no promise rests on it.
 -- Assumes nothing.
-use Prim.Native.Nat.{ℕ, zero, suc, _+_, _-_}
+use Prim.Native.Nat.{ℕ, zero, suc, _+_}
 use mathlib.Core.Bool.{Bool, false, cond}
 use lib.Dec.{eqb}
 use lib.Ieee.{Float}
@@ -60,7 +60,7 @@ endCursorOf Knife sum cursor = cursor
 
 unfoldable pub writeSplineOf : Setting → (ℕ → QuadRow) → ℕ → Bool → SplineRow → Place → Output → Written
 writeSplineOf setting rows k starts row from o =
-    let a = writeStartOf starts k (row .p0) (placeAt (from .at) (cursorStartOf setting row (from .cursor))) o in
+    let a = writeStartOf starts k (row .p0) (placeAt (from .at) (cursorStartOf setting (row .«first_quad») (from .cursor))) o in
     let b = writeStepsOf rows (sizeOf (row .curvature)) (stepsOf (row .curvature)) (a .place) (a .output) in
     let o' = writeEntryOf (b .place .at) (packOf (End k (row .contour))) (finished (row .p2) (row .contour)) (b .output) in
     written o' (placeAt (b .place .at + 1) (endCursorOf setting (row .curvature) (b .place .cursor)))

@@ -136,7 +136,7 @@ fn write_spline(
     let first = row.p0;
     let begin = Place {
         at: from.at,
-        cursor: walk::cursor_start(setting, row, from.cursor),
+        cursor: walk::cursor_start(setting, row.first_quad, from.cursor),
     };
     let start = write_start(words, out_x, out_y, out_end, starts, k, first, begin);
     let size = walk::size(sum);

@@ -57,8 +57,8 @@ lineAngleOf Knife last (Known a) = Known a
 unfoldable pub sumBefore : Bool → SplineRow → Float
 sumBefore opens last = cond opens zero32 (last .curvature)
 
--- how many quads a spline has that begins with quad `first` and goes on to the last one stored. That is at most 65,535; on a row made by hand, whose first quad may
--- be any number, it is 0 if there is none, and the largest u32 if there are more.
+-- how many quads a spline has that begins with quad `first` and goes on to the last one stored. In a drawing that is at most 65,536; on a row made by hand, whose
+-- first quad may be any number, it is 0 if there is none, and the largest u32 if there are more.
 unfoldable pub quadCountOf : ℕ → ℕ → ℕ
 quadCountOf first quads = min (quads - first) 0xffff_ffff
 
@@ -69,13 +69,22 @@ splineEditOf true st last start end sum quads angle =
     record {
       clears = not (st .mark);
       at = st .splines;
-      row = record { curvature = sum; p0 = start; p2 = end; contour = true; «first_quad» = st .quads; «quad_count» = quadCountOf (st .quads) quads };
+      row =
+          record { curvature = sum; p0 = start; p2 = end; contour = true; «first_quad» = st .quads; «quad_count» = quadCountOf (st .quads) quads };
       next = stateOf Done (st .splines + 1) quads false angle;
     }
 splineEditOf false st last start end sum quads angle =
     record {
       clears = false;
       at = st .splines - 1;
-      row = record { curvature = sum; p0 = last .p0; p2 = end; contour = last .contour; «first_quad» = last .«first_quad»; «quad_count» = quadCountOf (last .«first_quad») quads };
+      row =
+          record {
+            curvature = sum;
+            p0 = last .p0;
+            p2 = end;
+            contour = last .contour;
+            «first_quad» = last .«first_quad»;
+            «quad_count» = quadCountOf (last .«first_quad») quads;
+          };
       next = stateOf Done (st .splines) quads false angle;
     }

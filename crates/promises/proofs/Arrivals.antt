@@ -82,17 +82,17 @@ module _ (caps : Capacities) (w : World) (S : Sound caps w) where
   abbrev pub Early : ℕ → ℕ → Type 0
   Early k c = c ≤ S .cut k
 
-  pub starts-early : (setting : Setting) (k c : ℕ) → k < w .state .splines → Early k c → Early k (cursorStartOf setting (splineAt (w .splines) k) c)
+  pub starts-early : (setting : Setting) (k c : ℕ) → k < w .state .splines → Early k c → Early k (cursorStartOf setting (splineAt (w .splines) k .«first_quad») c)
   unfolding cursorStartOf
   starts-early Screen k c h e = e
   starts-early Knife k c h e = le-of-eq (S .ranged k h .first)
 
   -- for the knife it begins just there
-  pub starts-exact : (k c : ℕ) → k < w .state .splines → cursorStartOf Knife (splineAt (w .splines) k) c ≡ S .cut k
+  pub starts-exact : (k c : ℕ) → k < w .state .splines → cursorStartOf Knife (splineAt (w .splines) k .«first_quad») c ≡ S .cut k
   unfolding cursorStartOf
   starts-exact k c h = S .ranged k h .first
 
-  pub starts-exactly : (setting : Setting) (k c : ℕ) → k < w .state .splines → c ≡ S .cut k → cursorStartOf setting (splineAt (w .splines) k) c ≡ S .cut k
+  pub starts-exactly : (setting : Setting) (k c : ℕ) → k < w .state .splines → c ≡ S .cut k → cursorStartOf setting (splineAt (w .splines) k .«first_quad») c ≡ S .cut k
   unfolding cursorStartOf
   starts-exactly Screen k c h e = e
   starts-exactly Knife k c h e = starts-exact k c h

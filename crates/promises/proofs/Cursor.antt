@@ -1,15 +1,14 @@
 -- Laws of the quad cursor over sound tables, within one spline whose quads are those from lo to l. It never passes l, since no step p reaches the spline's sum. Started at
 -- lo it is, at each step p, on the one quad that p falls on: the first whose sum is p or more. Going on by one is enough, since each sum reaches the next whole
 -- number above the one before. Assumes nothing.
-use mathlib.Core.Path.{_≡_, refl, sym, ap, ap₂, _∙_, subst, subst₂}
+use mathlib.Core.Path.{_≡_, refl, sym, ap, _∙_, subst, subst₂}
 use mathlib.Core.Logic.{_⊎_, inl, inr}
 use mathlib.Core.Bool.{Bool, true, false, not, cond}
-use mathlib.Core.List.{List, [], _∷_, _++_, List·Memᴰ, List·Memᴰ·head, List·Memᴰ·tail}
-use Prim.Native.Nat.{ℕ, zero, suc, _+_, _-_, _*_, _/_, _%_, _≤_, _<_, zero-le}
-use native.Mathlib.Nat.{le-trans, le-of-eq, le-refl, le-of-lt, lt-of-lt-of-le, lt-of-le-of-lt, lt-irrefl, eq-or-lt-of-le, le-of-suc-le-suc, not-suc-le-zero}
+use mathlib.Core.List.{List, List·Memᴰ, List·Memᴰ·head, List·Memᴰ·tail}
+use Prim.Native.Nat.{ℕ, zero, suc, _+_, _-_, _*_, _/_, _≤_, _<_}
+use native.Mathlib.Nat.{le-trans, le-of-eq, le-refl, le-of-lt, lt-of-lt-of-le, lt-of-le-of-lt, lt-irrefl, eq-or-lt-of-le, not-suc-le-zero}
 use native.Mathlib.Nat.{zero-lt-suc, mul-le-mul-right, one-mul, zero-mul, suc-mul, div-mul-le-self, div-lt-iff-lt-mul, add-zero, le-suc, sub-le, suc-inj}
 use native.Mathlib.Numerals.{add-one}
-use native.Mathlib.Decide.{decLt}
 use native.Mathlib.Omega.{arith}
 use lib.Dec.{T, ltb, ltb→lt, nltb→le, lit≤}
 use lib.Ieee.{Float, lt}
@@ -19,7 +18,7 @@ use Rattle.leaves.specs.Single.{whole32}
 use Rattle.command.specs.declared.PointCommand.the-variants.{Incr}
 use Rattle.primitives.specs.declared.QuadRow.{QuadRow}
 use Rattle.tables.proofs.RunningSums.{Sum, Reaches, grows-reaches, Up, lt-whole, below-up, up-below, up-two, up-limit}
-use Rattle.tables.proofs.Spans.{sumAt, ownerAt, Span, LastOf}
+use Rattle.tables.proofs.Spans.{sumAt, Span}
 use Rattle.walk.specs.Walk.{Item, item, cursorAt, stepsFrom, cursorFrom}
 use Rattle.promises.proofs.Cutting.{All}
 

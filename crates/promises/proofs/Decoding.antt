@@ -2,13 +2,10 @@
 -- cutting commutes with decoding. Assumes nothing.
 use mathlib.Core.Path.{_≡_, refl, sym, ap, ap₂, _∙_, subst}
 use mathlib.Core.Logic.{_≢_}
-use mathlib.Core.Bool.{Bool, true, false, true≢false}
 use mathlib.Core.List.{List, [], _∷_, map}
 use Prim.Native.Nat.{ℕ, zero, suc, _+_, _≤_, _<_}
-use native.Mathlib.Nat.{le-of-eq, le-of-suc-le-suc, not-suc-le-zero, zero-add}
+use native.Mathlib.Nat.{le-of-suc-le-suc, not-suc-le-zero, zero-add}
 use native.Mathlib.Omega.{arith}
-use lib.Dec.{T}
-use lib.Ieee.{nan, binary32}
 use lib.ListN.{length, getD, length-map, List·getD-map}
 use Rattle.command.specs.declared.PointCommand.{PointCommand}
 use Rattle.command.specs.declared.PointCommand.the-variants.{Start, Incr, End}
@@ -16,17 +13,16 @@ use Rattle.command.specs.Packing.{indexLimit, packOf, unpackOf}
 use Rattle.command.proofs.Laws.{Packs, Holds, command-back, only-nan}
 use Rattle.primitives.specs.declared.Capacities.{Capacities}
 use Rattle.tables.specs.Tables.{capacitiesOf, quadRowAt}
-use Rattle.tables.specs.Run.{World, world, startState}
 use Rattle.tables.specs.Commands.{primitivesOf, tablesOf}
 use Rattle.tables.proofs.Sound.{Sound, sound, splines-room}
-use Rattle.walk.specs.Walk.{Item, walkOf, wordOf, wordsOf, splineItemsOf}
+use Rattle.walk.specs.Walk.{Item, walkOf, wordOf, wordsOf}
 use Rattle.flatten.specs.Flatten.{Flattening, walked}
 use Rattle.promises.specs.Words.{isEnd, cutAfter, decoded, piecesIn}
-use Rattle.promises.specs.Accepted.{Job, flatteningOf, Accepted, wordsIn, walkIn, pieceOf}
+use Rattle.promises.specs.Accepted.{Job, wordsIn, walkIn, pieceOf}
 use Rattle.promises.specs.Demand3.{Demand3a, NeverNan, PiecesAreSplines, Demand3b}
 use Rattle.promises.proofs.Flattened.{worldOf, itemsIn, finishedOf, passed, words-are}
 use Rattle.promises.proofs.Cutting.{All, cut-map}
-use Rattle.promises.proofs.Walking.{commandOf, endsItem, Packed, pieces-count, Piece, piece-at, piece-commands, walk-packed}
+use Rattle.promises.proofs.Walking.{commandOf, endsItem, Packed, pieces-count, piece-at, piece-commands, walk-packed}
 
 -- ---- the tables of a job are sound, and its walk can be packed
 abbrev pub capsOf : Job → Capacities

@@ -66,10 +66,10 @@ module _ (setting : Setting) (rows : ℕ → QuadRow) (s : SplineTable) where
   unfolding walkFrom
   walk-in c zero k cursor i h has = absurd (not-suc-le-zero h)
   walk-in c (suc n) k cursor zero h has =
-      let start = cursorStartOf setting (splineAt s k) cursor in
+      let start = cursorStartOf setting (splineAt s k .«first_quad») cursor in
       in-left c (splineItemsOf rows s k start) _ (subst (λ (j : ℕ). In c (splineItemsOf rows s j start)) (add-zero k) (has start))
   walk-in c (suc n) k cursor (suc i) h has =
-      let start = cursorStartOf setting (splineAt s k) cursor in
+      let start = cursorStartOf setting (splineAt s k .«first_quad») cursor in
       in-right c (splineItemsOf rows s k start) _
       (walk-in c n (k + 1) (cursorAfter rows s k start) i (le-of-suc-le-suc h)
       (λ d. subst (λ (j : ℕ). In c (splineItemsOf rows s j d)) (sym (shift-one k i)) (has d)))

@@ -120,7 +120,7 @@ module _ (setting : Setting) (caps : Capacities) (w : World) (S : Sound caps w) 
   walked zero k c h e = record { same = refl; used = tt }
   walked (suc n) k c h e =
       let l = le-trans (far k n) h in
-      let b = cursorStartOf setting (splineAt s k) c in
+      let b = cursorStartOf setting (splineAt s k .«first_quad») c in
       let g = starts-early caps w S setting k c l e in
       let Z = stepped k b l g in
       let next = cursorAfter rows s k b in

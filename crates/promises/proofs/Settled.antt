@@ -1,8 +1,8 @@
 -- What the contracts settle: two outcomes that satisfy one equation are equal, and so are their parts. Assumes nothing.
-use Prim.Native.Nat.{ℕ, _+_, _≤_, _<_}
+use Prim.Native.Nat.{ℕ, _≤_}
 use mathlib.Core.Path.{_≡_, refl, sym, ap, _∙_, subst}
 use mathlib.Core.Logic.{_⊎_, inl, inr}
-use mathlib.Core.Bool.{Bool, true, false, cond}
+use mathlib.Core.Bool.{Bool, cond}
 use mathlib.Core.List.{List, _++_}
 use native.Mathlib.Nat.{zero-add, le-of-eq, le-trans}
 use lib.Dec.{leb, le→leb}
@@ -11,7 +11,6 @@ use lib.Ieee.{nan}
 use lib.Ieee.Bits.{is-true, is-false}
 use lib.ListN.{length, getD, drop}
 use lib.Seq.{sets, sets-eq}
-use Rattle.answer.specs.declared.Answer.{Answer}
 use Rattle.store.specs.Columns.{Columns}
 use Rattle.point.specs.Point.{pointAt}
 use Rattle.listing.specs.declared.Pair as Pairs

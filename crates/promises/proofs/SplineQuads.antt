@@ -1,7 +1,7 @@
 -- 02, Six: each spline knows its quads. Over sound tables `cut j` is the number of quads before spline j, and each row tells its two cuts. For the knife the cursor
 -- begins each spline at its cut, so each step falls on a quad of its own spline; where a whole number lies between the last two sums, so does the screen's. Assumes
 -- nothing.
-use Prim.Native.Nat.{ℕ, zero, suc, _+_, _-_, _*_, _/_, _≤_, _<_}
+use Prim.Native.Nat.{ℕ, zero, suc, _+_, _*_, _/_, _≤_, _<_}
 use mathlib.Core.Path.{_≡_, refl, sym, ap, ap₂, _∙_, subst}
 use mathlib.Core.Logic.{_↔_, inl, inr}
 use mathlib.Core.Bool.{Bool, true, false}
@@ -9,8 +9,7 @@ use mathlib.Core.List.{List, [], _∷_, _++_, map}
 use native.Mathlib.Nat.{le-trans, le-of-eq, le-refl, le-of-lt, lt-of-lt-of-le, lt-of-le-of-lt, lt-irrefl, eq-or-lt-of-le, not-suc-le-zero, zero-add}
 use native.Mathlib.Nat.{div-mul-le-self, div-lt-iff-lt-mul, mul-le-mul-right, lt-of-mul-lt-mul-right}
 use native.Mathlib.Numerals.{suc-eq-add-one}
-use native.Mathlib.Omega.{arith, by-contra}
-use native.Mathlib.Decide.{decLt}
+use native.Mathlib.Omega.{arith}
 use lib.ListN.{length}
 use lib.Ieee.{Float}
 use lib.Ieee.Positive.{num, den, den-pos}
@@ -18,7 +17,6 @@ use Rattle.facts.proofs.Numbers.{shift-one}
 use Rattle.answer.specs.declared.Answer.{Answer}
 use Rattle.answer.specs.declared.Answer.the-variants.{Done, Unusable, OutputShort}
 use Rattle.answer.specs.Number.{isDone}
-use Rattle.command.specs.declared.PointCommand.{PointCommand}
 use Rattle.command.specs.Packing.{packOf}
 use Rattle.point.specs.declared.Setting.{Setting}
 use Rattle.point.specs.declared.Setting.the-variants.{Screen, Knife}
@@ -32,12 +30,12 @@ use Rattle.tables.specs.Tables.{SplineTable, quadRowAt, splineAt}
 use Rattle.tables.specs.Run.{World}
 use Rattle.tables.proofs.RunningSums.{Grows, grows-reaches, up-below}
 use Rattle.tables.proofs.Growth.{whole-before}
-use Rattle.tables.proofs.Spans.{sumAt, span-total}
+use Rattle.tables.proofs.Spans.{sumAt, span-total, few-quads}
 use Rattle.tables.proofs.Sound.{Sound, cut-le}
-use Rattle.tables.proofs.Owners.{Home, home, home-owner, owned, sum-round, zero-straight, not-both}
+use Rattle.tables.proofs.Owners.{home, home-owner, owned, sum-round, zero-straight, not-both}
 use Rattle.walk.specs.Walk.{Item, subdivisionsOf, stepSizeOf, startsOf, cursorStartOf, cursorAfter, splineItemsOf, walkFrom, walkOf, wordOf, wordsOf}
 use Rattle.flatten.specs.Flatten.{Flattening, Output, flattened, flattening, fitsOutput, writeOutput, walked, tabled, flattenDrawable, flattenOf}
-use Rattle.promises.specs.Accepted.{Job, flatteningOf, Accepted, walkIn, pieceOf}
+use Rattle.promises.specs.Accepted.{Job, flatteningOf, walkIn, pieceOf}
 use Rattle.promises.specs.Demand3.{StepOf, LastQuad, splineOfQuad, sumOfQuad, Between, Spread, QuadHasStep}
 use Rattle.promises.specs.StraightRound.{FirstQuad}
 use Rattle.promises.specs.SplineQuads.{firstQuad, quadCount, InRange, Ranges, RangesHold, LinesHaveNone, KnifeStays, KnifeSteps, StepsOfQuads, KnifeQuads}
@@ -47,7 +45,7 @@ use Rattle.promises.proofs.Decoding.{capsOf, job-sound}
 use Rattle.promises.proofs.Walking.{commandOf, piece-commands}
 use Rattle.promises.proofs.Arrivals.{Ends, starts-exactly}
 use Rattle.promises.proofs.Cursor.{Reached, reached-first, reached-early, reached-last}
-use Rattle.promises.proofs.Steps.{Exact, FallsIn, span-to, step-falls, step-inside, step-stays, gets-step, home-ends, knife-exact, stays-exact, spread-steps}
+use Rattle.promises.proofs.Steps.{Exact, span-to, step-falls, step-inside, step-stays, gets-step, home-ends, knife-exact, stays-exact, spread-steps}
 
 -- ---- what holds of the tables of a run, whatever else, and of the tables as they came if the drawing is not usable, holds on every answer
 on-every : (job : Job) (P : Flattening → Type 0)
@@ -93,6 +91,9 @@ module _ (caps : Capacities) (w : World) (S : Sound caps w) (answer : Answer) (p
         next = λ k h. S .ranged (suc k) h .first ∙ sym (range-end k (le-of-lt h));
         last = λ k e. sym (S .all) ∙ ap (S .cut) (sym e) ∙ sym (range-end k (le-of-eq e));
         none = λ e. sym (S .all) ∙ ap (S .cut) e ∙ S .first;
+        few = λ k h.
+            at-most (S .cut k) (quadCount f k) (S .cut (suc k)) (S .ranged k h .count)
+            (few-quads (quadRowAt (w .quads)) (splineAt (w .splines) k .curvature) (S .cut k) (S .cut (suc k)) k (S .span k h));
         own = λ i h.
             let H = home caps w S i h in
             subst (λ (k : ℕ). InRange f k i) (sym (home-owner caps w S i H)) (in-range (H .spline) i (H .inside) (H .low) (H .high));
@@ -102,6 +103,9 @@ module _ (caps : Capacities) (w : World) (S : Sound caps w) (answer : Answer) (p
             let u = lt-of-lt-of-le (R .below) (le-of-eq (range-end k h)) in
             (lt-of-lt-of-le u (cut-le caps w S (suc k) h), S .span k h .owned i l u);
       }
+    where
+      at-most : (lo n hi : ℕ) → lo + n ≡ hi → hi ≤ lo + 65536 → n ≤ 65536
+      at-most lo n hi e h = omega arith
 
   lines-none : (k : ℕ) → k < w .state .splines → (splineKindOf (splineAt (w .splines) k) ≡ Straight) ↔ (quadCount f k ≡ 0)
   lines-none k h = elim (span-total (quadRowAt (w .quads)) (row .curvature) (S .cut k) (S .cut (suc k)) k (S .span k h)) [
@@ -168,6 +172,7 @@ nothing job =
       next = λ k h. absurd (not-suc-le-zero h);
       last = λ k e. absurd (not-suc-le-zero (le-of-eq e));
       none = λ e. refl;
+      few = λ k h. absurd (not-suc-le-zero h);
       own = λ i h. absurd (not-suc-le-zero h);
       alone = λ k i R. absurd (not-suc-le-zero (R .spline));
     }
@@ -326,8 +331,8 @@ walk-words : (setting setting' : Setting) (rows : ℕ → QuadRow) (s : SplineTa
 unfolding walkFrom wordsOf
 walk-words setting setting' rows s zero k c c' = refl
 walk-words setting setting' rows s (suc n) k c c' =
-    let b = cursorStartOf setting (splineAt s k) c in
-    let b' = cursorStartOf setting' (splineAt s k) c' in
+    let b = cursorStartOf setting (splineAt s k .«first_quad») c in
+    let b' = cursorStartOf setting' (splineAt s k .«first_quad») c' in
     map-join wordOf (splineItemsOf rows s k b) _
     ∙ ap₂ (λ (x y : List ℕ). x ++ y) (piece-words rows s k b ∙ sym (piece-words rows s k b'))
     (walk-words setting setting' rows s n (k + 1) (cursorAfter rows s k b) (cursorAfter rows s k b'))
@@ -337,9 +342,9 @@ pub no-word-changes : NoWordChanges
 unfolding walkOf
 no-word-changes rows s n = walk-words Knife Screen rows s n 0 0 0
 
-screen-starts : (row : SplineRow) (c : ℕ) → cursorStartOf Screen row c ≡ c
+screen-starts : (first c : ℕ) → cursorStartOf Screen first c ≡ c
 unfolding cursorStartOf
-screen-starts row c = refl
+screen-starts first c = refl
 
 -- where the cursor comes to each spline at its first quad, the walk is the screen's
 module _ (setting : Setting) (caps : Capacities) (w : World) (S : Sound caps w) (points : ℕ) (o : Output)
@@ -358,7 +363,7 @@ module _ (setting : Setting) (caps : Capacities) (w : World) (S : Sound caps w) 
       ap (λ (b : ℕ). items b ++ from setting n (k + 1) (next b)) (starts-exactly caps w S setting k c l e ∙ sym e)
       ∙ ap (λ (r : List Item). items c ++ r)
       (walk-same n (k + 1) (next c) (le-trans (le-of-eq (shift-one k n)) h) (z ∙ ap (S .cut) (suc-eq-add-one k)))
-      ∙ ap (λ (b : ℕ). items b ++ from Screen n (k + 1) (next b)) (sym (screen-starts (splineAt (w .splines) k) c))
+      ∙ ap (λ (b : ℕ). items b ++ from Screen n (k + 1) (next b)) (sym (screen-starts (splineAt (w .splines) k .«first_quad») c))
     where
       far : (k n : ℕ) → k < k + suc n
       far k n = omega arith

@@ -1,7 +1,7 @@
 -- Demands 3e and 3f. The cursor comes to each spline at or before its first quad, and so passes no last quad (3e). Where a whole number lies strictly between the last two
 -- sums of each spline of two or more quads it comes to each spline at its first quad, some step falls on each quad, and none strays (3f). Assumes nothing.
 use mathlib.Core.Path.{_≡_, sym, ap, _∙_, subst}
-use mathlib.Core.Logic.{_⊎_, inl, inr}
+use mathlib.Core.Logic.{inl, inr}
 use mathlib.Core.Bool.{Bool, true, false, cond}
 use mathlib.Core.List.{List, [], _∷_, List·Memᴰ, Memᴰ·append-left, Memᴰ·append-right}
 use Prim.Native.Nat.{ℕ, suc, _+_, _-_, _*_, _≤_, _<_, zero-le}
@@ -90,7 +90,7 @@ module _ (setting : Setting) (caps : Capacities) (w : World) (S : Sound caps w) 
 
   -- ---- 3e
   piece : (comes inv : ℕ → ℕ → Type 0) → comes 0 0
-      → ((k c : ℕ) → k < w .state .splines → comes k c → inv k (cursorStartOf setting (splineAt s k) c))
+      → ((k c : ℕ) → k < w .state .splines → comes k c → inv k (cursorStartOf setting (splineAt s k .«first_quad») c))
       → ((k c : ℕ) → k < w .state .splines → inv k c → comes (suc k) (cursorAfter rows s k c))
       → (k : ℕ) → k < w .state .splines → Piece rows s inv pieces k k
   unfolding walkOf
@@ -217,7 +217,7 @@ module _ (setting : Setting) (caps : Capacities) (w : World) (S : Sound caps w) 
   pub knife-exact : setting ≡ Knife → Exact
   knife-exact e =
       piece (λ (k c : ℕ). Unit {0}) exactly tt
-      (λ k c h u. ap (λ (x : Setting). cursorStartOf x (splineAt s k) c) e ∙ starts-exact caps w S k c h) (λ k c h u. tt)
+      (λ k c h u. ap (λ (x : Setting). cursorStartOf x (splineAt s k .«first_quad») c) e ∙ starts-exact caps w S k c h) (λ k c h u. tt)
 
   -- the spline of a quad ends at some quad, at or after it
   pub home-ends : (quad : ℕ) (H : Home caps w S quad) → (L : Ends caps w S (H .spline)) × (quad ≤ L .at)

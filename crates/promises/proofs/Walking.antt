@@ -1,21 +1,19 @@
 -- Laws of the walk: cut after each End it falls into the items of each spline in turn, whose commands are Start, steps and End as the rules say, whatever the cursor is; and over
 -- sound tables every command of it can be packed. Assumes nothing.
 use mathlib.Core.Path.{_≡_, refl, sym, ap, ap₂, _∙_, subst}
-use mathlib.Core.Logic.{_⊎_, inl, inr}
+use mathlib.Core.Logic.{inl, inr}
 use mathlib.Core.Bool.{Bool, true, false, cond}
 use mathlib.Core.List.{List, [], _∷_, _++_, map, append-assoc}
 use Prim.Native.Nat.{ℕ, zero, suc, _+_, _-_, _≤_, _<_}
 use native.Mathlib.Nat.{le-trans, le-of-eq, lt-of-lt-of-le, le-of-suc-le-suc, not-suc-le-zero, zero-lt-suc, add-zero}
 use native.Mathlib.Omega.{arith}
-use lib.Dec.{T}
 use lib.ListN.{length, getD, replicate}
-use lib.Ieee.{Float, binary32, div, fits}
+use lib.Ieee.{Float, binary32}
 use lib.Ieee.Fits.{div-fits}
-use lib.Ieee.Positive.{positive, positive-finite}
-use lib.Ieee.Scale.{finite}
+use lib.Ieee.Positive.{positive-finite}
 use native.Mathlib.Numerals.{suc-eq-add-one}
 use Rattle.facts.proofs.Numbers.{shift-one}
-use Rattle.leaves.specs.Single.{_⊘_, whole32, zero32}
+use Rattle.leaves.specs.Single.{_⊘_, whole32}
 use Rattle.leaves.specs.Whole.{wholeUpOf}
 use Rattle.command.specs.declared.PointCommand.{PointCommand}
 use Rattle.command.specs.declared.PointCommand.the-variants.{Start, Incr, End}
@@ -26,10 +24,10 @@ use Rattle.primitives.specs.declared.Capacities.{Capacities}
 use Rattle.primitives.specs.declared.QuadRow.{QuadRow}
 use Rattle.tables.specs.Tables.{SplineTable, quadRowAt, splineAt}
 use Rattle.tables.specs.Run.{World}
-use Rattle.tables.proofs.RunningSums.{Sum, no-steps, up-bounds, size-real}
-use Rattle.tables.proofs.Spans.{Span, LastOf, span-total}
+use Rattle.tables.proofs.RunningSums.{no-steps, up-bounds, size-real}
+use Rattle.tables.proofs.Spans.{span-total}
 use Rattle.tables.proofs.Sound.{Sound}
-use Rattle.walk.specs.Walk.{Item, item, subdivisionsOf, stepSizeOf, startsOf, cursorStartOf, cursorAt, stepsFrom, cursorFrom, cursorAfter, splineItemsOf, walkFrom}
+use Rattle.walk.specs.Walk.{Item, item, subdivisionsOf, stepSizeOf, startsOf, cursorStartOf, cursorAt, stepsFrom, cursorAfter, splineItemsOf, walkFrom}
 use Rattle.promises.specs.Words.{isEnd, cutAfter}
 use Rattle.promises.specs.Accepted.{stepsOf, pieceOf}
 use Rattle.promises.proofs.Cutting.{All, all-append, cut-piece}
@@ -82,7 +80,7 @@ module _ (rows : ℕ → QuadRow) (s : SplineTable) where
   unfolding walkFrom cutAfter
   pieces-count setting zero k cursor = refl
   pieces-count setting (suc n) k cursor =
-      let start = cursorStartOf setting (splineAt s k) cursor in
+      let start = cursorStartOf setting (splineAt s k .«first_quad») cursor in
       let next = cursorAfter rows s k start in
       ap length (cut-spline k start (walkFrom setting rows s n (k + 1) next)) ∙ ap suc (pieces-count setting n (k + 1) next)
 
@@ -94,13 +92,13 @@ module _ (rows : ℕ → QuadRow) (s : SplineTable) where
 
   -- `comes` holds of the cursor as it comes to a spline, and `inv` as it begins there
   pub piece-at : (setting : Setting) (comes inv : ℕ → ℕ → Type 0) (n k cursor : ℕ) → comes k cursor
-      → ((j c : ℕ) → j < k + n → comes j c → inv j (cursorStartOf setting (splineAt s j) c))
+      → ((j c : ℕ) → j < k + n → comes j c → inv j (cursorStartOf setting (splineAt s j .«first_quad») c))
       → ((j c : ℕ) → j < k + n → inv j c → comes (suc j) (cursorAfter rows s j c)) → (i : ℕ) → i < n
       → Piece inv (cutAfter endsItem (walkFrom setting rows s n k cursor)) i (k + i)
   unfolding walkFrom
   piece-at setting comes inv zero k cursor h begin step i l = absurd (not-suc-le-zero l)
   piece-at setting comes inv (suc n) k cursor h begin step zero l =
-      let c = cursorStartOf setting (splineAt s k) cursor in
+      let c = cursorStartOf setting (splineAt s k .«first_quad») cursor in
       record {
         cursor = c;
         is =
@@ -112,7 +110,7 @@ module _ (rows : ℕ → QuadRow) (s : SplineTable) where
       far : (k n : ℕ) → k < k + suc n
       far k n = omega arith
   piece-at setting comes inv (suc n) k cursor h begin step (suc i) l =
-      let c = cursorStartOf setting (splineAt s k) cursor in
+      let c = cursorStartOf setting (splineAt s k .«first_quad») cursor in
       let next = cursorAfter rows s k c in
       let z =
       piece-at setting comes inv n (k + 1) next (subst (λ (x : ℕ). comes x next) (suc-eq-add-one k) (step k c (far k n) (begin k cursor (far k n) h)))
@@ -189,7 +187,7 @@ module _ (caps : Capacities) (w : World) (S : Sound caps w) (limit : caps .splin
   unfolding walkFrom
   walk-packed setting zero k cursor h = tt
   walk-packed setting (suc n) k cursor h =
-      let start = cursorStartOf setting (splineAt (w .splines) k) cursor in
+      let start = cursorStartOf setting (splineAt (w .splines) k .«first_quad») cursor in
       all-append Packed (splineItemsOf (quadRowAt (w .quads)) (w .splines) k start) _ (spline-packed k start (le-trans (far k n) h))
       (walk-packed setting n (k + 1) (cursorAfter (quadRowAt (w .quads)) (w .splines) k start) (le-trans (le-of-eq (shift-one k n)) h))
     where

@@ -36,6 +36,8 @@ pub record Ranges (f : Flattening) : Type 0 where
   pub next : (k : ℕ) → suc k < f .result .splines → firstQuad f (suc k) ≡ firstQuad f k + quadCount f k
   pub last : (k : ℕ) → suc k ≡ f .result .splines → f .result .quads ≡ firstQuad f k + quadCount f k
   pub none : f .result .splines ≡ 0 → f .result .quads ≡ 0
+  -- no count comes near the largest u32
+  pub few : (k : ℕ) → k < f .result .splines → quadCount f k ≤ 65536
   -- "A quad range belongs to exactly one spline": a quad is in the range of its spline number, and in no other
   pub own : (i : ℕ) → i < f .result .quads → InRange f (splineOfQuad f i) i
   pub alone : (k i : ℕ) → InRange f k i → (i < f .result .quads) × (splineOfQuad f i ≡ k)

@@ -1,18 +1,17 @@
 -- Laws of a spline's running sum: what a curvature above 1 makes of it when it is added and rounded, its whole number up, and the size of its steps.
 -- A value x that is finite and not negative is the fraction num x / den x. Assumes nothing.
 use mathlib.Core.Path.{_≡_, refl, sym, ap, ap₂, _∙_, subst}
-use mathlib.Core.Logic.{_⊎_, inl, inr}
-use mathlib.Core.Bool.{Bool, true, false, not, _&&_, _||_, cond, true≢false}
+use mathlib.Core.Bool.{Bool, true, false, not, _&&_, cond, true≢false}
 use Prim.Native.Nat.{ℕ, zero, suc, _+_, _-_, _*_, _/_, _%_, _^_, _≤_, _<_, zero-le}
-use native.Mathlib.Nat.{le-trans, le-of-eq, le-of-lt, lt-of-le-of-lt, lt-of-lt-of-le, mul-pos, mul-one, one-mul, zero-mul, zero-add, add-zero, mul-comm}
-use native.Mathlib.Nat.{mul-assoc, mul-right-comm, suc-mul, add-mul, mul-le-mul-right, mul-lt-mul-of-pos-right, le-of-mul-le-mul-right}
+use native.Mathlib.Nat.{le-trans, le-of-eq, le-of-lt, lt-of-le-of-lt, lt-of-lt-of-le, mul-pos, mul-one, one-mul, zero-mul, zero-add, mul-comm}
+use native.Mathlib.Nat.{mul-assoc, mul-right-comm, suc-mul, mul-le-mul-right, mul-lt-mul-of-pos-right, le-of-mul-le-mul-right}
 use native.Mathlib.Nat.{lt-of-mul-lt-mul-right, lt-of-not-le, lt-irrefl, zero-lt-suc, div-add-mod', mod-lt}
 use native.Mathlib.Omega.{arith}
 use lib.IntN.{ℤ, pos, negsuc}
-use lib.Dec.{T, leb, ltb, eqb, lit≤, lit<, ltb→lt, lt→ltb, eqb→eq, leb→le, nltb→le, eqb·suc-zero}
+use lib.Dec.{T, leb, ltb, eqb, lit≤, lit<, ltb→lt, lt→ltb, leb→le, eqb·suc-zero}
 use lib.Pow.{pow-add, pow-pos, pow-lt, pow-mono, shl-lt}
 use lib.Ieee.{Float, nan, inf, fin, binary32, up, down, round, add, div, le, lt, eq, ofInt, ofBits, fits}
-use lib.Ieee.Fits.{up-pos, down-pos, and-l, and-r, and-i, add-fits}
+use lib.Ieee.Fits.{down-pos, and-l, and-r, and-i, add-fits}
 use lib.Ieee.Bits.{is-true}
 use lib.Ieee.Exact.{HasValue, round-exact}
 use lib.Ieee.Back.{round-whole}

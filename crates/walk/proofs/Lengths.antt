@@ -74,7 +74,7 @@ walk-from-length : (setting : Setting) (rows : ℕ → QuadRow) (s : SplineTable
 unfolding walkFrom lengthFrom
 walk-from-length setting rows s zero k cursor = refl
 walk-from-length setting rows s (suc n) k cursor =
-    let start = cursorStartOf setting (splineAt s k) cursor in
+    let start = cursorStartOf setting (splineAt s k .«first_quad») cursor in
     length-append (splineItemsOf rows s k start) (walkFrom setting rows s n (k + 1) (cursorAfter rows s k start))
     ∙ ap₂ (λ (a b : ℕ). a + b) (spline-length rows s k start) (walk-from-length setting rows s n (k + 1) (cursorAfter rows s k start))
 

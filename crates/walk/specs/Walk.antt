@@ -42,9 +42,9 @@ unfoldable pub startsOf : SplineTable → ℕ → Bool
 startsOf s k = startsAfterOf k (splineAt s (k - 1)) (splineAt s k)
 
 -- The cursor begins a spline where the one before left it. 02, Six: "in the knife setting the cursor begins each spline at that first quad".
-unfoldable pub cursorStartOf : Setting → SplineRow → ℕ → ℕ
-cursorStartOf Screen row cursor = cursor
-cursorStartOf Knife row cursor = row .«first_quad»
+unfoldable pub cursorStartOf : Setting → ℕ → ℕ → ℕ
+cursorStartOf Screen first cursor = cursor
+cursorStartOf Knife first cursor = first
 
 -- "The quad cursor goes on by one at step p when p exceeds the cursor's sum"
 abbrev pub cursorAtOf : Float → Float → ℕ → ℕ
@@ -79,7 +79,7 @@ splineItemsOf rows s k cursor =
 unfoldable pub walkFrom : Setting → (ℕ → QuadRow) → SplineTable → ℕ → ℕ → ℕ → List Item
 walkFrom setting rows s zero k cursor = []
 walkFrom setting rows s (suc n) k cursor =
-    let start = cursorStartOf setting (splineAt s k) cursor in
+    let start = cursorStartOf setting (splineAt s k .«first_quad») cursor in
     splineItemsOf rows s k start ++ walkFrom setting rows s n (k + 1) (cursorAfter rows s k start)
 
 unfoldable pub walkOf : Setting → (ℕ → QuadRow) → SplineTable → ℕ → List Item

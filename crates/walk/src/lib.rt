@@ -38,13 +38,13 @@ pub fn size(sum: f32) -> f32
     sum / m as f32
 }
 
-// Where the cursor begins a spline; `cursor` is where the spline before left it.
-pub fn cursor_start(setting: Setting, row: SplineRow, cursor: usize) -> usize
-    ensures { λ r. ⌜ r ≡ cursorStartOf setting row cursor ⌝ }
+// Where the cursor begins a spline: `first` is the spline's first quad, and `cursor` where the spline before left the cursor.
+pub fn cursor_start(setting: Setting, first: usize, cursor: usize) -> usize
+    ensures { λ r. ⌜ r ≡ cursorStartOf setting first cursor ⌝ }
 {
     match setting {
         Setting::Screen => cursor,
-        Setting::Knife => row.first_quad,
+        Setting::Knife => first,
     }
 }
 

@@ -1,9 +1,9 @@
 -- `replay::put_sizes` meets its contract: what is left of the column is laid after what already is. Assumes nothing.
-use mathlib.Core.Path.{_≡_, refl, sym, ap, _∙_}
-use Prim.Native.Nat.{ℕ, _+_, _-_, _≤_}
+use mathlib.Core.Path.{_≡_, refl, ap, _∙_}
+use Prim.Native.Nat.{_+_, _-_, _≤_}
 use native.Mathlib.Omega.{arith}
 use borrow.Author.Needs.{needs}
-use lib.ListN.{length, drop, getD, set}
+use lib.ListN.{length, drop}
 use Rattle.replay.specs.Numbers.{laid, cappedOf}
 use Rattle.replay.proofs.Laying.{lay-start, lay-on, lay-short, lay-end}
 use Rattle.replay.proofs.numbers.put_sizes.Statement.{statement}
