@@ -5,7 +5,7 @@ use Prim.Native.Nat.{ℕ, zero, suc, _+_, _*_, _/_, _≤_, _<_}
 use mathlib.Core.Path.{_≡_, refl, sym, ap, ap₂, _∙_, subst}
 use mathlib.Core.Logic.{_↔_, inl, inr}
 use mathlib.Core.Bool.{Bool, true, false}
-use mathlib.Core.List.{List, [], _∷_, _++_, map}
+use mathlib.Core.List.{List, _++_, map, map-append, map-map}
 use native.Mathlib.Nat.{le-trans, le-of-eq, le-refl, le-of-lt, lt-of-lt-of-le, lt-of-le-of-lt, lt-irrefl, eq-or-lt-of-le, not-suc-le-zero, zero-add}
 use native.Mathlib.Nat.{div-mul-le-self, div-lt-iff-lt-mul, mul-le-mul-right, lt-of-mul-lt-mul-right}
 use native.Mathlib.Numerals.{suc-eq-add-one}
@@ -314,17 +314,9 @@ steps-of-quads job h knife =
 
 -- ---- what the knife's beginning changes
 -- the words of a spline are the same from every cursor
-map-twice : {A B C : Type 0} (f : A → B) (g : B → C) (l : List A) → map g (map f l) ≡ map (λ (x : A). g (f x)) l
-map-twice f g [] = refl
-map-twice f g (x ∷ l) = ap (λ (r : List _). g (f x) ∷ r) (map-twice f g l)
-
-map-join : {A B : Type 0} (f : A → B) (l m : List A) → map f (l ++ m) ≡ map f l ++ map f m
-map-join f [] m = refl
-map-join f (x ∷ l) m = ap (λ (r : List _). f x ∷ r) (map-join f l m)
-
 piece-words : (rows : ℕ → QuadRow) (s : SplineTable) (k c : ℕ) → wordsOf (splineItemsOf rows s k c) ≡ map packOf (pieceOf s k)
 unfolding wordsOf wordOf
-piece-words rows s k c = sym (map-twice commandOf packOf (splineItemsOf rows s k c)) ∙ ap (map packOf) (piece-commands rows s k c)
+piece-words rows s k c = sym (map-map packOf commandOf (splineItemsOf rows s k c)) ∙ ap (map packOf) (piece-commands rows s k c)
 
 walk-words : (setting setting' : Setting) (rows : ℕ → QuadRow) (s : SplineTable) (n k c c' : ℕ)
     → wordsOf (walkFrom setting rows s n k c) ≡ wordsOf (walkFrom setting' rows s n k c')
@@ -333,18 +325,14 @@ walk-words setting setting' rows s zero k c c' = refl
 walk-words setting setting' rows s (suc n) k c c' =
     let b = cursorStartOf setting (splineAt s k .«first_quad») c in
     let b' = cursorStartOf setting' (splineAt s k .«first_quad») c' in
-    map-join wordOf (splineItemsOf rows s k b) _
+    map-append wordOf (splineItemsOf rows s k b) _
     ∙ ap₂ (λ (x y : List ℕ). x ++ y) (piece-words rows s k b ∙ sym (piece-words rows s k b'))
     (walk-words setting setting' rows s n (k + 1) (cursorAfter rows s k b) (cursorAfter rows s k b'))
-    ∙ sym (map-join wordOf (splineItemsOf rows s k b') _)
+    ∙ sym (map-append wordOf (splineItemsOf rows s k b') _)
 
 pub no-word-changes : NoWordChanges
 unfolding walkOf
 no-word-changes rows s n = walk-words Knife Screen rows s n 0 0 0
-
-screen-starts : (first c : ℕ) → cursorStartOf Screen first c ≡ c
-unfolding cursorStartOf
-screen-starts first c = refl
 
 -- where the cursor comes to each spline at its first quad, the walk is the screen's
 module _ (setting : Setting) (caps : Capacities) (w : World) (S : Sound caps w) (points : ℕ) (o : Output)
@@ -353,7 +341,7 @@ module _ (setting : Setting) (caps : Capacities) (w : World) (S : Sound caps w) 
   from x n k c = walkFrom x (quadRowAt (w .quads)) (w .splines) n k c
 
   walk-same : (n k c : ℕ) → k + n ≤ w .state .splines → c ≡ S .cut k → from setting n k c ≡ from Screen n k c
-  unfolding walkFrom
+  unfolding walkFrom cursorStartOf
   walk-same zero k c h e = refl
   walk-same (suc n) k c h e =
       let l = le-trans (far k n) h in
@@ -363,7 +351,6 @@ module _ (setting : Setting) (caps : Capacities) (w : World) (S : Sound caps w) 
       ap (λ (b : ℕ). items b ++ from setting n (k + 1) (next b)) (starts-exactly caps w S setting k c l e ∙ sym e)
       ∙ ap (λ (r : List Item). items c ++ r)
       (walk-same n (k + 1) (next c) (le-trans (le-of-eq (shift-one k n)) h) (z ∙ ap (S .cut) (suc-eq-add-one k)))
-      ∙ ap (λ (b : ℕ). items b ++ from Screen n (k + 1) (next b)) (sym (screen-starts (splineAt (w .splines) k .«first_quad») c))
     where
       far : (k n : ℕ) → k < k + suc n
       far k n = omega arith

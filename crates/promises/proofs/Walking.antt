@@ -3,7 +3,7 @@
 use mathlib.Core.Path.{_≡_, refl, sym, ap, ap₂, _∙_, subst}
 use mathlib.Core.Logic.{inl, inr}
 use mathlib.Core.Bool.{Bool, true, false, cond}
-use mathlib.Core.List.{List, [], _∷_, _++_, map, append-assoc}
+use mathlib.Core.List.{List, [], _∷_, _++_, map, append-assoc, map-append}
 use Prim.Native.Nat.{ℕ, zero, suc, _+_, _-_, _≤_, _<_}
 use native.Mathlib.Nat.{le-trans, le-of-eq, lt-of-lt-of-le, le-of-suc-le-suc, not-suc-le-zero, zero-lt-suc, add-zero}
 use native.Mathlib.Omega.{arith}
@@ -131,16 +131,12 @@ module _ (rows : ℕ → QuadRow) (s : SplineTable) where
   steps-commands size zero p cursor = refl
   steps-commands size (suc n) p cursor = ap (λ (x : List PointCommand). Incr size ∷ x) (steps-commands size n (p + 1) (cursorAt rows p cursor))
 
-  map-append : (s t : List Item) → map commandOf (s ++ t) ≡ map commandOf s ++ map commandOf t
-  map-append [] t = refl
-  map-append (a ∷ s) t = ap (λ (x : List PointCommand). a .command ∷ x) (map-append s t)
-
   pub piece-commands : (k cursor : ℕ) → map commandOf (splineItemsOf rows s k cursor) ≡ pieceOf s k
   unfolding splineItemsOf pieceOf
   piece-commands k cursor =
-      map-append (cond (startsOf s k) (item (Start k) 0 0 ∷ []) []) _
+      map-append commandOf (cond (startsOf s k) (item (Start k) 0 0 ∷ []) []) _
       ∙ ap₂ (λ (x y : List PointCommand). x ++ y) (start (startsOf s k))
-      (map-append (stepsFrom rows (stepSizeOf s k) (stepsOf s k) 1 cursor) _
+      (map-append commandOf (stepsFrom rows (stepSizeOf s k) (stepsOf s k) 1 cursor) _
       ∙ ap (λ (x : List PointCommand). x ++ (End k (splineAt s k .contour) ∷ [])) (steps-commands (stepSizeOf s k) (stepsOf s k) 1 cursor))
     where
       start : (b : Bool) → map commandOf (cond b (item (Start k) 0 0 ∷ []) []) ≡ cond b (Start k ∷ []) []
