@@ -11,5 +11,5 @@ s/(to-row i/(to-row 0/g
 s/(goes i)/(goes 0)/
 s/(With i)/(With 0)/
 s/(fsep (usize .own i (vint w64 i ∷ \[\])) ftrue) (number i (i-fits less))/(fsep (usize .own 0 (vint w64 0 ∷ [])) ftrue) (number 0 (lit< tt))/
-s/(and-then ! (load ! (from ! (stop !)) (look ! 28 refl)) (no-more !))/(and-then ! (lit ! tt) (no-more !))/
+s/(and-then ! (load ! (from ! (stop !)) (look ! 32 refl)) (no-more !))/(and-then ! (lit ! tt) (no-more !))/
 }

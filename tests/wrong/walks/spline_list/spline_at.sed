@@ -8,9 +8,9 @@ s/(init ! 8 refl (tt, record { fits = gn .0 }))/(init ! 6 refl (tt, record { fit
 s/(look ! 10 refl)) (load ! (from ! (stop !)) (look ! 8 refl)) tt)/(look ! 8 refl)) (load ! (from ! (stop !)) (look ! 6 refl)) tt)/
 s/(init ! 6 refl (tt, tt)) \$/(init ! 4 refl (tt, tt)) $/
 s/branches ! (load ! (from ! (stop !)) (look ! 6 refl))/branches ! (load ! (from ! (stop !)) (look ! 4 refl))/
-/(lit ! tt) (fits24 less)/d
+/(lit ! tt) (fits40 less)/d
 s/(load ! (from ! (stop !)) (look ! 4 refl)) tt)$/(lit ! tt) tt)/
-s/fat fullShare tyPtr l₆ 0 (vptr b p))) (sym (place-is 24 o i))/fat fullShare tyPtr l₅ 0 (vptr b p))) (sym (place-is 24 o 0))/
+s/fat fullShare tyPtr l₆ 0 (vptr b p))) (sym (place-is 40 o i))/fat fullShare tyPtr l₅ 0 (vptr b p))) (sym (place-is 40 o 0))/
 s/move ! (17 ∷ \[\]) \$/move ! (15 ∷ []) $/
 s/move ! (20 ∷ \[\]) \$/move ! (18 ∷ []) $/
 s/q′ ys i blank/q′ ys 0 blank/
@@ -26,5 +26,5 @@ s/move ! (15 ∷ 16 ∷ \[\]) \$ free1 ! \$ //
 }
 s/inside : Holds (ltb i (length ys)) → i < length ys/inside : Holds (ltb i (length ys)) → 0 < length ys/
 s/inside less = ltb→lt i (length ys) less/inside less = let h = ltb→lt i (length ys) less in omega arith/
-/^        fits24 /d
+/^        fits40 /d
 s/(sym (lt-ltb i (length ys) (inside less)))/(sym (lt-ltb i (length ys) (ltb→lt i (length ys) less)))/
