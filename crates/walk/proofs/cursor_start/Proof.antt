@@ -12,11 +12,11 @@ enum-told-2 c = search needs
 
 returns : tie.Need-returns
 unfolding cursorStartOf
-returns c = cc
+returns c = rw (c .enum-told .given .1)
 
 returns-2 : tie.Need-returns-2
 unfolding cursorStartOf
-returns-2 c = cc
+returns-2 c = rw (c .enum-told2 .given .1)
 
 pub cursor-start-spec : {M : Type 1} → statement M
 cursor-start-spec = tie.close (tie.spec enum-told enum-told-2 returns returns-2)
