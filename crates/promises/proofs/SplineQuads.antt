@@ -39,13 +39,13 @@ use Rattle.promises.specs.Accepted.{Job, flatteningOf, walkIn, pieceOf}
 use Rattle.promises.specs.Demand3.{StepOf, LastQuad, splineOfQuad, sumOfQuad, Between, Spread, QuadHasStep}
 use Rattle.promises.specs.StraightRound.{FirstQuad}
 use Rattle.promises.specs.SplineQuads.{firstQuad, quadCount, InRange, Ranges, RangesHold, LinesHaveNone, KnifeStays, KnifeSteps, StepsOfQuads, KnifeQuads}
-use Rattle.promises.specs.SplineQuads.{GrownByOne, FailsWhereWhole, NoWordChanges, NoPointChanges, retold, ScreenReadsNeither}
+use Rattle.promises.specs.SplineQuads.{SumsGrow, GrownByOne, FailsWhereWhole, NoWordChanges, NoPointChanges, retold, ScreenReadsNeither}
 use Rattle.promises.proofs.Flattened.{worldOf, itemsIn, finishedOf, passed}
 use Rattle.promises.proofs.Decoding.{capsOf, job-sound}
 use Rattle.promises.proofs.Walking.{commandOf, piece-commands}
 use Rattle.promises.proofs.Arrivals.{Ends, starts-exactly}
 use Rattle.promises.proofs.Cursor.{Reached, reached-first, reached-early, reached-last}
-use Rattle.promises.proofs.Steps.{Exact, span-to, step-falls, step-inside, step-stays, gets-step, home-ends, knife-exact, stays-exact, spread-steps}
+use Rattle.promises.proofs.Steps.{Exact, span-to, step-falls, step-inside, step-stays, gets-step, home-ends, knife-exact, stays-exact, demand3f}
 
 -- ---- what holds of the tables of a run, whatever else, and of the tables as they came if the drawing is not usable, holds on every answer
 on-every : (job : Job) (P : Flattening → Type 0)
@@ -185,6 +185,11 @@ lines-have-none job =
     on-every job (λ (f : Flattening). (k : ℕ) → k < f .result .splines → (splineKindOf (splineAt (f .splines) k) ≡ Straight) ↔ (quadCount f k ≡ 0))
     (λ k h. absurd (not-suc-le-zero h)) (lines-none (capsOf job) (worldOf job) (job-sound job))
 
+pub sums-grow : SumsGrow
+sums-grow job =
+    on-every job (λ (f : Flattening). (i : ℕ) → suc i < f .result .quads → splineOfQuad f (suc i) ≡ splineOfQuad f i → Grows (sumOfQuad f i) (sumOfQuad f (suc i)))
+    (λ i h. absurd (not-suc-le-zero h)) (grown (capsOf job) (worldOf job) (job-sound job))
+
 pub condition-fails : FailsWhereWhole
 condition-fails job =
     on-every job (λ (f : Flattening). (i : ℕ) → suc i < f .result .quads → splineOfQuad f (suc i) ≡ splineOfQuad f i
@@ -299,12 +304,9 @@ stays-in-range job h knife k i =
     subst (λ (f : Flattening). StepOf (job .setting) f k i → InRange f k (i .quad)) (sym (passed job h .result))
     (knife-stays (job .setting) knife (capsOf job) (worldOf job) (job-sound job) (finishedOf job .result .points) (finishedOf job .output) k i)
 
+-- that half of demand 3f, which holds in both settings
 pub steps-where-spread : KnifeSteps
-unfolding walked
-steps-where-spread job h knife =
-    subst (λ (f : Flattening). Spread f → (quad : ℕ) → quad < f .result .quads → QuadHasStep (job .setting) f quad) (sym (passed job h .result))
-    (λ s. spread-steps (job .setting) (capsOf job) (worldOf job) (job-sound job) (finishedOf job .result .points) (finishedOf job .output) s
-    (exact (job .setting) knife (capsOf job) (worldOf job) (job-sound job) (finishedOf job .result .points) (finishedOf job .output)))
+steps-where-spread job h knife s = demand3f job h s .has-step
 
 pub steps-of-quads : KnifeQuads
 unfolding walked

@@ -257,17 +257,17 @@ module _ (setting : Setting) (caps : Capacities) (w : World) (S : Sound caps w) 
     spread-exact : Exact
     spread-exact = piece exactly exactly (sym (S .first)) (starts-exactly caps w S setting) stays-exact
 
-    pub spread-steps : Exact → (quad : ℕ) → quad < w .state .quads → QuadHasStep setting left quad
-    spread-steps exact quad l =
+    spread-steps : (quad : ℕ) → quad < w .state .quads → QuadHasStep setting left quad
+    spread-steps quad l =
         let H = home caps w S quad l in
         let E = home-ends quad H in
         let k = H .spline in
         let L = E .0 in
-        gets-step exact k (H .inside) L quad
+        gets-step spread-exact k (H .inside) L quad
         (reached rows (total k) (S .cut k) (L .at) k (ups k) (span-to k (H .inside) L) (L .inside) (L .sum) (L .up) (between k (H .inside) L) quad (H .low) (E .1))
 
     pub no-stray : NoStray setting left
-    no-stray = record { has-step = spread-steps spread-exact; stays = step-stays spread-exact }
+    no-stray = record { has-step = spread-steps; stays = step-stays spread-exact }
 
 -- ---- 3e and 3f for an accepted drawing
 pub demand3e : Demand3e

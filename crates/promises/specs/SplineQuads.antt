@@ -48,7 +48,8 @@ RangesHold = (job : Job) → Ranges (flatteningOf job)
 -- a spline is of lines, as its sum tells, exactly if it has no quad
 abbrev pub LinesHaveNone : Type 0
 LinesHaveNone =
-    (job : Job) (k : ℕ) → k < flatteningOf job .result .splines → (splineKindOf (splineAt (flatteningOf job .splines) k) ≡ Straight) ↔ (quadCount (flatteningOf job) k ≡ 0)
+    (job : Job) (k : ℕ) → let f = flatteningOf job in
+    k < f .result .splines → (splineKindOf (splineAt (f .splines) k) ≡ Straight) ↔ (quadCount f k ≡ 0)
 
 -- ---- demand 3f in the knife setting, in two parts
 -- "without it no step strays any more"
@@ -72,14 +73,21 @@ pub record StepsOfQuads (setting : Setting) (f : Flattening) : Type 0 where
 abbrev pub KnifeQuads : Type 0
 KnifeQuads = (job : Job) → Accepted job → job .setting ≡ Knife → StepsOfQuads (job .setting) (flatteningOf job)
 
--- ---- where the condition fails
+-- ---- where the condition fails, for two quads of one spline that follow each other, on every answer
+-- the second sum is the first plus 1, or more
+abbrev pub SumsGrow : Type 0
+SumsGrow =
+    (job : Job) (i : ℕ) → let f = flatteningOf job in
+    suc i < f .result .quads → splineOfQuad f (suc i) ≡ splineOfQuad f i
+    → (num (sumOfQuad f i) + den (sumOfQuad f i)) * den (sumOfQuad f (suc i)) ≤ num (sumOfQuad f (suc i)) * den (sumOfQuad f i)
+
 -- x is a whole number, and y the next one
 pub record GrownByOne (x y : Float) : Type 0 where
   pub whole : ℕ
   pub before : num x ≡ whole * den x
   pub after : num y ≡ suc whole * den y
 
--- for two quads of one spline that follow each other, on every answer
+-- so no whole number lies strictly between them exactly where a whole sum has grown by exactly 1
 abbrev pub FailsWhereWhole : Type 0
 FailsWhereWhole =
     (job : Job) (i : ℕ) → let f = flatteningOf job in
