@@ -27,7 +27,7 @@ use Rattle.primitives.specs.declared.SplineEdit.{SplineEdit}
 use Rattle.primitives.specs.declared.Edit.{Edit}
 use Rattle.primitives.specs.declared.Edit.the-variants.{Keep, Extend, Bend}
 use Rattle.primitives.specs.Quads.{curveOf}
-use Rattle.primitives.specs.Splines.{stateOf, opensOf, lineAngleOf, sumBefore, splineEditOf}
+use Rattle.primitives.specs.Splines.{stateOf, opensOf, lineAngleOf, moveAngleOf, sumBefore, splineEditOf}
 
 -- a refusal keeps all but the answer
 unfoldable pub refusedOf : State → Answer → State
@@ -35,7 +35,7 @@ refusedOf st answer = stateOf answer (st .splines) (st .quads) (st .mark) (st .l
 
 -- `push_contour`: a mark waits
 unfoldable pub markedOf : Setting → State → State
-markedOf setting st = stateOf (st .answer) (st .splines) (st .quads) true (st .last)
+markedOf setting st = stateOf (st .answer) (st .splines) (st .quads) true (moveAngleOf setting (st .last))
 
 -- `push_line`
 unfoldable pub planLineOf : Setting → Capacities → State → SplineRow → Point → Point → Edit

@@ -53,6 +53,11 @@ lineAngleOf Screen last angle = angle
 lineAngleOf Knife last Missing = last
 lineAngleOf Knife last (Known a) = Known a
 
+-- The last angle after a Move. 02, Eight: "a stale angle from the contour before can decide a merge, so there a Move forgets the last angle."
+unfoldable pub moveAngleOf : Setting → Angle → Angle
+moveAngleOf Screen last = last
+moveAngleOf Knife last = Missing
+
 -- "A spline's sum starts at 0."
 unfoldable pub sumBefore : Bool → SplineRow → Float
 sumBefore opens last = cond opens zero32 (last .curvature)

@@ -11,6 +11,7 @@ use crate::State;
 use crate::Three;
 use crate::quads::curve;
 use crate::splines::line_angle;
+use crate::splines::move_angle;
 use crate::splines::opens;
 use crate::splines::spline_edit;
 use crate::splines::sum_before;
@@ -39,12 +40,13 @@ fn refused(st: State, answer: Answer) -> State
     }
 }
 
-// push_contour: a mark waits. This is the same in both settings.
+// push_contour: a mark waits.
 fn marked(setting: Setting, st: State) -> State
     ensures { λ r. ⌜ r ≡ markedOf setting st ⌝ }
 {
     let answer = st.answer;
-    let last = st.last;
+    let before = st.last;
+    let last = move_angle(setting, before);
     State {
         answer,
         splines: st.splines,

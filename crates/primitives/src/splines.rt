@@ -11,7 +11,7 @@ use point::changed;
 ghost use mathlib.Core.Bool.{true};
 ghost use mathlib.Core.Path.{_≡_};
 ghost use Prim.Native.Nat.{_-_, _<_};
-ghost use Rattle.primitives.specs.Splines.{farOf, splineKindOf, apartOf, opensOf, lineAngleOf, sumBefore, quadCountOf, splineEditOf};
+ghost use Rattle.primitives.specs.Splines.{farOf, splineKindOf, apartOf, opensOf, lineAngleOf, moveAngleOf, sumBefore, quadCountOf, splineEditOf};
 
 // The square of MAX_ERROR, 0.0625.
 const MAX_ERROR_SQUARED: f32 = 0.00390625;
@@ -83,6 +83,16 @@ pub fn line_angle(setting: Setting, last: Angle, angle: Angle) -> Angle
             Angle::Missing => last,
             Angle::Known(a) => Angle::Known(a),
         },
+    }
+}
+
+// The last angle after a Move: the knife forgets it, so that no contour knows the one before.
+pub fn move_angle(setting: Setting, last: Angle) -> Angle
+    ensures { λ r. ⌜ r ≡ moveAngleOf setting last ⌝ }
+{
+    match setting {
+        Setting::Screen => last,
+        Setting::Knife => Angle::Missing,
     }
 }
 

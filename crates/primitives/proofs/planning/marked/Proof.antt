@@ -6,7 +6,7 @@ use Rattle.primitives.proofs.planning.marked.Tie as tie
 
 returns : tie.Need-returns
 unfolding markedOf
-returns c = refl
+returns c = rw (← c .move-angle .ensures)
 
 pub marked-spec : {M : Type 1} → statement M
 marked-spec = tie.close (tie.spec returns)
