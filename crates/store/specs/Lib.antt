@@ -4,3 +4,5 @@ pub mod Drawing
 pub mod Plan
 pub mod Replay
 pub mod Drawable
+pub mod Contours
+pub mod OwnCalls
