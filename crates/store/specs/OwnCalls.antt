@@ -75,8 +75,8 @@ DrawnBy d calls =
 abbrev pub Pairwise : {A B : Type 0} → (A → B → Type 0) → List A → List B → Type 0
 Pairwise R [] [] = Unit {0}
 Pairwise R [] (b ∷ bs) = ⊥
-Pairwise R (a ∷ as) [] = ⊥
-Pairwise R (a ∷ as) (b ∷ bs) = R a b × Pairwise R as bs
+Pairwise R (a ∷ rest) [] = ⊥
+Pairwise R (a ∷ rest) (b ∷ bs) = R a b × Pairwise R rest bs
 
 -- Each contour of a drawing is what its own calls draw alone. A fresh drawing is a Move at (0,0).
 abbrev pub ContoursDrawn : Type 0
