@@ -61,7 +61,7 @@ pub record Drew (setting : Setting) (kind : Kind) (start end : Point) (first aft
 
 module _ (setting : Setting) (caps : Capacities) (w : World) where
   -- ---- a primitive by what it comes to
-  comes-to : (p : Primitive) (x : Shape) → shapeOf p ≡ x
+  pub comes-to : (p : Primitive) (x : Shape) → shapeOf p ≡ x
       → pushOf setting caps p w ≡ applyOf (planShapeOf setting caps (w .state) (lastOf w) x) (w .quads) (w .splines)
   unfolding pushOf
   comes-to p x e =
@@ -74,7 +74,7 @@ module _ (setting : Setting) (caps : Capacities) (w : World) where
   dropped p e = comes-to p shape.Nothing e
 
   -- a test that was passed, since nothing was refused
-  passes : (t : Bool) (a : Answer) (x : Edit) → isDone a ≡ false
+  pub passes : (t : Bool) (a : Answer) (x : Edit) → isDone a ≡ false
       → isDone (applyOf (cond t (Keep (refusedOf (w .state) a)) x) (w .quads) (w .splines) .state .answer) ≡ true → t ≡ false
   unfolding applyOf refusedOf
   passes true a x n d = absurd (true≢false (sym d ∙ n))

@@ -16,3 +16,8 @@ pub mod Owners
 pub mod Rounds
 pub mod Drawn
 pub mod KindLaws
+pub mod Standing
+pub mod SplineRows
+pub mod Verdicts
+pub mod Beside
+pub mod Stepping
