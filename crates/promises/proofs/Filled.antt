@@ -22,14 +22,14 @@ use Rattle.primitives.specs.Splines.{splineEditOf}
 use Rattle.primitives.specs.Plan.{refusedOf, markedOf, planOf}
 use Rattle.tables.specs.Run.{World, applyOf, pushOf, runOf}
 use Rattle.tables.specs.Commands.{primitivesOf, tablesOf}
+use Rattle.tables.proofs.Runs.{next-is}
+use Rattle.tables.proofs.Moves.{taken}
 use Rattle.tables.proofs.Pushes.{Pushed, kept, marked, lined, bent, pushed}
 use Rattle.flatten.specs.Flatten.{Flattening, walked}
 use Rattle.promises.specs.FlattenAnswers.{legOf, first-missing, second-missing}
 use Rattle.promises.specs.StraightRound.{DrawnAs, line, as-line, quad, Dropped, both-missing, splinesAfter, NoneEmpty}
 use Rattle.promises.proofs.Flattened.{passed}
 use Rattle.promises.proofs.Decoding.{capsOf}
-use Rattle.promises.proofs.Refusals.{next-is}
-use Rattle.promises.proofs.Joints.{taken}
 use Rattle.promises.proofs.Corners.{start}
 use Rattle.promises.proofs.Counting.{dropped-push}
 

@@ -34,11 +34,10 @@ use Rattle.tables.specs.Run.{World, world, applyOf, pushOf, runOf}
 use Rattle.tables.proofs.Pushes.{lastOf, isMark, splineEdit, Pushed, kept, marked, lined, bent, pushed}
 use Rattle.tables.proofs.Sound.{Sound, sound-push, sound-run, last-is, pred-suc}
 use Rattle.tables.proofs.Flags.{flagAt, Closes, Flagged, nextOf, Met, flagged-run}
-use Rattle.tables.proofs.Runs.{run-append}
-use Rattle.tables.proofs.Moves.{run-done, run-grows}
+use Rattle.tables.proofs.Runs.{next-is, run-append}
+use Rattle.tables.proofs.Moves.{taken, run-grows}
 use Rattle.tables.proofs.Ends.{Wide, start-new, start-same, start-stays, end-stays}
 use Rattle.tables.proofs.Drawn.{Drew, After, drew-straight, after-drawn}
-use Rattle.promises.proofs.Refusals.{next-is}
 
 -- ---- a joint: spline k ends in p, and the next one begins in q
 pub record Joint (k : ℕ) (p q : Point) (w : World) : Type 0 where
@@ -154,16 +153,6 @@ module _ {setting : Setting} {caps : Capacities} {p q : Point} {w w' : World} {l
 
 -- ---- a run
 module _ (setting : Setting) (caps : Capacities) where
-  -- a run that is done took its first primitive
-  pub taken : (p : Primitive) (ps : List Primitive) (w : World) → isDone (runOf setting caps (p ∷ ps) w .state .answer) ≡ true
-      → (isDone (w .state .answer) ≡ true) × (isDone (pushOf setting caps p w .state .answer) ≡ true)
-      × (runOf setting caps (p ∷ ps) w ≡ runOf setting caps ps (pushOf setting caps p w))
-  unfolding runOf
-  taken p ps w d =
-      let done = run-done setting caps [] (p ∷ ps) w d in
-      let e = next-is setting caps p ps w done in
-      (done, run-done setting caps [] ps (pushOf setting caps p w) (ap (λ (u : World). isDone (u .state .answer)) (sym e) ∙ d), e)
-
   -- at a Move there are no fewer splines than at first
   met-late : (ps : List Primitive) (w : World) (m : ℕ) → Met setting caps ps w m → w .state .splines ≤ m
   unfolding runOf

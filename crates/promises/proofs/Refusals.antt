@@ -29,7 +29,7 @@ use Rattle.primitives.specs.Plan.{refusedOf, markedOf}
 use Rattle.tables.specs.Run.{World, world, applyOf, pushOf, runOf}
 use Rattle.tables.proofs.Pushes.{Pushed, kept, marked, lined, bent, pushed}
 use Rattle.tables.proofs.Sound.{Sound, sound-push}
-use Rattle.tables.proofs.Runs.{run-append, run-stop as run-stays}
+use Rattle.tables.proofs.Runs.{next-is, run-append, run-stop as run-stays}
 use Rattle.promises.specs.DrawingAnswers.{UnusableStore, uneven-y, uneven-weight, points-over, commands-over, Outside}
 use Rattle.promises.specs.FlattenAnswers.{Undrawable, unusable, unknown, no-move, other-sum, weight-outside, x-outside, y-outside, Refuses, RefusedIn}
 use Rattle.promises.proofs.Telling.{Tells, tells-as, passes, tells-and, tells-leb, tells-eqb, tells-outside, Some, tells-every}
@@ -38,10 +38,6 @@ use Rattle.promises.proofs.Refusing.{refuses-answer, push-told, refuses
 
 -- ---- the run
 module _ (setting : Setting) (caps : Capacities) where
-  pub next-is : (p : Primitive) (ps : List Primitive) (w : World) → isDone (w .state .answer) ≡ true → runOf setting caps (p ∷ ps) w ≡ runOf setting caps ps (pushOf setting caps p w)
-  unfolding runOf
-  next-is p ps w h = ap (λ (b : Bool). runOf setting caps ps (cond b (pushOf setting caps p w) w)) h
-
   -- a run that is refused ends with the refused primitive
   refused-run : (ps : List Primitive) (w : World) (a : Answer) (R : RefusedIn setting caps ps w a) → runOf setting caps ps w ≡ pushOf setting caps (R .primitive) (runOf setting caps (R .before) w)
   refused-run ps w a R =

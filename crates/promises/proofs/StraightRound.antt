@@ -26,7 +26,8 @@ use Rattle.store.specs.Columns.{storedPointOf}
 use Rattle.tables.specs.Commands.{commandPrimitivesOf, primitivesFrom, primitivesOf, tablesOf}
 use Rattle.tables.proofs.Pushes.{lastOf, pushed}
 use Rattle.tables.proofs.Sound.{Sound, sound-push, sound-run, sound-start, last-is, cut-le}
-use Rattle.tables.proofs.Runs.{run-append}
+use Rattle.tables.proofs.Runs.{next-is, run-append}
+use Rattle.tables.proofs.Moves.{taken}
 use Rattle.tables.proofs.Owners.{owned-round, round-quads, not-both}
 use Rattle.tables.proofs.Rounds.{Rounds, rounds}
 use Rattle.tables.proofs.Drawn.{Drew, after-drawn, dropped}
@@ -43,8 +44,7 @@ use Rattle.promises.specs.StraightRound.{LineAndQuad, line-first, quad-f
 use Rattle.promises.proofs.Flattened.{worldOf, finishedOf, Passed, passed}
 use Rattle.promises.proofs.Decoding.{capsOf, job-sound}
 use Rattle.promises.proofs.Arrivals.{ends}
-use Rattle.promises.proofs.Refusals.{next-is}
-use Rattle.promises.proofs.Joints.{taken, now, Pair}
+use Rattle.promises.proofs.Joints.{now, Pair}
 use Rattle.promises.proofs.Ends.{start-written, end-written}
 use Rattle.promises.proofs.Corners.{start, turned-in, turned-joint, rest, primitives-split}
 use Rattle.promises.proofs.Counting.{Here, here, dropped-run, not-mark}

@@ -61,7 +61,7 @@ pub record Drew (setting : Setting) (kind : Kind) (start end : Point) (first aft
 
 module _ (setting : Setting) (caps : Capacities) (w : World) where
   -- ---- a primitive by what it comes to
-  pub comes-to : (p : Primitive) (x : Shape) → shapeOf p ≡ x
+  comes-to : (p : Primitive) (x : Shape) → shapeOf p ≡ x
       → pushOf setting caps p w ≡ applyOf (planShapeOf setting caps (w .state) (lastOf w) x) (w .quads) (w .splines)
   unfolding pushOf
   comes-to p x e =

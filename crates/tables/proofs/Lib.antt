@@ -21,3 +21,4 @@ pub mod SplineRows
 pub mod Verdicts
 pub mod Beside
 pub mod Stepping
+pub mod Pushing

@@ -37,7 +37,17 @@ module _ (setting : Setting) (caps : Capacities) where
       go false e = sym (ap (λ (v : World). isDone (v .state .answer))
           (Runs.run-append setting caps ps qs w ∙ Runs.run-stop setting caps qs (runOf setting caps ps w) e)) ∙ h
 
-  -- ---- the number of splines never falls
+  -- a run that is done took its first primitive
+  pub taken : (p : Primitive) (ps : List Primitive) (w : World) → isDone (runOf setting caps (p ∷ ps) w .state .answer) ≡ true
+      → (isDone (w .state .answer) ≡ true) × (isDone (pushOf setting caps p w .state .answer) ≡ true)
+      × (runOf setting caps (p ∷ ps) w ≡ runOf setting caps ps (pushOf setting caps p w))
+  unfolding runOf
+  taken p ps w d =
+      let done = run-done [] (p ∷ ps) w d in
+      let e = Runs.next-is setting caps p ps w done in
+      (done, run-done [] ps (pushOf setting caps p w) (ap (λ (u : World). isDone (u .state .answer)) (sym e) ∙ d), e)
+
+  -- ---- the numbers of splines and of quads never fall
   pub push-grows : (w : World) {setting : Setting} {b : Bool} {w' : World} → Pushed setting caps w b w' → w .state .splines ≤ w' .state .splines
   unfolding refusedOf markedOf applyOf splineEditOf
   push-grows w (kept answer) = le-refl (w .state .splines)
@@ -55,6 +65,24 @@ module _ (setting : Setting) (caps : Capacities) where
       go : (b : Bool) → w .state .splines ≤ cond b (pushOf setting caps p w) w .state .splines
       go true = push-grows w (pushed setting caps w p)
       go false = le-refl (w .state .splines)
+
+  push-more : (w : World) {b : Bool} {w' : World} → Pushed setting caps w b w' → w .state .quads ≤ w' .state .quads
+  unfolding refusedOf markedOf applyOf splineEditOf
+  push-more w (kept answer) = le-refl (w .state .quads)
+  push-more w marked = le-refl (w .state .quads)
+  push-more w (lined true start end angle A) = le-refl (w .state .quads)
+  push-more w (lined false start end angle A) = le-refl (w .state .quads)
+  push-more w (bent true start end angle c row A B K fit R) = le-add-right (w .state .quads) 1
+  push-more w (bent false start end angle c row A B K fit R) = le-add-right (w .state .quads) 1
+
+  pub run-more : (ps : List Primitive) (w : World) → w .state .quads ≤ runOf setting caps ps w .state .quads
+  unfolding runOf
+  run-more [] w = le-refl (w .state .quads)
+  run-more (p ∷ ps) w = le-trans (go (isDone (w .state .answer))) (run-more ps (nextOf setting caps p w))
+    where
+      go : (b : Bool) → w .state .quads ≤ cond b (pushOf setting caps p w) w .state .quads
+      go true = push-more w (pushed setting caps w p)
+      go false = le-refl (w .state .quads)
 
   -- ---- the Moves that a run meets
   met-append : (ps qs : List Primitive) (w : World) (m : ℕ) → Met setting caps (ps ++ qs) w m
@@ -80,7 +108,7 @@ module _ (setting : Setting) (caps : Capacities) where
   met-right [] qs w m h = h
   met-right (p ∷ ps) qs w m h = inr (met-right ps qs (nextOf setting caps p w) m h)
 
-  abbrev NoMark : List Primitive → Type 0
+  abbrev pub NoMark : List Primitive → Type 0
   NoMark [] = Unit {0}
   NoMark (p ∷ ps) = (isMark p ≡ false) × NoMark ps
 
@@ -102,7 +130,7 @@ module _ (setting : Setting) (caps : Capacities) where
       go true n = pieces-no-mark n 1 _ _ c
       go false n = (refl, tt)
 
-  command-no-mark : (c : Columns) (k j : ℕ) → NoMark (commandPrimitivesOf c (suc k) j)
+  pub command-no-mark : (c : Columns) (k j : ℕ) → NoMark (commandPrimitivesOf c (suc k) j)
   unfolding commandPrimitivesOf
   command-no-mark c zero j = (refl, tt)
   command-no-mark c (suc zero) j = (refl, tt)

@@ -1,6 +1,6 @@
 -- What an edit, a primitive and a list of primitives do to the tables: the laws by which runs are put together. Assumes nothing.
-use mathlib.Core.Path.{_≡_, refl}
-use mathlib.Core.Bool.{true, false, cond}
+use mathlib.Core.Path.{_≡_, refl, ap}
+use mathlib.Core.Bool.{Bool, true, false, cond}
 use mathlib.Core.List.{List, [], _∷_, _++_}
 use Prim.Native.Nat.{ℕ}
 use Rattle.answer.specs.Number.{isDone}
@@ -59,6 +59,12 @@ module _ (setting : Setting) (caps : Capacities) where
   unfolding runOf
   run-stop [] w e = refl
   run-stop (p ∷ ps) w e = rw e (run-stop ps w e)
+
+  -- what is done goes on with its first primitive
+  pub next-is : (p : Primitive) (ps : List Primitive) (w : World) → isDone (w .state .answer) ≡ true
+      → runOf setting caps (p ∷ ps) w ≡ runOf setting caps ps (pushOf setting caps p w)
+  unfolding runOf
+  next-is p ps w h = ap (λ (b : Bool). runOf setting caps ps (cond b (pushOf setting caps p w) w)) h
 
   pub run-append : (ps qs : List Primitive) (w : World) → runOf setting caps (ps ++ qs) w ≡ runOf setting caps qs (runOf setting caps ps w)
   unfolding runOf
