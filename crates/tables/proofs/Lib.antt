@@ -22,3 +22,4 @@ pub mod Verdicts
 pub mod Beside
 pub mod Stepping
 pub mod Pushing
+pub mod Joining
