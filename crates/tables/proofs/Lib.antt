@@ -23,3 +23,5 @@ pub mod Beside
 pub mod Stepping
 pub mod Pushing
 pub mod Joining
+pub mod Slices
+pub mod Nested

@@ -133,10 +133,9 @@ module _ (setting : Setting) (bq bs : ℕ) (capsW capsA : Capacities) (W A : Wor
         let h = subst (Opening capsW W) same (line-needs setting capsW W start end d) in
         (h, λ z. less-alone (W .state .splines) (A .state .splines) (capsW .splines) (capsA .splines) bs (B .splines) (h z) s)
     needs (alone d q s) =
-        let h = line-needs setting capsA A start end d in
-        (
+        let h = line-needs setting capsA A start end d in (
           λ z. less-whole (W .state .splines) (A .state .splines) (lineA .state .splines) (capsW .splines) bs (B .splines)
-          (ap (λ (w : World). w .state .splines) (stored-alone h) ∙ opened capsA A HA o start end _ _ _ z) s,
+              (ap (λ (w : World). w .state .splines) (stored-alone h) ∙ opened capsA A HA o start end _ _ _ z) s,
           h,
         )
 
@@ -186,8 +185,7 @@ module _ (setting : Setting) (bq bs : ℕ) (capsW capsA : Capacities) (W A : Wor
     unfolding applyOf
     curve-both (both d e) = (curve-needs setting capsW W p0 p1 p2 a b d, curve-needs setting capsA A p0 p1 p2 a b e)
     curve-both (whole d q s) =
-        let h = curve-needs setting capsW W p0 p1 p2 a b d in
-        (
+        let h = curve-needs setting capsW W p0 p1 p2 a b d in (
           h,
           record {
             quads = less-alone (W .state .quads) (A .state .quads) (capsW .quads) (capsA .quads) bq (B .quads) (h .quads) q;
@@ -198,8 +196,7 @@ module _ (setting : Setting) (bq bs : ℕ) (capsW capsA : Capacities) (W A : Wor
     curve-both (alone d q s) =
         let h = curve-needs setting capsA A p0 p1 p2 a b d in
         let e = bent-alone h in
-        let sets = edit-sets A (appliedOf p0) (appliedOf p2) (curveSum setting capsA A p0 p1 p2 a b oc) (A .state .quads + 1) b oc in
-        (
+        let sets = edit-sets A (appliedOf p0) (appliedOf p2) (curveSum setting capsA A p0 p1 p2 a b oc) (A .state .quads + 1) b oc in (
           record {
             quads =
                 less-whole (W .state .quads) (A .state .quads) (curveA .state .quads) (capsW .quads) bq (B .quads)
