@@ -10,3 +10,5 @@ pub mod Sound
 pub mod Keeping
 pub mod Laws
 pub mod Built
+pub mod Listed
+pub mod Contours
