@@ -12,3 +12,5 @@ pub mod Laws
 pub mod Built
 pub mod Listed
 pub mod Contours
+pub mod Holding
+pub mod Steps

@@ -147,7 +147,7 @@ one-recip : weightOkOf (recip one32) ≡ true
 unfolding weightOkOf le div ofBits
 one-recip = refl
 
-abbrev ownUnclosed : Contour → Bool
+abbrev pub ownUnclosed : Contour → Bool
 ownUnclosed s = unclosedOf (ownState s) (ownColumns s)
 
 begun-closed : (p : Point) → Fit (Move p) → ownUnclosed (begun p) ≡ false
@@ -163,7 +163,7 @@ length-zero : {A : Type 0} (l : List A) → length l ≡ 0 → l ≡ []
 length-zero [] e = refl
 length-zero (a ∷ l) e = absurd (omega arith)
 
-nothing-drawn : (s : Contour) → Regular s → s .kinds ≡ [] → s ≡ begun (s .first)
+pub nothing-drawn : (s : Contour) → Regular s → s .kinds ≡ [] → s ≡ begun (s .first)
 unfolding totalUsesOf
 nothing-drawn s g e =
     let m = length-zero (s .more) (g .uses ∙ ap totalUsesOf e) in
