@@ -8,9 +8,9 @@ use lib.ListN.{length, drop, length-map}
 use lib.Seq.{take-at, drop-at, drop-drop}
 use lib.Ieee.{Float}
 use Rattle.point.specs.declared.WeightedPoint.{WeightedPoint}
-use Rattle.store.specs.Columns.{Columns, columns, stateAt, moveCommand, usesOf}
+use Rattle.store.specs.Columns.{Columns, moveCommand, usesOf}
 use Rattle.store.specs.Drawable.{totalUsesOf}
-use Rattle.store.specs.Contours.{Drawing, drawing, part, aloneOf, uptoMove, contoursFrom}
+use Rattle.store.specs.Contours.{Drawing, part, aloneOf, uptoMove, contoursFrom}
 use Rattle.store.proofs.Written.{xOf, yOf, weightOf}
 use Rattle.store.proofs.Listed.{Contour, pointsOf, commandsOf, drawingOf, NoMoves, Regular, AllRegular}
 

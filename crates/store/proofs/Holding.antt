@@ -10,23 +10,22 @@ use lib.Seq.{sets, take-at, take-take, getD-take, getD-append-add}
 use lib.Dec.{eqb}
 use lib.Ieee.{Float, nan}
 use borrow.Author.Tests.{ne-eqb}
-use Rattle.answer.specs.Number.{isDone}
 use Rattle.point.specs.declared.Point.{Point}
 use Rattle.point.specs.declared.WeightedPoint.{WeightedPoint}
-use Rattle.point.specs.Point.{plain, pointAt, weighted, appliedOf, sameOf, rationalOf}
+use Rattle.point.specs.Point.{plain, appliedOf, sameOf, rationalOf}
 use Rattle.store.specs.declared.StoreState.{StoreState}
 use Rattle.store.specs.declared.Call.{Call}
 use Rattle.store.specs.declared.Call.the-variants.{Move, Line, Quad, Cubic, RatQuad, RatCubic, Build}
 use Rattle.store.specs.Columns.{Columns, columns, stateAt, moveCommand, storedPointOf, lastCommandOf}
 use Rattle.store.specs.Closing.{unclosedOf}
-use Rattle.store.specs.Drawing.{Outcome, Writes, writes, appended, closed, moved, writesOf, written, stateAfter, drawOf}
+use Rattle.store.specs.Drawing.{Outcome, Writes, writes, appended, closed, moved, writesOf, stateAfter, drawOf}
 use Rattle.store.specs.Plan.{Fitting}
 use Rattle.store.specs.OwnCalls.{movesOf}
 use Rattle.store.proofs.Deciding.{room-fits}
 use Rattle.store.proofs.Sound.{Sound}
 use Rattle.store.proofs.Written.{xOf, yOf, weightOf, all-written, take-sets, take-mapped}
-use Rattle.store.proofs.Laws.{Accepted, accepted, acceptedOutcome, drawn-sound}
-use Rattle.store.proofs.Listed.{Contour, pointsOf, commandsOf, ownState, ownColumns, ownUnclosed, addedBy, some, NoMoves, Regular}
+use Rattle.store.proofs.Laws.{Accepted, acceptedOutcome, drawn-sound}
+use Rattle.store.proofs.Listed.{Contour, pointsOf, commandsOf, ownState, ownColumns, ownUnclosed, addedBy, some, NoMoves}
 
 pub record Holds (ps : List WeightedPoint) (ks : List ℕ) (from : ℕ) (st : StoreState) (c : Columns) : Type 0 where
   pub sound : Sound st c
@@ -74,7 +73,7 @@ module _ (call : Call) (st : StoreState) (c : Columns) (front back : List Weight
       let room = rw place at (r .points) in
       record {
         sound = subst (λ (o : Outcome). Sound (o .state) (o .columns)) (a .outcome) (drawn-sound call st c (h .sound));
-        state = rw (e, place, h .state, length-append, length-append);
+        state = rw (e, place, h .state, length-append front (w .points), length-append ks (w .commands));
         x = ap (λ (d : Columns). take (length (front ++ w .points)) (d .x)) after-is ∙ column-written xOf front back (w .points) (c .x) (h .x) (room .x);
         y = ap (λ (d : Columns). take (length (front ++ w .points)) (d .y)) after-is ∙ column-written yOf front back (w .points) (c .y) (h .y) (room .y);
         weight =

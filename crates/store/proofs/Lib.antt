@@ -14,3 +14,5 @@ pub mod Listed
 pub mod Contours
 pub mod Holding
 pub mod Steps
+pub mod Alone
+pub mod OwnCalls

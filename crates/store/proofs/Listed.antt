@@ -2,14 +2,14 @@
 use Prim.Native.Nat.{ℕ, zero, suc, _+_}
 use native.Mathlib.Omega.{arith}
 use mathlib.Core.Path.{_≡_, refl, sym, ap, _∙_}
-use mathlib.Core.Bool.{Bool, true, false, not, _||_, cond, or-true, or-false, true≢false}
-use mathlib.Core.List.{List, [], _∷_, _++_, map, append-nil}
+use mathlib.Core.Bool.{Bool, true, false, not, _||_, cond, true≢false}
+use mathlib.Core.List.{List, [], _∷_, _++_, map}
 use lib.ListN.{length, length-append}
 use lib.Ieee.{Float, isNan, nan, inf, fin, le, div, ofBits}
 use Rattle.leaves.specs.Single.{_⊗_, zero32, one32, recip}
 use Rattle.point.specs.declared.Point.{Point}
 use Rattle.point.specs.declared.WeightedPoint.{WeightedPoint}
-use Rattle.point.specs.Point.{pointAt, plain, appliedOf, sameOf}
+use Rattle.point.specs.Point.{pointAt, plain, appliedOf}
 use Rattle.store.specs.declared.StoreState.{StoreState}
 use Rattle.store.specs.declared.Call.{Call}
 use Rattle.store.specs.declared.Call.the-variants.{Move, Line, Quad, Cubic, RatQuad, RatCubic, Build}
@@ -18,7 +18,7 @@ use Rattle.store.specs.Closing.{unclosedOf}
 use Rattle.store.specs.Drawing.{Writes, every, coordinateOkOf, coordinatesOf, weightOkOf, weightsOf, appended, closed, writesOf}
 use Rattle.store.specs.Drawable.{storedOkOf, totalUsesOf}
 use Rattle.store.specs.Contours.{Drawing, drawing}
-use Rattle.store.specs.OwnCalls.{movesOf, drawsOf, anyOf}
+use Rattle.store.specs.OwnCalls.{movesOf, drawsOf}
 use Rattle.store.proofs.Ranges.{product-stored}
 use Rattle.store.proofs.Keeping.{first-point}
 use Rattle.store.proofs.Written.{xOf, yOf, weightOf, uses-append}
@@ -70,7 +70,7 @@ pub with-append : (calls more : List Call) (s : Contour) → withCalls (calls ++
 with-append [] more s = refl
 with-append (call ∷ calls) more s = with-append calls more (withCall call s)
 
--- ---- every call is a Move, or none is
+-- ---- a call is a Move, or it is another
 pub by-move : (P : Call → Type 0) → ((p : Point) → P (Move p)) → ((call : Call) → movesOf call ≡ false → P call) → (call : Call) → P call
 by-move P m o (Move p) = m p
 by-move P m o (Line p) = o (Line p) refl
@@ -80,6 +80,7 @@ by-move P m o (RatQuad p1 p2 w) = o (RatQuad p1 p2 w) refl
 by-move P m o (RatCubic p1 p2 p3 w1 w2) = o (RatCubic p1 p2 p3 w1 w2) refl
 by-move P m o Build = o Build refl
 
+-- commands with no Move among them
 abbrev pub NoMoves : List ℕ → Type 0
 NoMoves [] = Unit {0}
 NoMoves (zero ∷ ks) = ⊥
@@ -109,7 +110,7 @@ module _ (st : StoreState) (c : Columns) where
   writes-added (RatCubic p1 p2 p3 w1 w2) e = (refl, tt)
   writes-added Build e = closed-added (unclosedOf st c)
 
--- ---- a contour as the calls leave it
+-- ---- a contour as calls that pass the tests 1 and 2 leave it
 abbrev pub Fit : Call → Type 0
 Fit call = (every coordinateOkOf (coordinatesOf call) ≡ true) × (every weightOkOf (weightsOf call) ≡ true)
 

@@ -1,6 +1,6 @@
 -- The contours that calls draw, all answered Done, stand in the store one after another. Assumes nothing.
 use Prim.Native.Nat.{ℕ, _+_}
-use mathlib.Core.Path.{_≡_, refl, sym, ap, ap₂, _∙_, subst}
+use mathlib.Core.Path.{_≡_, refl, sym, ap, _∙_}
 use mathlib.Core.Bool.{Bool, true, false, true≢false}
 use mathlib.Core.List.{List, [], _∷_, _++_, append-assoc, append-nil}
 use lib.ListN.{length, length-append}
@@ -9,16 +9,15 @@ use Rattle.answer.specs.Number.{isDone}
 use Rattle.point.specs.declared.Point.{Point}
 use Rattle.point.specs.declared.WeightedPoint.{WeightedPoint}
 use Rattle.point.specs.Point.{plain}
-use Rattle.store.specs.declared.StoreState.{StoreState}
 use Rattle.store.specs.declared.Call.{Call}
 use Rattle.store.specs.declared.Call.the-variants.{Move, Build}
-use Rattle.store.specs.Columns.{Columns, moveCommand}
+use Rattle.store.specs.Columns.{moveCommand}
 use Rattle.store.specs.Drawing.{Outcome, writes, drawOf}
-use Rattle.store.specs.Drawable.{totalUsesOf}
 use Rattle.store.specs.Replay.{replayOf}
 use Rattle.store.specs.OwnCalls.{movesOf, AllDone}
 use Rattle.store.proofs.Laws.{Accepted, accepted}
-use Rattle.store.proofs.Listed.{Contour, begun, pointsOf, commandsOf, addedBy, withCall, by-move, Fit, AllFit, Regular, begun-regular, regular-kept, nothing-drawn, some, left, listedBy}
+use Rattle.store.proofs.Listed.{Contour, begun, pointsOf, commandsOf, addedBy, withCall, by-move, AllFit, some, left, listedBy}
+use Rattle.store.proofs.Listed.{Regular, begun-regular, regular-kept, nothing-drawn}
 use Rattle.store.proofs.Contours.{allPoints, allCommands}
 use Rattle.store.proofs.Holding.{Holds, call-holds, shifted, moves-on, moves-again}
 
