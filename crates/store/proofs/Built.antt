@@ -31,7 +31,7 @@ eq-self (inf false) e = refl
 eq-self (fin true m e) h = rw (eq-eqb (m * up e * down e) (m * up e * down e) refl)
 eq-self (fin false m e) h = rw (eq-eqb (m * up e * down e) (m * up e * down e) refl)
 
-same-self : (p : Point) → isNan (p .x) ≡ false → isNan (p .y) ≡ false → sameOf p p ≡ true
+pub same-self : (p : Point) → isNan (p .x) ≡ false → isNan (p .y) ≡ false → sameOf p p ≡ true
 unfolding sameOf
 same-self p h k = rw (eq-self (p .x) h, eq-self (p .y) k)
 

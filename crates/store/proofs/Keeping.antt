@@ -65,7 +65,7 @@ abbrev Coordinates : List Float → Type 0
 Coordinates l = every coordinateOkOf l ≡ true
 
 -- a point at the head of the coordinates of a call, and what comes after it
-first-point : (p : Point) (l : List Float) → Coordinates (p .x ∷ p .y ∷ l) → Ok (p .x) × Ok (p .y)
+pub first-point : (p : Point) (l : List Float) → Coordinates (p .x ∷ p .y ∷ l) → Ok (p .x) × Ok (p .y)
 first-point p l e = (head-ok coordinateOkOf (p .x) (p .y ∷ l) e, head-ok coordinateOkOf (p .y) l (tail-ok coordinateOkOf (p .x) (p .y ∷ l) e))
 
 behind : (p : Point) (l : List Float) → Coordinates (p .x ∷ p .y ∷ l) → Coordinates l

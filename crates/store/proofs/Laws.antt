@@ -136,7 +136,7 @@ counts-kept call st c = go (isDone (drawOf call st c .answer)) refl
     go false e = subst (λ (o : Outcome). NoFewer st (o .state)) (sym (refused call st c e)) (le-refl (st .points), le-refl (st .commands))
 
 -- ---- flattening's test for answer 3 finds no fault in what the calls draw
-drawn-sound : (call : Call) (st : StoreState) (c : Columns) → Sound st c → Sound (drawOf call st c .state) (drawOf call st c .columns)
+pub drawn-sound : (call : Call) (st : StoreState) (c : Columns) → Sound st c → Sound (drawOf call st c .state) (drawOf call st c .columns)
 drawn-sound call st c g = go (isDone (drawOf call st c .answer)) refl
   where
     go : (b : Bool) → isDone (drawOf call st c .answer) ≡ b → Sound (drawOf call st c .state) (drawOf call st c .columns)
@@ -184,7 +184,7 @@ fresh-made c v n =
       ys = ap (every storedOkOf) (take-suc-set (c .y) 0 zero32 py) ∙ rw zero-stored;
     }
 
-fresh-sound : (c : Columns) → isDone (freshOf c .answer) ≡ true → Sound (freshOf c .state) (freshOf c .columns)
+pub fresh-sound : (c : Columns) → isDone (freshOf c .answer) ≡ true → Sound (freshOf c .state) (freshOf c .columns)
 unfolding freshOf
 fresh-sound c e = go (evenOf c) (eqb (length (c .x)) 0 || eqb (length (c .commands)) 0) refl refl e
   where

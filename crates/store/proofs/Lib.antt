@@ -10,3 +10,9 @@ pub mod Sound
 pub mod Keeping
 pub mod Laws
 pub mod Built
+pub mod Listed
+pub mod Contours
+pub mod Holding
+pub mod Steps
+pub mod Alone
+pub mod OwnCalls

@@ -14,6 +14,7 @@ use Rattle.store.specs.Drawing.{Outcome, drawOf, freshOf}
 use Rattle.store.specs.Replay.{replayOf}
 use Rattle.store.specs.Contours.{Drawing, drawing, contoursOf}
 
+-- whether a call is a Move
 abbrev pub movesOf : Call → Bool
 movesOf (Move p) = true
 movesOf (Line p) = false
@@ -23,6 +24,7 @@ movesOf (RatQuad p1 p2 w) = false
 movesOf (RatCubic p1 p2 p3 w1 w2) = false
 movesOf Build = false
 
+-- whether a call draws a line or a curve
 abbrev pub drawsOf : Call → Bool
 drawsOf (Move p) = false
 drawsOf (Line p) = true
@@ -32,6 +34,7 @@ drawsOf (RatQuad p1 p2 w) = true
 drawsOf (RatCubic p1 p2 p3 w1 w2) = true
 drawsOf Build = false
 
+-- whether any of these calls passes a test
 unfoldable pub anyOf : (Call → Bool) → List Call → Bool
 anyOf test [] = false
 anyOf test (call ∷ calls) = test call || anyOf test calls
@@ -72,6 +75,7 @@ DrawnBy d calls =
     (c : Columns) → evenOf c ≡ true → d .state .points ≤ length (c .x) → d .state .commands ≤ length (c .commands)
     → AllDone calls (freshOf c) × (inUse (replayOf calls (freshOf c)) ≡ d)
 
+-- two lists of one length, whose entries stand in a relation one by one
 abbrev pub Pairwise : {A B : Type 0} → (A → B → Type 0) → List A → List B → Type 0
 Pairwise R [] [] = Unit {0}
 Pairwise R [] (b ∷ bs) = ⊥
