@@ -34,3 +34,4 @@ pub mod LayoutLaws
 pub mod LayoutRuns
 pub mod LayoutWalks
 pub mod Layouts
+pub mod Standing
