@@ -35,3 +35,5 @@ pub mod LayoutRuns
 pub mod LayoutWalks
 pub mod Layouts
 pub mod Standing
+pub mod ShiftedWalks
+pub mod JoinedWalks
