@@ -37,3 +37,4 @@ pub mod Layouts
 pub mod Standing
 pub mod ShiftedWalks
 pub mod JoinedWalks
+pub mod JoinedSpread

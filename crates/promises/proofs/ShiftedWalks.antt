@@ -205,7 +205,7 @@ module _ (bq bs : ℕ) (whole alone : World) (S : Stands bq bs whole alone) wher
   far : (k n m : ℕ) → k + suc n ≤ m → k < m
   far k n m h = omega arith
 
-  pub walk-on : (n k c c' : ℕ) → k + n ≤ alone .state .splines → walkFrom Knife rows' s' n (bs + k) c' ≡ map (itemOn bq bs) (walkFrom Knife rows s n k c)
+  walk-on : (n k c c' : ℕ) → k + n ≤ alone .state .splines → walkFrom Knife rows' s' n (bs + k) c' ≡ map (itemOn bq bs) (walkFrom Knife rows s n k c)
   unfolding walkFrom
   walk-on zero k c c' h = refl
   walk-on (suc n) k c c' h =
