@@ -34,3 +34,7 @@ pub mod LayoutLaws
 pub mod LayoutRuns
 pub mod LayoutWalks
 pub mod Layouts
+pub mod Standing
+pub mod ShiftedWalks
+pub mod JoinedWalks
+pub mod JoinedSpread
