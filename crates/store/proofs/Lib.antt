@@ -16,3 +16,4 @@ pub mod Holding
 pub mod Steps
 pub mod Alone
 pub mod OwnCalls
+pub mod AloneDrawable
