@@ -56,11 +56,12 @@ uint32_t kermezhul_build(KERMEZHUL_DRAWING);
 
 /* Flattens the drawing as it is, closed or not. setting: 0 for the screen, any other number for the knife. Nothing of the drawing is changed.
  *
- * The settings differ in four things. After a line without length the knife keeps the direction before it, and the screen forgets it: a corner at a doubled
+ * The settings differ in five things. After a line without length the knife keeps the direction before it, and the screen forgets it: a corner at a doubled
  * point is then lost. For the knife a reversal of direction is a corner, for the screen it is none: a line out and the same line back then lose their far end.
  * For the knife a line and a quad never share a spline, for the screen they do if one runs smoothly into the other: the point where straight meets round is
  * then lost, and a chord goes across it. Cubics become quads; a quad whose control point lies on its start or end is a line. For the knife the points inside a
- * spline lie on its own quads; for the screen they may lie on those of an earlier one, whose last quad got no point, and the path then runs back.
+ * spline lie on its own quads; for the screen they may lie on those of an earlier one, whose last quad got no point, and the path then runs back. For the knife
+ * a Move forgets the direction before it: the points of a drawing are those of its contours, each flattened alone, joined in order.
  *
  * The knife needs more room: at each smooth joint of straight and round one spline more, and one End more in words and outputs. A line without length after
  * a quad, or at a contour's start before one, has a spline too, whose End repeats the point unless a line goes on smoothly from there.

@@ -7,12 +7,9 @@ use Prim.Native.Nat.{ℕ, zero, suc, _<_}
 use native.Mathlib.Nat.{le-of-suc-le-suc, not-suc-le-zero}
 use lib.ListN.{length, getD}
 use Rattle.promises.specs.Words.{behind, cutAfter}
+pub use Rattle.promises.specs.Nests.{All}
 
 -- ---- every entry
-abbrev pub All : {A : Type 0} → (A → Type 0) → List A → Type 0
-All P [] = Unit {0}
-All P (a ∷ rest) = P a × All P rest
-
 module _ {A : Type 0} where
   pub all-append : (P : A → Type 0) (s t : List A) → All P s → All P t → All P (s ++ t)
   all-append P [] t h k = k

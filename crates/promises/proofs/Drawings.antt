@@ -16,6 +16,7 @@ use Rattle.point.specs.Curve.{lerpOf, curvatureOf, invCurvatureOf, quadAtOf, cu
 use Rattle.point.specs.Point.{rationalOf, appliedOf, minusOf, sameOf, lenOf}
 use Rattle.command.specs.Packing.{packOf, unpackOf}
 use Rattle.store.specs.Closing.{unclosedOf}
+use Rattle.store.specs.Contours.{aloneOf, uptoMove, contoursFrom, contoursOf}
 use Rattle.store.specs.Columns.{storedPointOf, lastCommandOf, putPoint, putCommand, evenOf, usableOf}
 use Rattle.store.specs.Drawable.{storedOkOf, knownOf, totalUsesOf, drawableOf}
 use Rattle.store.specs.Drawing.{coordinateOkOf, weightOkOf, every, coordinatesOf, weightsOf, appended, closed, moved, writesOf, putPoints}
@@ -24,7 +25,7 @@ use Rattle.store.specs.Replay.{replayOf}
 use Rattle.primitives.specs.Cubics.{bendOf, cubicErrorOf, cubicPiecesOf, cubicPointOf, controlOf, quadsFrom, cutOf, cubicQuadsOf}
 use Rattle.primitives.specs.Plan.{refusedOf, markedOf, planLineOf, quadRowOf, planCurveOf, planLegsOf, planQuadOf, planOf}
 use Rattle.primitives.specs.Quads.{crossOf, legOf, ownCurvatureOf, straightOf, curveOf}
-use Rattle.primitives.specs.Splines.{farOf, splineKindOf, apartOf, opensOf, lineAngleOf, sumBefore, quadCountOf, splineEditOf}
+use Rattle.primitives.specs.Splines.{farOf, splineKindOf, apartOf, opensOf, lineAngleOf, moveAngleOf, sumBefore, quadCountOf, splineEditOf}
 use Rattle.tables.specs.Commands.{cubicFrom, commandPrimitivesOf, primitivesFrom, primitivesOf, tablesOf}
 use Rattle.tables.specs.Run.{applyOf, pushOf, runOf}
 use Rattle.columns.specs.Flags.{flagByteOf, isFlagOf}
@@ -32,22 +33,22 @@ use Rattle.tables.specs.Tables.{quadCapacityOf, splineCapacityOf, capacitiesOf,
 use Rattle.walk.specs.Walk.{subdivisionsOf, stepSizeOf, startsOf, cursorStartOf, cursorAt, stepsFrom, cursorFrom, cursorAfter, splineItemsOf, walkFrom, walkOf, wordOf, wordsOf}
 use Rattle.evaluate.specs.Evaluate.{previousSumOf, parameterOf, stepPointOf, commandPointOf, itemPointOf, pointsOf}
 use Rattle.flatten.specs.Flatten.{over, fitsOutput, writeOutput, walked, tabled, flattenDrawable, flattenOf}
-use Rattle.promises.specs.Examples.{Example, drawn, flat, wordsAfter, pointsAfter, rangesAfter, rowAfter, storedAfter, joinedQuads, joinedSplines, joinedCursors}
-use Rattle.promises.specs.Drawings.{drawings, wordsAlong}
+use Rattle.promises.specs.Examples.{Example, drawn, flat, wordsTold, wordsAfter, pointsTold, pointsAfter, rangesAfter, rowAfter, storedAfter, joinedQuads, joinedSplines, joinedCursors}
+use Rattle.promises.specs.Drawings.{drawings, wordsAlong, flatAlone}
 use Rattle.promises.specs.Room.{emptyColumns, emptyQuads, emptySplines, emptyOutput}
 
 pub drawings-hold : map (λ (e : Example). e .given) drawings ≡ map (λ (e : Example). e .claimed) drawings
-unfolding wordsAlong rootIn root rooted bitsOf floatOf fmaOf piecesOf cutTo sixthRootOf negativeOf absOf lessOf minOf maxOf clampOf ceilOf sqrtOf
+unfolding wordsAlong flatAlone aloneOf uptoMove contoursFrom contoursOf rootIn root rooted bitsOf floatOf fmaOf piecesOf cutTo sixthRootOf negativeOf absOf lessOf minOf maxOf clampOf ceilOf sqrtOf
     wholeUpOf approxAtan2Of angleOf diffOf fullDiffOf differenceOf changedOf lerpOf curvatureOf invCurvatureOf quadAtOf cubicAtOf evalCubicOf evalQuadOf rationalOf appliedOf
     minusOf sameOf lenOf packOf unpackOf unclosedOf storedPointOf lastCommandOf putPoint putCommand evenOf usableOf storedOkOf knownOf totalUsesOf
     drawableOf coordinateOkOf weightOkOf every coordinatesOf weightsOf appended closed moved writesOf putPoints putCommands written stateAfter roomOf
     answerOf drawOf freshOf replayOf bendOf cubicErrorOf cubicPiecesOf cubicPointOf controlOf quadsFrom cutOf cubicQuadsOf refusedOf markedOf
     planLineOf quadRowOf planCurveOf planLegsOf planQuadOf planOf crossOf legOf ownCurvatureOf straightOf curveOf farOf
-    splineKindOf apartOf opensOf lineAngleOf sumBefore
+    splineKindOf apartOf opensOf lineAngleOf moveAngleOf sumBefore
     quadCountOf splineEditOf cubicFrom commandPrimitivesOf primitivesFrom primitivesOf tablesOf applyOf pushOf runOf flagByteOf isFlagOf quadCapacityOf
     splineCapacityOf capacitiesOf numbersOf putQuad numberAt quadRowAt clearFlag putSpline splineAt lastSplineOf subdivisionsOf stepSizeOf startsOf
     cursorStartOf cursorAt stepsFrom cursorFrom cursorAfter splineItemsOf walkFrom walkOf wordOf wordsOf previousSumOf parameterOf stepPointOf commandPointOf
-    itemPointOf pointsOf over fitsOutput writeOutput walked tabled flattenDrawable flattenOf drawn flat wordsAfter pointsAfter rangesAfter rowAfter storedAfter
+    itemPointOf pointsOf over fitsOutput writeOutput walked tabled flattenDrawable flattenOf drawn flat wordsTold wordsAfter pointsTold pointsAfter rangesAfter rowAfter storedAfter
     joinedQuads joinedSplines joinedCursors emptyColumns emptyQuads emptySplines emptyOutput trailingZeros size span climb odd units round neg sum add
     sub mul div lt eq le ofInt isNan ofFields ofBits toBits
 drawings-hold = refl

@@ -24,7 +24,7 @@ use Rattle.store.specs.Replay.{replayOf}
 use Rattle.primitives.specs.Cubics.{bendOf, cubicErrorOf, cubicPiecesOf, cubicPointOf, controlOf, quadsFrom, cutOf, cubicQuadsOf}
 use Rattle.primitives.specs.Plan.{refusedOf, markedOf, planLineOf, quadRowOf, planCurveOf, planLegsOf, planQuadOf, planOf}
 use Rattle.primitives.specs.Quads.{crossOf, legOf, ownCurvatureOf, straightOf, curveOf}
-use Rattle.primitives.specs.Splines.{farOf, splineKindOf, apartOf, opensOf, lineAngleOf, sumBefore, quadCountOf, splineEditOf}
+use Rattle.primitives.specs.Splines.{farOf, splineKindOf, apartOf, opensOf, lineAngleOf, moveAngleOf, sumBefore, quadCountOf, splineEditOf}
 use Rattle.tables.specs.Commands.{cubicFrom, commandPrimitivesOf, primitivesFrom, primitivesOf, tablesOf}
 use Rattle.tables.specs.Run.{applyOf, pushOf, runOf}
 use Rattle.columns.specs.Flags.{flagByteOf, isFlagOf}
@@ -32,7 +32,7 @@ use Rattle.tables.specs.Tables.{quadCapacityOf, splineCapacityOf, capacitiesOf,
 use Rattle.walk.specs.Walk.{subdivisionsOf, stepSizeOf, startsOf, cursorStartOf, cursorAt, stepsFrom, cursorFrom, cursorAfter, splineItemsOf, walkFrom, walkOf, wordOf, wordsOf}
 use Rattle.evaluate.specs.Evaluate.{previousSumOf, parameterOf, stepPointOf, commandPointOf, itemPointOf, pointsOf}
 use Rattle.flatten.specs.Flatten.{over, fitsOutput, writeOutput, walked, tabled, flattenDrawable, flattenOf}
-use Rattle.promises.specs.Examples.{Example, promised, drawn, flat, wordsAfter, pointsAfter, rowAfter, storedAfter, joinedQuads, joinedSplines, joinedCursors}
+use Rattle.promises.specs.Examples.{Example, promised, drawn, flat, wordsTold, wordsAfter, pointsTold, pointsAfter, rowAfter, storedAfter, joinedQuads, joinedSplines, joinedCursors}
 use Rattle.promises.specs.Room.{emptyColumns, emptyQuads, emptySplines, emptyOutput}
 
 pub promised-hold : map (λ (e : Example). e .given) promised ≡ map (λ (e : Example). e .claimed) promised
@@ -42,11 +42,11 @@ unfolding rootIn root rooted bitsOf floatOf fmaOf piecesOf cutTo sixthRootOf neg
     coordinateOkOf weightOkOf every coordinatesOf weightsOf appended closed moved writesOf putPoints putCommands written stateAfter roomOf answerOf
     drawOf freshOf replayOf bendOf cubicErrorOf cubicPiecesOf cubicPointOf controlOf quadsFrom cutOf cubicQuadsOf refusedOf markedOf planLineOf
     quadRowOf planCurveOf planLegsOf planQuadOf planOf crossOf legOf ownCurvatureOf straightOf curveOf farOf
-    splineKindOf apartOf opensOf lineAngleOf sumBefore
+    splineKindOf apartOf opensOf lineAngleOf moveAngleOf sumBefore
     quadCountOf splineEditOf cubicFrom commandPrimitivesOf primitivesFrom primitivesOf tablesOf applyOf pushOf runOf flagByteOf isFlagOf quadCapacityOf
     splineCapacityOf capacitiesOf numbersOf putQuad numberAt quadRowAt clearFlag putSpline splineAt lastSplineOf subdivisionsOf stepSizeOf startsOf
     cursorStartOf cursorAt stepsFrom cursorFrom cursorAfter splineItemsOf walkFrom walkOf wordOf wordsOf previousSumOf parameterOf stepPointOf commandPointOf
-    itemPointOf pointsOf over fitsOutput writeOutput walked tabled flattenDrawable flattenOf drawn flat wordsAfter pointsAfter rowAfter storedAfter
+    itemPointOf pointsOf over fitsOutput writeOutput walked tabled flattenDrawable flattenOf drawn flat wordsTold wordsAfter pointsTold pointsAfter rowAfter storedAfter
     joinedQuads joinedSplines joinedCursors emptyColumns emptyQuads emptySplines emptyOutput trailingZeros size span climb odd units round neg sum add
     sub mul div lt eq le ofInt isNan ofFields ofBits toBits
 promised-hold = refl

@@ -32,6 +32,7 @@ finishedOf job = walked true (worldOf job) (itemsIn (job .setting) (worldOf job)
 pub record Passed (job : Job) : Type 0 where
   pub drawable : drawableOf (job .state) (job .columns) ≡ true
   pub done : isDone (worldOf job .state .answer) ≡ true
+  pub fits : fitsOutput (length (itemsIn (job .setting) (worldOf job))) (job .output) ≡ true
   pub result : flatteningOf job ≡ finishedOf job
 
 not-three : Unusable ≡ Done → ⊥
@@ -47,21 +48,48 @@ passed job h = by-drawable (drawableOf (job .state) (job .columns)) refl h
     w : World
     w = worldOf job
 
-    by-room : (b : Bool) → walked b w (itemsIn (job .setting) w) (job .output) .result .answer ≡ Done → walked b w (itemsIn (job .setting) w) (job .output) ≡ finishedOf job
-    by-room true h = refl
+    by-room : (b : Bool) → walked b w (itemsIn (job .setting) w) (job .output) .result .answer ≡ Done
+        → (b ≡ true) × (walked b w (itemsIn (job .setting) w) (job .output) ≡ finishedOf job)
+    by-room true h = (refl, refl)
     by-room false h = absurd (not-nine h)
 
     by-done : (b : Bool) → isDone (w .state .answer) ≡ b → tabled (job .setting) b w (job .output) .result .answer ≡ Done
-        → (isDone (w .state .answer) ≡ true) × (tabled (job .setting) b w (job .output) ≡ finishedOf job)
-    by-done true e h = (e, by-room (fitsOutput (length (itemsIn (job .setting) w)) (job .output)) h)
+        → (isDone (w .state .answer) ≡ true) × (fitsOutput (length (itemsIn (job .setting) w)) (job .output) ≡ true)
+        × (tabled (job .setting) b w (job .output) ≡ finishedOf job)
+    by-done true e h = let z = by-room (fitsOutput (length (itemsIn (job .setting) w)) (job .output)) h in (e, z .0, z .1)
     by-done false e h = absurd (true≢false (sym (ap isDone h) ∙ e))
 
     by-drawable : (b : Bool) → drawableOf (job .state) (job .columns) ≡ b
         → flattenDrawable b (job .setting) (job .state) (job .columns) (job .quads) (job .splines) (job .output) .result .answer ≡ Done → Passed job
     by-drawable true e h =
         let z = by-done (isDone (w .state .answer)) refl h in
-        record { drawable = e; done = z .0; result = ap (λ (b : Bool). flattenDrawable b (job .setting) (job .state) (job .columns) (job .quads) (job .splines) (job .output)) e ∙ z .1 }
+        record {
+          drawable = e;
+          done = z .0;
+          fits = z .1;
+          result = ap (λ (b : Bool). flattenDrawable b (job .setting) (job .state) (job .columns) (job .quads) (job .splines) (job .output)) e ∙ z .2;
+        }
     by-drawable false e h = absurd (not-three h)
+
+-- and where these hold the drawing is accepted
+pub accepts : (job : Job) → drawableOf (job .state) (job .columns) ≡ true → isDone (worldOf job .state .answer) ≡ true
+    → fitsOutput (length (itemsIn (job .setting) (worldOf job))) (job .output) ≡ true → Accepted job
+unfolding flattenOf flattenDrawable tabled walked
+accepts job e d f =
+    let w = worldOf job in
+    ap (λ (b : Bool). flattenDrawable b (job .setting) (job .state) (job .columns) (job .quads) (job .splines) (job .output) .result .answer) e
+    ∙ ap (λ (b : Bool). tabled (job .setting) b w (job .output) .result .answer) d
+    ∙ ap (λ (b : Bool). walked b w (itemsIn (job .setting) w) (job .output) .result .answer) f
+
+-- a drawing that is not refused with 3 passes its test
+pub drawable-unless : (job : Job) → (flatteningOf job .result .answer ≡ Unusable → ⊥) → drawableOf (job .state) (job .columns) ≡ true
+unfolding flattenOf flattenDrawable
+drawable-unless job h = go (drawableOf (job .state) (job .columns)) refl
+  where
+    go : (b : Bool) → drawableOf (job .state) (job .columns) ≡ b → drawableOf (job .state) (job .columns) ≡ true
+    go true e = e
+    go false e =
+        absurd (h (ap (λ (b : Bool). flattenDrawable b (job .setting) (job .state) (job .columns) (job .quads) (job .splines) (job .output) .result .answer) e))
 
 -- its words are the walk's
 pub words-are : (job : Job) → wordsIn (finishedOf job) ≡ wordsOf (itemsIn (job .setting) (worldOf job))

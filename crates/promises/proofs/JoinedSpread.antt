@@ -15,8 +15,9 @@ use Rattle.tables.proofs.Owners.{owned}
 use Rattle.flatten.specs.Flatten.{Flattening, Output, flattened, flattening}
 use Rattle.promises.specs.Demand3.{splineOfQuad, sumOfQuad, LastQuad, Between, Spread}
 use Rattle.promises.proofs.Cutting.{All}
-use Rattle.promises.proofs.Standing.{Stands, StandFrom}
-use Rattle.promises.proofs.JoinedWalks.{total, counts-from}
+use Rattle.tables.proofs.Standing.{Stands, StandFrom}
+use Rattle.promises.specs.Nests.{total}
+use Rattle.promises.proofs.JoinedWalks.{counts-from}
 
 -- a flattening that leaves these tables, with some number of points and some outputs
 abbrev pub left : ℕ → Output → World → Flattening

@@ -2,7 +2,7 @@
 -- are theirs in turn, with quads and splines numbered on. Assumes nothing.
 use Prim.Native.Nat.{ℕ, zero, suc, _+_}
 use mathlib.Core.Path.{_≡_, refl, sym, ap, ap₂, _∙_}
-use mathlib.Core.List.{List, [], _∷_, _++_, map, append-assoc, map-append}
+use mathlib.Core.List.{List, [], _∷_, _++_, map, flatMap, append-assoc, map-append}
 use native.Mathlib.Nat.{add-assoc, add-zero, zero-add, suc-add}
 use lib.ListN.{length, length-append, length-map}
 use Rattle.facts.proofs.Numbers.{shift-one}
@@ -16,25 +16,11 @@ use Rattle.tables.specs.Run.{World}
 use Rattle.walk.specs.Walk.{Item, cursorStartOf, cursorAfter, splineItemsOf, walkFrom, walkOf}
 use Rattle.walk.proofs.Lengths.{walk-length}
 use Rattle.evaluate.specs.Evaluate.{Finished, itemPointOf, pointsOf}
+use Rattle.promises.specs.Nests.{total, numberedOn}
 use Rattle.promises.proofs.Walking.{commandOf}
 use Rattle.promises.proofs.Flattened.{itemsIn}
-use Rattle.promises.proofs.Standing.{StandFrom}
+use Rattle.tables.proofs.Standing.{StandFrom}
 use Rattle.promises.proofs.ShiftedWalks.{placedOn, itemOn, contour-on, contour-used, points-on}
-
--- what each of a list gives, one after the other, and the sum of what they count
-unfoldable pub joined : {A B : Type 0} → (A → List B) → List A → List B
-joined f [] = []
-joined f (a ∷ rest) = f a ++ joined f rest
-
-unfoldable pub total : {A : Type 0} → (A → ℕ) → List A → ℕ
-total f [] = 0
-total f (a ∷ rest) = f a + total f rest
-
--- a command with n splines before
-abbrev pub numberedOn : ℕ → PointCommand → PointCommand
-numberedOn n (Start k) = Start (n + k)
-numberedOn n (Incr size) = Incr size
-numberedOn n (End k flag) = End (n + k) flag
 
 -- the commands of each, with n splines before the first
 unfoldable pub commandsFrom : ℕ → List World → List PointCommand
@@ -103,15 +89,15 @@ abbrev pub pointsIn : Setting → World → List Finished
 pointsIn setting w = pointsOf (quadRowAt (w .quads)) (w .splines) (itemsIn setting w)
 
 points-from : (whole : World) (bq bs : ℕ) (alones : List World) → StandFrom whole bq bs alones
-    → pointsOf (quadRowAt (whole .quads)) (whole .splines) (itemsFrom bq bs alones) ≡ joined (pointsIn Knife) alones
-unfolding joined itemsFrom pointsOf
+    → pointsOf (quadRowAt (whole .quads)) (whole .splines) (itemsFrom bq bs alones) ≡ flatMap (pointsIn Knife) alones
+unfolding flatMap itemsFrom pointsOf
 points-from whole bq bs [] h = refl
 points-from whole bq bs (a ∷ rest) h =
     map-append (itemPointOf (quadRowAt (whole .quads)) (whole .splines)) (map (itemOn bq bs) (itemsIn Knife a)) _
     ∙ ap₂ (λ (x y : List Finished). x ++ y) (points-on bq bs whole a (h .0) (itemsIn Knife a) (contour-used bq bs whole a (h .0)))
     (points-from whole (bq + a .state .quads) (bs + a .state .splines) rest (h .1))
 
-pub points-join : (whole : World) (alones : List World) → StandFrom whole 0 0 alones → pointsIn Knife whole ≡ joined (pointsIn Knife) alones
+pub points-join : (whole : World) (alones : List World) → StandFrom whole 0 0 alones → pointsIn Knife whole ≡ flatMap (pointsIn Knife) alones
 points-join whole alones h =
     ap (pointsOf (quadRowAt (whole .quads)) (whole .splines)) (items-join whole alones h) ∙ points-from whole 0 0 alones h
 

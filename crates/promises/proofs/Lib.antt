@@ -34,7 +34,9 @@ pub mod LayoutLaws
 pub mod LayoutRuns
 pub mod LayoutWalks
 pub mod Layouts
-pub mod Standing
 pub mod ShiftedWalks
 pub mod JoinedWalks
 pub mod JoinedSpread
+pub mod Nested
+pub mod Nests
+pub mod NestAnswers

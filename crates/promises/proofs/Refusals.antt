@@ -44,7 +44,7 @@ module _ (setting : Setting) (caps : Capacities) where
       let v = runOf setting caps (R .before) w in
       ap (λ (x : List Primitive). runOf setting caps x w) (R .split)
       ∙ run-append setting caps (R .before) (R .primitive ∷ R .after) w
-      ∙ next-is (R .primitive) (R .after) v (R .pushed)
+      ∙ next-is setting caps (R .primitive) (R .after) v (R .pushed)
       ∙ run-stays setting caps (R .after) (pushOf setting caps (R .primitive) v) (ap isDone (refuses-answer setting caps v (R .cause)) ∙ refuses-not-done (R .cause))
 
   -- the refused primitive gives the run's answer
@@ -77,7 +77,7 @@ module _ (setting : Setting) (caps : Capacities) where
   run-told [] w S D = inl (done-is (w .state .answer) D)
   run-told (p ∷ ps) w S D =
       let v = pushOf setting caps p w in
-      subst (λ (x : World). (x .state .answer ≡ Done) ⊎ RefusedIn setting caps (p ∷ ps) w (x .state .answer)) (sym (next-is p ps w D))
+      subst (λ (x : World). (x .state .answer ≡ Done) ⊎ RefusedIn setting caps (p ∷ ps) w (x .state .answer)) (sym (next-is setting caps p ps w D))
       (go (push-told setting caps w S (done-is (w .state .answer) D) p) (run-told ps v (sound-push caps w S (pushed setting caps w p))))
     where
       later : (a : Answer) → RefusedIn setting caps ps (pushOf setting caps p w) a → RefusedIn setting caps (p ∷ ps) w a
@@ -87,8 +87,8 @@ module _ (setting : Setting) (caps : Capacities) where
             primitive = R .primitive;
             after = R .after;
             split = ap (λ (x : List Primitive). p ∷ x) (R .split);
-            pushed = ap (λ (x : World). isDone (x .state .answer)) (next-is p (R .before) w D) ∙ R .pushed;
-            cause = subst (λ (x : World). Refuses setting caps x (R .primitive) a) (sym (next-is p (R .before) w D)) (R .cause);
+            pushed = ap (λ (x : World). isDone (x .state .answer)) (next-is setting caps p (R .before) w D) ∙ R .pushed;
+            cause = subst (λ (x : World). Refuses setting caps x (R .primitive) a) (sym (next-is setting caps p (R .before) w D)) (R .cause);
           }
 
       go : (pushOf setting caps p w .state .answer ≡ Done) ⊎ Refuses setting caps w p (pushOf setting caps p w .state .answer)

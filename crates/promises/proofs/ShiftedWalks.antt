@@ -35,7 +35,7 @@ use Rattle.promises.proofs.Cutting.{All, all-append, all-map}
 use Rattle.promises.proofs.Cursor.{cursor-under, steps-under}
 use Rattle.promises.proofs.Arrivals.{all-steps, none-left, ends, starts-exact}
 use Rattle.promises.proofs.Flattened.{itemsIn}
-use Rattle.promises.proofs.Standing.{Stands}
+use Rattle.tables.proofs.Standing.{Stands}
 
 -- an item with bq quads and bs splines before; a Start and an End have no quad
 abbrev pub placedOn : ℕ → ℕ → PointCommand → ℕ → ℕ → Item

@@ -1,20 +1,24 @@
 -- Examples in addition to P1 to P12: the splines of a second contour are numbered on, a gap at 0.0625 and to either side of it, a slit, directions to
--- either side of the negative x axis, and joints between straight and round. Assumes nothing.
+-- either side of the negative x axis, joints between straight and round, sweeps, and contours of a drawing alone. Assumes nothing.
 use Prim.Native.Nat.{ℕ}
 use mathlib.Core.List.{List, [], _∷_}
 use lib.Ieee.{Float}
+use lib.ListN.{getD}
 use Rattle.leaves.specs.Single.{f32, whole32, zero32}
 use Rattle.point.specs.Point.{pointAt, plain}
 use Rattle.store.specs.declared.Call.{Call}
 use Rattle.store.specs.declared.Call.the-variants.{Move, Line, Quad, Build}
+use Rattle.store.specs.Contours.{drawing, contoursOf}
+use Rattle.point.specs.declared.Setting.{Setting}
 use Rattle.point.specs.declared.Setting.the-variants.{Screen, Knife}
 use Rattle.primitives.specs.declared.Primitive.{Primitive}
 use Rattle.primitives.specs.declared.Primitive.the-variants.{Line as Straight}
 use Rattle.tables.specs.Tables.{capacitiesOf, quadRowAt}
 use Rattle.tables.specs.Run.{World, world, runOf, startState}
 use Rattle.walk.specs.Walk.{walkOf, wordsOf}
-use Rattle.promises.specs.Room.{emptyQuads, emptySplines}
-use Rattle.promises.specs.Examples.{Example, example, P, wordsAfter, pointsAfter, rangesAfter}
+use Rattle.flatten.specs.Flatten.{Flattening, flattenOf}
+use Rattle.promises.specs.Room.{emptyQuads, emptySplines, emptyOutput}
+use Rattle.promises.specs.Examples.{Example, example, P, drawn, wordsTold, wordsAfter, pointsTold, pointsAfter, rangesAfter}
 
 -- a line along the x axis
 abbrev pub along : Float → Float → Primitive
@@ -73,6 +77,25 @@ sweep =
     ∷ Quad (pointAt (f32 0x3e84_4000) zero32) (pointAt (f32 0x4003_c400) (f32 0x3f62_6000))
     ∷ Quad (pointAt (f32 0x4003_c400) (f32 0x3ff1_3000)) (pointAt (f32 0x4003_c400) (f32 0x4038_9800))
     ∷ Build ∷ []
+
+-- 02, Eight: a contour after whose Move a line has no length. By the last angle of the contour before, the next line would open a spline
+abbrev pub stale : List Call
+stale = Line (P 10 0) ∷ Line (P 10 10) ∷ Move (P 20 0) ∷ Line (P 20 0) ∷ Line (P 30 0) ∷ Line (P 30 10) ∷ Build ∷ []
+
+-- the sweep's first two quads, and a straight quad in a contour of its own
+abbrev pub sweepThenStraight : List Call
+sweepThenStraight =
+    Move (pointAt (f32 0xbf80_0000) zero32)
+    ∷ Quad (pointAt (f32 0xbf00_0000) zero32) (P 0 0)
+    ∷ Quad (pointAt (f32 0x3e84_4000) zero32) (pointAt (f32 0x4003_c400) (f32 0x3f62_6000))
+    ∷ Move (P 10 0) ∷ Quad (P 11 0) (P 12 0) ∷ Build ∷ []
+
+-- contour i of such a drawing, flattened alone
+unfoldable pub flatAlone : Setting → List Call → ℕ → Flattening
+flatAlone setting calls i =
+    let o = drawn calls in
+    let d = getD (contoursOf (o .state) (o .columns)) i (drawing (o .state) (o .columns)) in
+    flattenOf setting (d .state) (d .columns) (emptyQuads 8) (emptySplines 8) (emptyOutput 16)
 
 abbrev pub drawings : List Example
 drawings =
@@ -134,6 +157,29 @@ drawings =
     ∷ example (pointsAfter Screen sweep)
     (0xBF800000 ∷ 0xBF000000 ∷ 0x00000000 ∷ 0x4003C400 ∷ 0x00000000 ∷ 0x4003C400 ∷ 0xBF800000
     ∷ 0x00000000 ∷ 0x00000000 ∷ 0x00000000 ∷ 0x3F626000 ∷ 0x00000000 ∷ 0x40389800 ∷ 0x00000000 ∷ [])
+    -- for the knife "a Move forgets the last angle": (20,0) has one End, as it has where the second contour is flattened alone; both contours joined are the whole
+    ∷ example (wordsAfter Knife stale)
+    (0 ∷ 0x7F800000 ∷ 0xFF800000 ∷ 0xFF800001 ∷ 0xFFC00002 ∷ 0x7F800003 ∷ 0xFF800003 ∷ 0xFF800004 ∷ 0xFFC00005 ∷ [])
+    ∷ example (pointsAfter Knife stale)
+    (0x00000000 ∷ 0x41200000 ∷ 0x41200000 ∷ 0x00000000 ∷ 0x41A00000 ∷ 0x41F00000 ∷ 0x41F00000 ∷ 0x41A00000
+    ∷ 0x00000000 ∷ 0x00000000 ∷ 0x41200000 ∷ 0x00000000 ∷ 0x00000000 ∷ 0x00000000 ∷ 0x41200000 ∷ 0x00000000 ∷ [])
+    ∷ example (wordsTold (flatAlone Knife stale 0)) (0 ∷ 0x7F800000 ∷ 0xFF800000 ∷ 0xFF800001 ∷ 0xFFC00002 ∷ [])
+    ∷ example (pointsTold (flatAlone Knife stale 0))
+    (0x00000000 ∷ 0x41200000 ∷ 0x41200000 ∷ 0x00000000 ∷ 0x00000000 ∷ 0x00000000 ∷ 0x41200000 ∷ 0x00000000 ∷ [])
+    ∷ example (wordsTold (flatAlone Knife stale 1)) (0 ∷ 0x7F800000 ∷ 0xFF800000 ∷ 0xFF800001 ∷ 0xFFC00002 ∷ [])
+    ∷ example (pointsTold (flatAlone Knife stale 1))
+    (0x41A00000 ∷ 0x41F00000 ∷ 0x41F00000 ∷ 0x41A00000 ∷ 0x00000000 ∷ 0x00000000 ∷ 0x41200000 ∷ 0x00000000 ∷ [])
+    -- on the screen the condition on sums is needed: where a whole sum has grown by exactly 1, the next contour's step is at (0,0), and alone it is at (11,0)
+    ∷ example (pointsAfter Screen sweepThenStraight)
+    (0xBF800000 ∷ 0xBF000000 ∷ 0x00000000 ∷ 0x4003C400 ∷ 0xBF800000 ∷ 0x41200000 ∷ 0x00000000 ∷ 0x41200000
+    ∷ 0x00000000 ∷ 0x00000000 ∷ 0x00000000 ∷ 0x3F626000 ∷ 0x00000000 ∷ 0x00000000 ∷ 0x00000000 ∷ 0x00000000 ∷ [])
+    ∷ example (pointsTold (flatAlone Screen sweepThenStraight 1)) (0x41200000 ∷ 0x41300000 ∷ 0x41200000 ∷ 0x00000000 ∷ 0x00000000 ∷ 0x00000000 ∷ [])
+    -- the knife's is there in both
+    ∷ example (pointsAfter Knife sweepThenStraight)
+    (0xBF800000 ∷ 0xBF000000 ∷ 0x00000000 ∷ 0x4003C400 ∷ 0xBF800000 ∷ 0x41200000 ∷ 0x41300000 ∷ 0x41400000 ∷ 0x41200000
+    ∷ 0x00000000 ∷ 0x00000000 ∷ 0x00000000 ∷ 0x3F626000 ∷ 0x00000000 ∷ 0x00000000 ∷ 0x00000000 ∷ 0x00000000 ∷ 0x00000000 ∷ [])
+    ∷ example (pointsTold (flatAlone Knife sweepThenStraight 1))
+    (0x41200000 ∷ 0x41300000 ∷ 0x41400000 ∷ 0x41200000 ∷ 0x00000000 ∷ 0x00000000 ∷ 0x00000000 ∷ 0x00000000 ∷ [])
     -- a line that starts exactly 0.0625 from the last end opens a spline, and no Start is written
     ∷ example (wordsAlong (gapTo (f32 0x4121_0000))) (0x7F800000 ∷ 0xFF800000 ∷ 0xFFC00001 ∷ [])
     -- one f32 nearer it joins the spline, one f32 further a Start is written

@@ -39,15 +39,18 @@ unfoldable pub flat : Setting → List Call → Flattening
 flat setting calls = let o = drawn calls in flattenOf setting (o .state) (o .columns) (emptyQuads 8) (emptySplines 8) (emptyOutput 16)
 
 -- the answer's number, and the words
+unfoldable pub wordsTold : Flattening → List ℕ
+wordsTold f = numberOf (f .result .answer) ∷ take (f .result .points) (f .output .words)
+
 unfoldable pub wordsAfter : Setting → List Call → List ℕ
-wordsAfter setting calls = let f = flat setting calls in numberOf (f .result .answer) ∷ take (f .result .points) (f .output .words)
+wordsAfter setting calls = wordsTold (flat setting calls)
 
 -- the bits of each point's x, then of each y
+unfoldable pub pointsTold : Flattening → List ℕ
+pointsTold f = let n = f .result .points in map bitsOf (take n (f .output .x) ++ take n (f .output .y))
+
 unfoldable pub pointsAfter : Setting → List Call → List ℕ
-pointsAfter setting calls =
-    let f = flat setting calls in
-    let n = f .result .points in
-    map bitsOf (take n (f .output .x) ++ take n (f .output .y))
+pointsAfter setting calls = pointsTold (flat setting calls)
 
 -- the numbers of the quad table's first row as they lie, and its spline
 unfoldable pub rowAfter : Setting → List Call → List ℕ

@@ -14,3 +14,4 @@ pub mod Settled
 pub mod ListingAnswers
 pub mod QuarterRound
 pub mod SplineQuads
+pub mod Nests

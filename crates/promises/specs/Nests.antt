@@ -3,7 +3,7 @@
 use Prim.Native.Nat.{ℕ, suc, _+_, _≤_}
 use mathlib.Core.Path.{_≡_}
 use mathlib.Core.Logic.{_≢_, _↔_}
-use mathlib.Core.List.{List, [], _∷_, _++_, map}
+use mathlib.Core.List.{List, [], _∷_, _++_, map, flatMap}
 use lib.Ieee.{Float}
 use lib.ListN.{length, take}
 use Rattle.answer.specs.declared.Answer.the-variants.{Unusable}
@@ -40,19 +40,16 @@ alonesFrom setting lent i (d ∷ ds) = jobOf setting (lent i) d ∷ alonesFrom s
 abbrev pub alonesOf : Job → (ℕ → Lent) → List Job
 alonesOf job lent = alonesFrom (job .setting) lent 0 (contoursOf (job .state) (job .columns))
 
-abbrev pub Each : {A : Type 0} → (A → Type 0) → List A → Type 0
-Each P [] = Unit {0}
-Each P (a ∷ rest) = P a × Each P rest
-
--- ---- "joined in order"
-unfoldable pub joined : {A B : Type 0} → (A → List B) → List A → List B
-joined f [] = []
-joined f (a ∷ rest) = f a ++ joined f rest
+-- P holds of each
+abbrev pub All : {A : Type 0} → (A → Type 0) → List A → Type 0
+All P [] = Unit {0}
+All P (a ∷ rest) = P a × All P rest
 
 unfoldable pub total : {A : Type 0} → (A → ℕ) → List A → ℕ
 total f [] = 0
 total f (a ∷ rest) = f a + total f rest
 
+-- ---- "joined in order"
 -- the finished points: x, y, and whether a contour ends
 abbrev pub xIn : Flattening → List Float
 xIn f = take (f .result .points) (f .output .x)
@@ -75,9 +72,9 @@ wordsFrom n [] = []
 wordsFrom n (f ∷ fs) = map (λ (word : ℕ). packOf (numberedOn n (unpackOf word))) (wordsIn f) ++ wordsFrom (n + f .result .splines) fs
 
 pub record Joined (whole : Flattening) (parts : List Flattening) : Type 0 where
-  pub x : xIn whole ≡ joined xIn parts
-  pub y : yIn whole ≡ joined yIn parts
-  pub end : endIn whole ≡ joined endIn parts
+  pub x : xIn whole ≡ flatMap xIn parts
+  pub y : yIn whole ≡ flatMap yIn parts
+  pub end : endIn whole ≡ flatMap endIn parts
   pub words : wordsIn whole ≡ wordsFrom 0 parts
   pub splines : whole .result .splines ≡ total (λ (f : Flattening). f .result .splines) parts
   pub quads : whole .result .quads ≡ total (λ (f : Flattening). f .result .quads) parts
@@ -86,14 +83,14 @@ pub record Joined (whole : Flattening) (parts : List Flattening) : Type 0 where
 -- "as long as each alone and the whole are accepted and, in the screen setting, demand 3's condition on sums holds"
 abbrev pub NestsJoin : Type 0
 NestsJoin =
-    (job : Job) (lent : ℕ → Lent) → Accepted job → Each Accepted (alonesOf job lent) → (job .setting ≡ Screen → Spread (flatteningOf job))
+    (job : Job) (lent : ℕ → Lent) → Accepted job → All Accepted (alonesOf job lent) → (job .setting ≡ Screen → Spread (flatteningOf job))
     → Joined (flatteningOf job) (map flatteningOf (alonesOf job lent))
 
 -- the condition on the whole is the same as on each alone
 abbrev pub SpreadAlike : Type 0
 SpreadAlike =
-    (job : Job) (lent : ℕ → Lent) → Accepted job → Each Accepted (alonesOf job lent)
-    → Spread (flatteningOf job) ↔ Each (λ (alone : Job). Spread (flatteningOf alone)) (alonesOf job lent)
+    (job : Job) (lent : ℕ → Lent) → Accepted job → All Accepted (alonesOf job lent)
+    → Spread (flatteningOf job) ↔ All (λ (alone : Job). Spread (flatteningOf alone)) (alonesOf job lent)
 
 -- ---- when each alone is accepted: with rooms no smaller, if the whole is
 pub record NoSmaller (a b : Lent) : Type 0 where
@@ -105,7 +102,7 @@ pub record NoSmaller (a b : Lent) : Type 0 where
   pub end : length (a .output .end) ≤ length (b .output .end)
 
 abbrev pub AlonesAccepted : Type 0
-AlonesAccepted = (job : Job) (lent : ℕ → Lent) → Accepted job → ((i : ℕ) → NoSmaller (lentTo job) (lent i)) → Each Accepted (alonesOf job lent)
+AlonesAccepted = (job : Job) (lent : ℕ → Lent) → Accepted job → ((i : ℕ) → NoSmaller (lentTo job) (lent i)) → All Accepted (alonesOf job lent)
 
 -- ---- when the whole is accepted: if each alone is, and there is room for the sums; a spline table's capacity is at most the spline limit
 pub record RoomFor (lent : Lent) (parts : List Flattening) : Type 0 where
@@ -118,5 +115,5 @@ pub record RoomFor (lent : Lent) (parts : List Flattening) : Type 0 where
 
 abbrev pub WholeAccepted : Type 0
 WholeAccepted =
-    (job : Job) (lent : ℕ → Lent) → flatteningOf job .result .answer ≢ Unusable → Each Accepted (alonesOf job lent)
+    (job : Job) (lent : ℕ → Lent) → flatteningOf job .result .answer ≢ Unusable → All Accepted (alonesOf job lent)
     → RoomFor (lentTo job) (map flatteningOf (alonesOf job lent)) → Accepted job

@@ -1,0 +1,253 @@
+-- 02, Eight: the whole's points are the contours' points joined in order, its words are theirs with the splines numbered on; when each alone is accepted, and when the
+-- whole is. The plan: the tables of the contours stand in those of the whole (Nested); over such tables the knife's walks join (JoinedWalks); and where the condition on
+-- sums holds the screen's walk is the knife's. Assumes nothing.
+use Prim.Native.Nat.{ℕ, zero, suc, _+_, _≤_}
+use mathlib.Core.Path.{_≡_, refl, sym, ap, ap₂, _∙_, subst, subst₂}
+use mathlib.Core.Logic.{_↔_}
+use mathlib.Core.Bool.{true}
+use mathlib.Core.List.{List, [], _∷_, _++_, map, flatMap, map-append, map-map}
+use native.Mathlib.Nat.{le-trans, le-of-eq, zero-add}
+use native.Mathlib.Omega.{arith}
+use lib.Ieee.{Float}
+use lib.ListN.{length, take, length-map}
+use lib.Seq.{length-take-le}
+use Rattle.columns.specs.Flags.{flagByteOf}
+use Rattle.command.specs.declared.PointCommand.{PointCommand}
+use Rattle.command.specs.Packing.{packOf, unpackOf}
+use Rattle.point.specs.declared.Setting.{Setting}
+use Rattle.point.specs.declared.Setting.the-variants.{Screen, Knife}
+use Rattle.store.specs.Contours.{Drawing, contoursOf}
+use Rattle.store.specs.Drawable.{drawableOf}
+use Rattle.store.proofs.AloneDrawable.{AllDrawable, contours-drawable}
+use Rattle.tables.specs.Tables.{quadCapacityOf, splineCapacityOf, capacitiesOf, quadRowAt}
+use Rattle.tables.specs.Run.{World}
+use Rattle.tables.proofs.Standing.{StandFrom}
+use Rattle.tables.proofs.Nested.{AllDone, quadsIn, splinesIn, AllGiven, all-both, from-whole, from-alones, Joins}
+use Rattle.walk.specs.Walk.{Item, wordOf, wordsOf}
+use Rattle.evaluate.specs.Evaluate.{Finished, pointsOf}
+use Rattle.flatten.specs.Flatten.{Flattening, Output, fitsOutput, walked}
+use Rattle.promises.specs.Words.{decoded}
+use Rattle.promises.specs.Accepted.{Job, flatteningOf, Accepted, wordsIn, walkIn}
+use Rattle.promises.specs.Demand3.{Spread}
+use Rattle.promises.specs.Nests.{Lent, lentTo, jobOf, alonesFrom, alonesOf, All, total, xIn, yIn, endIn, numberedOn, wordsFrom, Joined}
+use Rattle.promises.specs.Nests.{NestsJoin, SpreadAlike, NoSmaller, AlonesAccepted, RoomFor, WholeAccepted}
+use Rattle.promises.proofs.Flattened.{worldOf, itemsIn, finishedOf, passed, accepts, drawable-unless, words-are}
+use Rattle.promises.proofs.Decoding.{capsOf, job-sound, demand3a}
+use Rattle.promises.proofs.Walking.{commandOf}
+use Rattle.promises.proofs.Cutting.{all-map}
+use Rattle.promises.proofs.SplineQuads.{items-same}
+use Rattle.promises.proofs.JoinedWalks.{commandsFrom, pointsIn, counts, points-join, commands-join, length-join}
+use Rattle.promises.proofs.JoinedSpread.{left, spread-same, spread-join}
+use Rattle.promises.proofs.Nested.{worldsOf, worlds-are, joins, Fits, fits-told, fits-holds, walkedPoints, xs-are, ys-are, ends-are}
+
+-- ---- lists of jobs
+pub all-two : (P Q : Job → Type 0) (jobs : List Job) → All P jobs → All Q jobs → All (λ (a : Job). P a × Q a) jobs
+all-two P Q [] p q = tt
+all-two P Q (a ∷ rest) p q = ((p .0, q .0), all-two P Q rest (p .1) (q .1))
+
+all-under : (C : Type 0) (P : Job → Type 0) (jobs : List Job) → (C → All P jobs) → All (λ (a : Job). C → P a) jobs
+all-under C P [] f = tt
+all-under C P (a ∷ rest) f = ((λ c. f c .0), all-under C P rest (λ c. f c .1))
+
+pub settings : (setting : Setting) (lent : ℕ → Lent) (i : ℕ) (ds : List Drawing) → All (λ (a : Job). a .setting ≡ setting) (alonesFrom setting lent i ds)
+unfolding alonesFrom
+settings setting lent i [] = tt
+settings setting lent i (d ∷ ds) = (refl, settings setting lent (suc i) ds)
+
+pub all-done : (jobs : List Job) → All Accepted jobs → AllDone (map worldOf jobs)
+all-done [] h = tt
+all-done (a ∷ rest) h = (passed a (h .0) .done, all-done rest (h .1))
+
+-- what the flattenings give, by what their tables do
+flat : {B C : Type 0} (g : Flattening → List C) (h : World → List B) (m : B → C) (jobs : List Job)
+    → All (λ (a : Job). g (flatteningOf a) ≡ map m (h (worldOf a))) jobs → flatMap g (map flatteningOf jobs) ≡ map m (flatMap h (map worldOf jobs))
+unfolding flatMap
+flat {C = C} g h m [] z = refl
+flat {C = C} g h m (a ∷ rest) z =
+    ap₂ (λ (x y : List C). x ++ y) (z .0) (flat g h m rest (z .1)) ∙ sym (map-append m (h (worldOf a)) (flatMap h (map worldOf rest)))
+
+pub totals : (g : Flattening → ℕ) (h : World → ℕ) (jobs : List Job) → All (λ (a : Job). g (flatteningOf a) ≡ h (worldOf a)) jobs
+    → total g (map flatteningOf jobs) ≡ total h (map worldOf jobs)
+unfolding total
+totals g h [] z = refl
+totals g h (a ∷ rest) z = ap₂ (λ (x y : ℕ). x + y) (z .0) (totals g h rest (z .1))
+
+-- ---- what an accepted drawing leaves
+module _ (job : Job) (h : Accepted job) where
+  pub splines-are : flatteningOf job .result .splines ≡ worldOf job .state .splines
+  unfolding walked
+  splines-are = ap (λ (f : Flattening). f .result .splines) (passed job h .result)
+
+  pub quads-are : flatteningOf job .result .quads ≡ worldOf job .state .quads
+  unfolding walked
+  quads-are = ap (λ (f : Flattening). f .result .quads) (passed job h .result)
+
+  pub points-are : flatteningOf job .result .points ≡ length (itemsIn (job .setting) (worldOf job))
+  unfolding walked
+  points-are = ap (λ (f : Flattening). f .result .points) (passed job h .result)
+
+  table-is : flatteningOf job .quads ≡ worldOf job .quads
+  unfolding walked
+  table-is = ap (λ (f : Flattening). f .quads) (passed job h .result)
+
+  -- the walk is the knife's
+  knife-items : (job .setting ≡ Screen → Spread (flatteningOf job)) → itemsIn (job .setting) (worldOf job) ≡ itemsIn Knife (worldOf job)
+  knife-items spread = go (job .setting) refl
+    where
+      w : World
+      w = worldOf job
+
+      go : (x : Setting) → job .setting ≡ x → itemsIn x w ≡ itemsIn Knife w
+      go Knife e = refl
+      go Screen e =
+          sym (items-same Knife (capsOf job) w (job-sound job) 0 (job .output)
+          (spread-same (flatteningOf job) (left 0 (job .output) w) table-is quads-are (spread e)))
+
+  module _ (knife : itemsIn (job .setting) (worldOf job) ≡ itemsIn Knife (worldOf job)) where
+    points-knife : walkedPoints job ≡ pointsIn Knife (worldOf job)
+    points-knife = ap (pointsOf (quadRowAt (worldOf job .quads)) (worldOf job .splines)) knife
+
+    decoded-knife : decoded (wordsIn (flatteningOf job)) ≡ map commandOf (itemsIn Knife (worldOf job))
+    unfolding walked
+    decoded-knife = demand3a job h ∙ ap (λ (f : Flattening). map commandOf (walkIn (job .setting) f)) (passed job h .result) ∙ ap (map commandOf) knife
+
+-- ---- the words
+renumbered : (n : ℕ) (words : List ℕ) → map (λ (word : ℕ). packOf (numberedOn n (unpackOf word))) words ≡ map packOf (map (numberedOn n) (decoded words))
+renumbered n [] = refl
+renumbered n (w ∷ ws) = ap (λ (r : List ℕ). packOf (numberedOn n (unpackOf w)) ∷ r) (renumbered n ws)
+
+pub record Told (a : Job) : Type 0 where
+  pub decodes : decoded (wordsIn (flatteningOf a)) ≡ map commandOf (itemsIn Knife (worldOf a))
+  pub counted : flatteningOf a .result .splines ≡ worldOf a .state .splines
+
+words-from : (n : ℕ) (jobs : List Job) → All Told jobs → wordsFrom n (map flatteningOf jobs) ≡ map packOf (commandsFrom n (map worldOf jobs))
+unfolding wordsFrom commandsFrom
+words-from n [] z = refl
+words-from n (a ∷ rest) z =
+    ap₂ (λ (x y : List ℕ). x ++ y)
+    (renumbered n (wordsIn (flatteningOf a)) ∙ ap (λ (l : List PointCommand). map packOf (map (numberedOn n) l)) (z .0 .decodes))
+    (words-from (n + flatteningOf a .result .splines) rest (z .1)
+    ∙ ap (λ (m : ℕ). map packOf (commandsFrom (n + m) (map worldOf rest))) (z .0 .counted))
+    ∙ sym (map-append packOf (map (numberedOn n) (map commandOf (itemsIn Knife (worldOf a)))) _)
+
+-- ---- a drawing that is accepted, and each of its contours alone
+module _ (job : Job) (lent : ℕ → Lent) (h : Accepted job) (each : All Accepted (alonesOf job lent)) where
+  abbrev alones : List Job
+  alones = alonesOf job lent
+
+  abbrev whole : World
+  whole = worldOf job
+
+  same-setting : All (λ (a : Job). a .setting ≡ job .setting) alones
+  same-setting = settings (job .setting) lent 0 (contoursOf (job .state) (job .columns))
+
+  stand : StandFrom whole 0 0 (map worldOf alones)
+  stand =
+      subst (StandFrom whole 0 0) (sym (worlds-are job lent))
+      (joins job lent (passed job h .drawable) (all-both (passed job h .done) (subst AllDone (worlds-are job lent) (all-done alones each))) .stand)
+
+  -- ---- the condition on sums
+  abbrev Spreads : World → Type 0
+  Spreads w = Spread (left 0 (job .output) w)
+
+  spread-to : (jobs : List Job) → All Accepted jobs → All Spreads (map worldOf jobs) → All (λ (a : Job). Spread (flatteningOf a)) jobs
+  spread-to [] a z = tt
+  spread-to (x ∷ rest) a z = (
+    spread-same (left 0 (job .output) (worldOf x)) (flatteningOf x) (sym (table-is x (a .0))) (sym (quads-are x (a .0))) (z .0),
+    spread-to rest (a .1) (z .1),
+  )
+
+  spread-from : (jobs : List Job) → All Accepted jobs → All (λ (a : Job). Spread (flatteningOf a)) jobs → All Spreads (map worldOf jobs)
+  spread-from [] a z = tt
+  spread-from (x ∷ rest) a z = (
+    spread-same (flatteningOf x) (left 0 (job .output) (worldOf x)) (table-is x (a .0)) (quads-are x (a .0)) (z .0),
+    spread-from rest (a .1) (z .1),
+  )
+
+  spread-each : Spread (flatteningOf job) ↔ All (λ (a : Job). Spread (flatteningOf a)) alones
+  spread-each =
+      let s = spread-join (λ (w : World). 0) (λ (w : World). job .output) 0 (job .output) whole (map worldOf alones) stand in (
+        λ z. spread-to alones each (s .0 (spread-same (flatteningOf job) (left 0 (job .output) whole) (table-is job h) (quads-are job h) z)),
+        λ z. spread-same (left 0 (job .output) whole) (flatteningOf job) (sym (table-is job h)) (sym (quads-are job h)) (s .1 (spread-from alones each z)),
+      )
+
+  -- ---- joined in order
+  module _ (spread : job .setting ≡ Screen → Spread (flatteningOf job)) where
+    -- each alone is accepted, and its walk is the knife's
+    record Good (a : Job) : Type 0 where
+      accepted : Accepted a
+      knife : itemsIn (a .setting) (worldOf a) ≡ itemsIn Knife (worldOf a)
+
+    -- it has the whole's setting, and on the screen the condition holds of it
+    record Asked (a : Job) : Type 0 where
+      same : a .setting ≡ job .setting
+      sums : job .setting ≡ Screen → Spread (flatteningOf a)
+
+    good : All Good alones
+    good =
+        all-map (λ (a : Job). Accepted a × Asked a) Good
+        (λ a z. record { accepted = z .0; knife = knife-items a (z .0) (λ e. z .1 .sums (sym (z .1 .same) ∙ e)) })
+        alones
+        (all-two Accepted Asked alones each
+        (all-map (λ (a : Job). (a .setting ≡ job .setting) × (job .setting ≡ Screen → Spread (flatteningOf a))) Asked (λ a z. record { same = z .0; sums = z .1 })
+        alones
+        (all-two (λ (a : Job). a .setting ≡ job .setting) (λ (a : Job). job .setting ≡ Screen → Spread (flatteningOf a)) alones same-setting
+        (all-under (job .setting ≡ Screen) (λ (a : Job). Spread (flatteningOf a)) alones (λ e. spread-each .0 (spread e))))))
+
+    own : itemsIn (job .setting) whole ≡ itemsIn Knife whole
+    own = knife-items job h spread
+
+    abbrev px : Finished → Float
+    px p = p .point .x
+
+    abbrev py : Finished → Float
+    py p = p .point .y
+
+    abbrev pe : Finished → ℕ
+    pe p = flagByteOf (p .end)
+
+    points-joined : walkedPoints job ≡ flatMap (pointsIn Knife) (map worldOf alones)
+    points-joined = points-knife job h own ∙ points-join whole (map worldOf alones) stand
+
+    packed : wordsOf (itemsIn (job .setting) whole) ≡ map packOf (map commandOf (itemsIn (job .setting) whole))
+    unfolding wordsOf wordOf
+    packed = sym (map-map packOf commandOf (itemsIn (job .setting) whole))
+
+    joined : Joined (flatteningOf job) (map flatteningOf alones)
+    joined =
+        record {
+          x =
+              xs-are job h ∙ ap (map px) points-joined
+              ∙ sym (flat xIn (pointsIn Knife) px alones
+              (all-map Good _ (λ a g. xs-are a (g .accepted) ∙ ap (map px) (points-knife a (g .accepted) (g .knife))) alones good));
+          y =
+              ys-are job h ∙ ap (map py) points-joined
+              ∙ sym (flat yIn (pointsIn Knife) py alones
+              (all-map Good _ (λ a g. ys-are a (g .accepted) ∙ ap (map py) (points-knife a (g .accepted) (g .knife))) alones good));
+          end =
+              ends-are job h ∙ ap (map pe) points-joined
+              ∙ sym (flat endIn (pointsIn Knife) pe alones
+              (all-map Good _ (λ a g. ends-are a (g .accepted) ∙ ap (map pe) (points-knife a (g .accepted) (g .knife))) alones good));
+          words =
+              ap wordsIn (passed job h .result) ∙ words-are job ∙ packed
+              ∙ ap (map packOf) (ap (map commandOf) own ∙ commands-join whole (map worldOf alones) stand)
+              ∙ sym (words-from 0 alones
+              (all-map Good Told (λ a g. record { decodes = decoded-knife a (g .accepted) (g .knife); counted = splines-are a (g .accepted) }) alones good));
+          splines =
+              splines-are job h ∙ counts whole (map worldOf alones) stand .1
+              ∙ sym (totals (λ (f : Flattening). f .result .splines) (λ (w : World). w .state .splines) alones (all-map Accepted _ splines-are alones each));
+          quads =
+              quads-are job h ∙ counts whole (map worldOf alones) stand .0
+              ∙ sym (totals (λ (f : Flattening). f .result .quads) (λ (w : World). w .state .quads) alones (all-map Accepted _ quads-are alones each));
+          points =
+              points-are job h ∙ length-join (job .setting) whole (map worldOf alones) stand
+              ∙ sym (totals (λ (f : Flattening). f .result .points) (λ (w : World). length (itemsIn (job .setting) w)) alones
+              (all-map (λ (a : Job). Accepted a × (a .setting ≡ job .setting)) _
+              (λ a z. points-are a (z .0) ∙ ap (λ (x : Setting). length (itemsIn x (worldOf a))) (z .1)) alones (all-two Accepted (λ (a : Job). a .setting ≡ job .setting) alones each same-setting)));
+        }
+
+pub nests-join : NestsJoin
+nests-join job lent h each spread = joined job lent h each spread
+
+pub spread-alike : SpreadAlike
+spread-alike job lent h each = spread-each job lent h each
