@@ -23,8 +23,8 @@ pub struct Point {
     pub y: f32,
 }
 
-// The screen setting is the Rust's. In the knife setting a line without angle keeps the last angle, a reversal is a corner,
-// and a line and a quad never share a spline.
+// The screen setting is the Rust's. In the knife setting a line without angle keeps the last angle and a Move forgets it, a reversal is a corner, a line and a
+// quad never share a spline, and the points of a spline lie on its own quads.
 pub enum Setting {
     Screen,
     Knife,

@@ -1,26 +1,25 @@
 -- 02, Eight: with rooms no smaller each contour alone is accepted if the whole is; and the whole is accepted if each alone is, and there is room for the sums. Assumes
 -- nothing.
 use Prim.Native.Nat.{ℕ, suc, _+_, _≤_}
-use mathlib.Core.Path.{_≡_, refl, sym, ap, ap₂, _∙_, subst}
-use mathlib.Core.List.{List, [], _∷_, map}
+use mathlib.Core.Path.{_≡_, refl, sym, ap, _∙_, subst}
+use mathlib.Core.List.{List, [], _∷_}
 use native.Mathlib.Nat.{le-trans, le-of-eq, zero-add}
 use native.Mathlib.Omega.{arith}
 use lib.ListN.{length}
 use Rattle.point.specs.declared.Setting.{Setting}
 use Rattle.store.specs.Contours.{Drawing, contoursOf}
 use Rattle.store.proofs.AloneDrawable.{AllDrawable, contours-drawable}
-use Rattle.tables.specs.Tables.{quadCapacityOf, splineCapacityOf, capacitiesOf}
+use Rattle.tables.specs.Tables.{capacitiesOf}
 use Rattle.tables.specs.Run.{World}
-use Rattle.tables.proofs.Standing.{StandFrom}
-use Rattle.tables.proofs.Nested.{worldsFrom, AllDone, quadsIn, splinesIn, from-whole, from-alones, Joins}
-use Rattle.flatten.specs.Flatten.{Flattening, Output}
-use Rattle.promises.specs.Accepted.{Job, flatteningOf, Accepted}
-use Rattle.promises.specs.Nests.{Lent, lentTo, jobOf, alonesFrom, alonesOf, All, total, NestsJoin, NoSmaller, AlonesAccepted, RoomFor, WholeAccepted}
+use Rattle.tables.proofs.Nested.{worldsFrom, AllDone, quadsIn, splinesIn, from-whole, from-alones}
+use Rattle.flatten.specs.Flatten.{Flattening}
+use Rattle.promises.specs.Accepted.{Job, Accepted}
+use Rattle.promises.specs.Nests.{Lent, lentTo, jobOf, alonesFrom, alonesOf, All, total, NoSmaller, AlonesAccepted, WholeAccepted}
 use Rattle.promises.proofs.Flattened.{worldOf, itemsIn, passed, accepts, drawable-unless}
 use Rattle.promises.proofs.Decoding.{capsOf}
 use Rattle.promises.proofs.Cutting.{all-map}
 use Rattle.promises.proofs.JoinedWalks.{length-join}
-use Rattle.promises.proofs.Nested.{tablesQ, tablesS, start, worldsOf, worlds-are, joins, Fits, fits-told, fits-holds}
+use Rattle.promises.proofs.Nested.{tablesQ, tablesS, worldsOf, worlds-are, joins, Fits, fits-told, fits-holds}
 use Rattle.promises.proofs.Nests.{all-two, settings, all-done, totals, splines-are, quads-are, points-are}
 
 -- ---- each alone

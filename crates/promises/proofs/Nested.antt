@@ -1,36 +1,31 @@
 -- A drawing's contours as jobs of their own: their tables are those that stand in the whole's, whatever is known of the whole or of them; and what an accepted
 -- one leaves, by its walk. Assumes nothing.
-use Prim.Native.Nat.{ℕ, zero, suc, _+_, _≤_, zero-le}
-use mathlib.Core.Path.{_≡_, refl, sym, ap, ap₂, _∙_, subst, subst₂}
-use mathlib.Core.Bool.{Bool, true, _&&_}
-use mathlib.Core.List.{List, [], _∷_, _++_, map}
+use Prim.Native.Nat.{ℕ, zero, suc, _≤_, zero-le}
+use mathlib.Core.Path.{_≡_, refl, ap, _∙_}
+use mathlib.Core.Bool.{true, _&&_}
+use mathlib.Core.List.{List, [], _∷_, map}
 use mathlib.Mathlib.Data.Bool.Basic.{and-elim-left, and-elim-right}
-use native.Mathlib.Nat.{le-trans, le-of-eq, le-refl, not-suc-le-zero}
+use native.Mathlib.Nat.{le-refl}
 use lib.Dec.{leb}
-use lib.Ieee.{Float}
 use lib.ListN.{length, take, getD, length-map}
-use lib.Seq.{take-at, length-take-le, getD-take}
+use lib.Seq.{take-at}
 use borrow.Author.Tests.{leb-true, le-leb}
 use Rattle.columns.specs.Flags.{flagByteOf}
-use Rattle.point.specs.declared.Setting.{Setting}
-use Rattle.point.specs.declared.Setting.the-variants.{Screen, Knife}
-use Rattle.primitives.specs.declared.QuadRow.{QuadRow}
-use Rattle.store.specs.Contours.{Drawing, contoursFrom, contoursOf}
+use Rattle.store.specs.Contours.{Drawing, contoursOf}
 use Rattle.store.specs.Drawable.{drawableOf}
 use Rattle.store.proofs.Sound.{sound as store-sound}
-use Rattle.tables.specs.Tables.{QuadTable, SplineTable, quadCapacityOf, splineCapacityOf, capacitiesOf, quadRowAt}
-use Rattle.tables.specs.Run.{World, world, startState, runOf}
-use Rattle.tables.specs.Commands.{primitivesFrom, primitivesOf, tablesOf}
+use Rattle.tables.specs.Tables.{QuadTable, SplineTable, capacitiesOf}
+use Rattle.tables.specs.Run.{World, world, startState}
+use Rattle.tables.specs.Commands.{primitivesOf, tablesOf}
 use Rattle.tables.proofs.Sound.{sound-start}
 use Rattle.tables.proofs.Flags.{flagged-start}
 use Rattle.tables.proofs.Slices.{Moves}
 use Rattle.tables.proofs.Nested.{worldsFrom, AllGiven, Joins, nested}
-use Rattle.walk.specs.Walk.{Item, walkOf}
 use Rattle.evaluate.specs.Evaluate.{Finished, pointsOf}
-use Rattle.flatten.specs.Flatten.{Flattening, Output, over, fitsOutput, writeOutput, walked}
+use Rattle.flatten.specs.Flatten.{Output, over, fitsOutput, writeOutput, walked}
 use Rattle.promises.specs.Accepted.{Job, flatteningOf, Accepted}
 use Rattle.promises.specs.Nests.{Lent, jobOf, alonesFrom, alonesOf, xIn, yIn, endIn}
-use Rattle.promises.proofs.Flattened.{worldOf, itemsIn, finishedOf, passed}
+use Rattle.promises.proofs.Flattened.{worldOf, itemsIn, passed}
 use Rattle.promises.proofs.Decoding.{capsOf}
 use Rattle.promises.proofs.JoinedWalks.{pointsIn}
 

@@ -1,44 +1,38 @@
 -- 02, Eight: the whole's points are the contours' points joined in order, its words are theirs with the splines numbered on; when each alone is accepted, and when the
 -- whole is. The plan: the tables of the contours stand in those of the whole (Nested); over such tables the knife's walks join (JoinedWalks); and where the condition on
 -- sums holds the screen's walk is the knife's. Assumes nothing.
-use Prim.Native.Nat.{ℕ, zero, suc, _+_, _≤_}
-use mathlib.Core.Path.{_≡_, refl, sym, ap, ap₂, _∙_, subst, subst₂}
+use Prim.Native.Nat.{ℕ, suc, _+_}
+use mathlib.Core.Path.{_≡_, refl, sym, ap, ap₂, _∙_, subst}
 use mathlib.Core.Logic.{_↔_}
-use mathlib.Core.Bool.{true}
 use mathlib.Core.List.{List, [], _∷_, _++_, map, flatMap, map-append, map-map}
-use native.Mathlib.Nat.{le-trans, le-of-eq, zero-add}
-use native.Mathlib.Omega.{arith}
 use lib.Ieee.{Float}
-use lib.ListN.{length, take, length-map}
-use lib.Seq.{length-take-le}
+use lib.ListN.{length}
 use Rattle.columns.specs.Flags.{flagByteOf}
 use Rattle.command.specs.declared.PointCommand.{PointCommand}
 use Rattle.command.specs.Packing.{packOf, unpackOf}
 use Rattle.point.specs.declared.Setting.{Setting}
 use Rattle.point.specs.declared.Setting.the-variants.{Screen, Knife}
 use Rattle.store.specs.Contours.{Drawing, contoursOf}
-use Rattle.store.specs.Drawable.{drawableOf}
-use Rattle.store.proofs.AloneDrawable.{AllDrawable, contours-drawable}
-use Rattle.tables.specs.Tables.{quadCapacityOf, splineCapacityOf, capacitiesOf, quadRowAt}
+use Rattle.tables.specs.Tables.{quadRowAt}
 use Rattle.tables.specs.Run.{World}
 use Rattle.tables.proofs.Standing.{StandFrom}
-use Rattle.tables.proofs.Nested.{AllDone, quadsIn, splinesIn, AllGiven, all-both, from-whole, from-alones, Joins}
-use Rattle.walk.specs.Walk.{Item, wordOf, wordsOf}
+use Rattle.tables.proofs.Nested.{AllDone, all-both}
+use Rattle.walk.specs.Walk.{wordOf, wordsOf}
 use Rattle.evaluate.specs.Evaluate.{Finished, pointsOf}
-use Rattle.flatten.specs.Flatten.{Flattening, Output, fitsOutput, walked}
+use Rattle.flatten.specs.Flatten.{Flattening, walked}
 use Rattle.promises.specs.Words.{decoded}
 use Rattle.promises.specs.Accepted.{Job, flatteningOf, Accepted, wordsIn, walkIn}
 use Rattle.promises.specs.Demand3.{Spread}
-use Rattle.promises.specs.Nests.{Lent, lentTo, jobOf, alonesFrom, alonesOf, All, total, xIn, yIn, endIn, numberedOn, wordsFrom, Joined}
-use Rattle.promises.specs.Nests.{NestsJoin, SpreadAlike, NoSmaller, AlonesAccepted, RoomFor, WholeAccepted}
-use Rattle.promises.proofs.Flattened.{worldOf, itemsIn, finishedOf, passed, accepts, drawable-unless, words-are}
+use Rattle.promises.specs.Nests.{Lent, alonesFrom, alonesOf, All, total, xIn, yIn, endIn, numberedOn, wordsFrom, Joined}
+use Rattle.promises.specs.Nests.{NestsJoin, SpreadAlike}
+use Rattle.promises.proofs.Flattened.{worldOf, itemsIn, passed, words-are}
 use Rattle.promises.proofs.Decoding.{capsOf, job-sound, demand3a}
 use Rattle.promises.proofs.Walking.{commandOf}
 use Rattle.promises.proofs.Cutting.{all-map}
 use Rattle.promises.proofs.SplineQuads.{items-same}
 use Rattle.promises.proofs.JoinedWalks.{commandsFrom, pointsIn, counts, points-join, commands-join, length-join}
 use Rattle.promises.proofs.JoinedSpread.{left, spread-same, spread-join}
-use Rattle.promises.proofs.Nested.{worldsOf, worlds-are, joins, Fits, fits-told, fits-holds, walkedPoints, xs-are, ys-are, ends-are}
+use Rattle.promises.proofs.Nested.{worlds-are, joins, walkedPoints, xs-are, ys-are, ends-are}
 
 -- ---- lists of jobs
 pub all-two : (P Q : Job → Type 0) (jobs : List Job) → All P jobs → All Q jobs → All (λ (a : Job). P a × Q a) jobs
@@ -113,8 +107,8 @@ module _ (job : Job) (h : Accepted job) where
 
 -- ---- the words
 renumbered : (n : ℕ) (words : List ℕ) → map (λ (word : ℕ). packOf (numberedOn n (unpackOf word))) words ≡ map packOf (map (numberedOn n) (decoded words))
-renumbered n [] = refl
-renumbered n (w ∷ ws) = ap (λ (r : List ℕ). packOf (numberedOn n (unpackOf w)) ∷ r) (renumbered n ws)
+renumbered n words =
+    sym (map-map packOf (numberedOn n) (decoded words) ∙ map-map (λ (c : PointCommand). packOf (numberedOn n c)) unpackOf words)
 
 pub record Told (a : Job) : Type 0 where
   pub decodes : decoded (wordsIn (flatteningOf a)) ≡ map commandOf (itemsIn Knife (worldOf a))

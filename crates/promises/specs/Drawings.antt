@@ -14,7 +14,7 @@ use Rattle.point.specs.declared.Setting.the-variants.{Screen, Knife}
 use Rattle.primitives.specs.declared.Primitive.{Primitive}
 use Rattle.primitives.specs.declared.Primitive.the-variants.{Line as Straight}
 use Rattle.tables.specs.Tables.{capacitiesOf, quadRowAt}
-use Rattle.tables.specs.Run.{World, world, runOf, startState}
+use Rattle.tables.specs.Run.{world, runOf, startState}
 use Rattle.walk.specs.Walk.{walkOf, wordsOf}
 use Rattle.flatten.specs.Flatten.{Flattening, flattenOf}
 use Rattle.promises.specs.Room.{emptyQuads, emptySplines, emptyOutput}

@@ -1,10 +1,10 @@
 -- A contour in the whole beside the same contour alone: their rows are the same, numbered on, and so is what decides of the state. An edit of the one and the same edit
 -- of the other, numbered on, keep that, and no row before the contour changes. Assumes nothing.
-use Prim.Native.Nat.{ℕ, zero, suc, _+_, _-_, _≤_, _<_, min}
-use mathlib.Core.Path.{_≡_, refl, sym, ap, ap₂, _∙_, subst}
-use mathlib.Core.Logic.{_⊎_, inl, inr, _≢_}
+use Prim.Native.Nat.{ℕ, suc, _+_, _-_, _≤_, _<_, min}
+use mathlib.Core.Path.{_≡_, refl, sym, ap, _∙_}
+use mathlib.Core.Logic.{_≢_}
 use mathlib.Core.Bool.{Bool, true, false, not, _||_, true≢false}
-use native.Mathlib.Nat.{le-trans, le-of-eq, lt-of-lt-of-le, lt-of-le-of-lt, eq-or-lt-of-le, le-of-suc-le-suc, ne-of-lt}
+use native.Mathlib.Nat.{le-of-eq}
 use native.Mathlib.Numerals.{add-one}
 use native.Mathlib.Omega.{arith}
 use lib.Ieee.{Float}
@@ -15,17 +15,18 @@ use Rattle.point.specs.declared.Setting.{Setting}
 use Rattle.point.specs.Angle.{changedOf}
 use Rattle.primitives.specs.declared.Capacities.{Capacities}
 use Rattle.primitives.specs.declared.Kind.{Kind}
-use Rattle.primitives.specs.declared.QuadRow.{QuadRow}
 use Rattle.primitives.specs.declared.SplineRow.{SplineRow}
 use Rattle.primitives.specs.declared.SplineEdit.{SplineEdit}
 use Rattle.primitives.specs.Splines.{farOf, splineKindOf, apartOf, opensOf, lineAngleOf, sumBefore, quadCountOf, splineEditOf}
 use Rattle.primitives.proofs.Opening.{joins}
-use Rattle.tables.specs.Tables.{QuadTable, quadCapacityOf, splineCapacityOf, quadRowAt, putSpline, splineAt}
+use Rattle.tables.specs.Tables.{quadCapacityOf, splineCapacityOf, quadRowAt, splineAt}
 use Rattle.tables.specs.Run.{World, world}
 use Rattle.tables.proofs.Pushes.{lastOf, splineEdit}
 use Rattle.tables.proofs.Sound.{last-is}
-use Rattle.tables.proofs.SplineRows.{flaggedAs, spline-capacity-stays, row-new, row-kept, row-far, row-cleared}
 use Rattle.tables.proofs.Standing.{splineOn, quadOn}
+
+abbrev pub done : World → Type 0
+done w = isDone (w .state .answer) ≡ true
 
 -- the capacities are within what the tables take, and the splines within the capacity
 pub record Holds (caps : Capacities) (w : World) : Type 0 where
@@ -147,7 +148,7 @@ module _ (setting : Setting) (bq bs : ℕ) where
 pub record Top (w : World) (e : SplineEdit) : Type 0 where
   pub next : e .next .splines ≡ suc (e .at)
   pub low : e .at ≤ w .state .splines
-  pub done : isDone (e .next .answer) ≡ true
+  pub made : isDone (e .next .answer) ≡ true
   pub mark : e .next .mark ≡ false
   pub one : e .clears ≡ true → 0 < e .at
 
@@ -158,7 +159,7 @@ top w true f h start end sum quads a =
     record {
       next = add-one (w .state .splines);
       low = le-of-eq refl;
-      done = refl;
+      made = refl;
       mark = refl;
       one = λ c. h (unmarked (w .state .mark) c);
     }
@@ -170,7 +171,7 @@ top w false f h start end sum quads a =
     record {
       next = back (w .state .splines) (h (f refl));
       low = less (w .state .splines);
-      done = refl;
+      made = refl;
       mark = refl;
       one = λ c. absurd (true≢false (sym c));
     }

@@ -2,17 +2,11 @@
 -- does nothing. Assumes nothing.
 use Prim.Native.Nat.{ℕ, suc, _+_, _-_, _<_}
 use mathlib.Core.Path.{_≡_, refl, sym, ap, _∙_, subst}
-use mathlib.Core.Bool.{Bool, true, false, not, _&&_, cond, true≢false}
+use mathlib.Core.Bool.{Bool, true, false}
 use native.Mathlib.Nat.{le-of-eq, lt-of-lt-of-le, lt-of-le-of-lt}
 use native.Mathlib.Numerals.{add-one}
 use native.Mathlib.Omega.{arith}
-use lib.Dec.{leb}
-use lib.Ieee.{Float, le}
-use borrow.Author.Tests.{leb-false}
-use Rattle.leaves.specs.Single.{_⊕_}
-use Rattle.leaves.specs.Whole.{limit32}
-use Rattle.answer.specs.declared.Answer.{Answer}
-use Rattle.answer.specs.declared.Answer.the-variants.{QuadsFull, SplinesFull, SumTooLarge}
+use lib.Ieee.{Float}
 use Rattle.answer.specs.Number.{isDone}
 use Rattle.point.specs.declared.Point.{Point}
 use Rattle.point.specs.declared.WeightedPoint.{WeightedPoint}
@@ -28,10 +22,8 @@ use Rattle.primitives.specs.declared.Shape.{Shape}
 use Rattle.primitives.specs.declared.Shape.the-variants as shape
 use Rattle.primitives.specs.declared.SplineEdit.{SplineEdit}
 use Rattle.primitives.specs.declared.Edit.{Edit}
-use Rattle.primitives.specs.declared.Edit.the-variants.{Keep, Extend, Bend}
-use Rattle.primitives.specs.Quads.{curveOf}
 use Rattle.primitives.specs.Splines.{opensOf, lineAngleOf, sumBefore, splineEditOf}
-use Rattle.primitives.specs.Plan.{refusedOf, planLineOf, quadRowOf, planCurveOf}
+use Rattle.primitives.specs.Plan.{quadRowOf}
 use Rattle.primitives.specs.Shapes.{shapeOf}
 use Rattle.primitives.proofs.Shapes.{planShapeOf, planned}
 use Rattle.tables.specs.Tables.{QuadTable, putQuad, quadRowAt, putSpline, splineAt}
@@ -41,6 +33,7 @@ use Rattle.tables.proofs.Sound.{Sound, pred-lt}
 use Rattle.tables.proofs.RowLaws.{row-put}
 use Rattle.tables.proofs.Spans.{ownerAt, same-owner}
 use Rattle.tables.proofs.Owners.{not-both}
+use Rattle.tables.proofs.Verdicts.{lineOpens, line-needs, line-stored, curveOpens, ownCurve, curveSum, curveEdit, curve-needs, curve-stored}
 use Rattle.tables.proofs.Ends.{Wide, end-new}
 
 -- the edit of a primitive of this kind from start to end: `first` is the angle that decides, `after` the last angle then
@@ -73,28 +66,18 @@ module _ (setting : Setting) (caps : Capacities) (w : World) where
   unfolding planShapeOf applyOf
   dropped p e = comes-to p shape.Nothing e
 
-  -- a test that was passed, since nothing was refused
-  pub passes : (t : Bool) (a : Answer) (x : Edit) → isDone a ≡ false
-      → isDone (applyOf (cond t (Keep (refusedOf (w .state) a)) x) (w .quads) (w .splines) .state .answer) ≡ true → t ≡ false
-  unfolding applyOf refusedOf
-  passes true a x n d = absurd (true≢false (sym d ∙ n))
-  passes false a x n d = refl
-
   pub drew-straight : (p : Primitive) (start end : Point) → shapeOf p ≡ shape.Straight start end → isDone (pushOf setting caps p w .state .answer) ≡ true
       → Drew setting Straight start end (angleOf (minusOf end start)) (lineAngleOf setting (w .state .last) (angleOf (minusOf end start))) w
       (pushOf setting caps p w)
-  unfolding planShapeOf planLineOf applyOf
+  unfolding planShapeOf applyOf
   drew-straight p start end e d =
-      let angle = angleOf (minusOf end start) in
-      let opens = opensOf setting Straight (w .state) (lastOf w) angle start in
-      let edit = splineEdit w opens start end (sumBefore opens (lastOf w)) (w .state .quads) (lineAngleOf setting (w .state .last) angle) in
       let c = comes-to p (shape.Straight start end) e in
-      let t = passes (opens && leb (caps .splines) (w .state .splines)) SplinesFull (Extend edit) refl (ap (λ (v : World). isDone (v .state .answer)) (sym c) ∙ d) in
+      let n = line-needs setting caps w start end (ap (λ (v : World). isDone (v .state .answer)) (sym c) ∙ d) in
       record {
-        sum = sumBefore opens (lastOf w);
+        sum = sumBefore (lineOpens setting caps w start end) (lastOf w);
         quads = w .state .quads;
         table = w .quads;
-        is = c ∙ ap (λ (b : Bool). applyOf (cond b (Keep (refusedOf (w .state) SplinesFull)) (Extend edit)) (w .quads) (w .splines)) t;
+        is = c ∙ ap (λ (y : Edit). applyOf y (w .quads) (w .splines)) (line-stored setting caps w start end n);
         flat = λ z. refl;
         curved = λ z. absurd (not-both refl z);
       }
@@ -102,37 +85,21 @@ module _ (setting : Setting) (caps : Capacities) (w : World) where
   pub drew-round : (p : Primitive) (p0 p1 p2 : WeightedPoint) (a b : Angle) → shapeOf p ≡ shape.Curved p0 p1 p2 a b
       → isDone (pushOf setting caps p w .state .answer) ≡ true → Sound caps w
       → Drew setting Round (appliedOf p0) (appliedOf p2) a b w (pushOf setting caps p w)
-  unfolding planShapeOf planCurveOf applyOf quadRowOf
+  unfolding planShapeOf applyOf quadRowOf
   drew-round p p0 p1 p2 a b e d S =
-      let start = appliedOf p0 in
-      let end = appliedOf p2 in
-      let opens = opensOf setting Round (w .state) (lastOf w) a start in
-      let curve = curveOf start (appliedOf p1) end in
-      let sum = sumBefore opens (lastOf w) ⊕ curve .curvature in
-      let edit = splineEdit w opens start end sum (w .state .quads + 1) b in
-      let row = quadRowOf p0 p1 p2 curve edit in
-      let last : (Bool → Edit) = λ t. cond t (Keep (refusedOf (w .state) SumTooLarge)) (Bend edit (w .state .quads) row) in
-      let middle : (Bool → Bool → Edit) = λ t u. cond t (Keep (refusedOf (w .state) SplinesFull)) (last u) in
-      let all : (Bool → Bool → Bool → World) = λ q t u. applyOf (cond q (Keep (refusedOf (w .state) QuadsFull)) (middle t u)) (w .quads) (w .splines) in
-      let full = leb (caps .quads) (w .state .quads) in
-      let none = opens && leb (caps .splines) (w .state .splines) in
-      let over = not (le sum limit32) in
-      let c : pushOf setting caps p w ≡ all full none over = comes-to p (shape.Curved p0 p1 p2 a b) e in
-      let d₁ = ap (λ (v : World). isDone (v .state .answer)) (sym c) ∙ d in
-      let t₁ = passes full QuadsFull (middle none over) refl d₁ in
-      let d₂ = ap (λ (q : Bool). isDone (all q none over .state .answer)) (sym t₁) ∙ d₁ in
-      let t₂ = passes none SplinesFull (last over) refl d₂ in
-      let d₃ = ap (λ (t : Bool). isDone (all false t over .state .answer)) (sym t₂) ∙ d₂ in
-      let t₃ = passes over SumTooLarge (Bend edit (w .state .quads) row) refl d₃ in
+      let c = comes-to p (shape.Curved p0 p1 p2 a b) e in
+      let n = curve-needs setting caps w p0 p1 p2 a b (ap (λ (v : World). isDone (v .state .answer)) (sym c) ∙ d) in
+      let opens = curveOpens setting caps w p0 p1 p2 a b in
+      let row = quadRowOf p0 p1 p2 (ownCurve setting caps w p0 p1 p2 a b) (curveEdit setting caps w p0 p1 p2 a b opens) in
       record {
-        sum = sum;
+        sum = curveSum setting caps w p0 p1 p2 a b opens;
         quads = w .state .quads + 1;
         table = putQuad (w .quads) (w .state .quads) row;
-        is = c ∙ ap (λ (q : Bool). all q none over) t₁ ∙ ap (λ (t : Bool). all false t over) t₂ ∙ ap (all false false) t₃;
+        is = c ∙ ap (λ (y : Edit). applyOf y (w .quads) (w .splines)) (curve-stored setting caps w p0 p1 p2 a b n);
         flat = λ z. absurd (not-both z refl);
         curved = λ z. (
           add-one (w .state .quads),
-          same-owner (row-put (w .quads) (w .state .quads) row (lt-of-lt-of-le (leb-false (caps .quads) (w .state .quads) t₁) (S .room .rows))),
+          same-owner (row-put (w .quads) (w .state .quads) row (lt-of-lt-of-le (n .quads) (S .room .rows))),
         );
       }
 

@@ -29,6 +29,7 @@ use Rattle.primitives.specs.Plan.{refusedOf, markedOf}
 use Rattle.tables.specs.Tables.{QuadTable, SplineTable, clearFlag, putSpline, splineAt}
 use Rattle.tables.specs.Run.{World, world, applyOf, pushOf, runOf, startState}
 use Rattle.tables.proofs.Pushes.{lastOf, isMark, Allowed, splineEdit, Pushed, kept, marked, lined, bent, pushed}
+use Rattle.tables.proofs.SplineRows.{clear-length}
 use Rattle.tables.proofs.Sound.{Sound, sound-push, last-is, pred-suc, pred-lt}
 
 abbrev pub flagAt : SplineTable → ℕ → Bool
@@ -62,16 +63,11 @@ flagged-same E F w f g S =
 -- ---- the flags after a spline is written
 
 module _ (s : SplineTable) (edit : SplineEdit) where
-  clear-length : (b : Bool) → length (clearFlag b (s .contour) (edit .at)) ≡ length (s .contour)
-  unfolding clearFlag
-  clear-length true = length-set (s .contour) (edit .at - 1) (flagByteOf false)
-  clear-length false = refl
-
   flag-new : edit .at < length (s .contour) → flagAt (putSpline s edit) (edit .at) ≡ edit .row .contour
   unfolding putSpline splineAt
   flag-new h =
       ap isFlagOf (getD-set-same (clearFlag (edit .clears) (s .contour) (edit .at)) (edit .at) (flagByteOf (edit .row .contour)) 0
-      (lt-of-lt-of-le h (le-of-eq (sym (clear-length (edit .clears))))))
+      (lt-of-lt-of-le h (le-of-eq (sym (clear-length s edit (edit .clears))))))
       ∙ flag-back (edit .row .contour)
 
   flag-rest : (j : ℕ) → j ≢ edit .at → flagAt (putSpline s edit) j ≡ isFlagOf (getD (clearFlag (edit .clears) (s .contour) (edit .at)) j 0)

@@ -1,14 +1,13 @@
 -- A contour's primitives, run in the whole and alone: where both are done, or one is and the other has the room, both are, and the contour's tables are beside
 -- each other. A Move forgets what the contour before left: in the whole the contour begins as it does alone. Assumes nothing.
 use Prim.Native.Nat.{ℕ, _+_, _≤_, zero-le}
-use mathlib.Core.Path.{_≡_, refl, sym, ap, _∙_, subst, subst₂}
+use mathlib.Core.Path.{_≡_, refl, sym, subst₂}
 use mathlib.Core.Bool.{true, false, true≢false}
 use mathlib.Core.List.{List, [], _∷_}
 use native.Mathlib.Nat.{le-trans, le-of-eq, add-zero, not-suc-le-zero}
 use native.Mathlib.Omega.{arith}
-use Rattle.answer.specs.Number.{isDone}
 use Rattle.point.specs.declared.Angle.{Angle}
-use Rattle.point.specs.declared.Angle.the-variants.{Missing, Known}
+use Rattle.point.specs.declared.Angle.the-variants.{Missing}
 use Rattle.point.specs.declared.Setting.{Setting}
 use Rattle.point.specs.declared.Setting.the-variants.{Screen, Knife}
 use Rattle.primitives.specs.declared.Capacities.{Capacities}
@@ -16,17 +15,13 @@ use Rattle.primitives.specs.declared.Primitive.{Primitive}
 use Rattle.primitives.specs.declared.Primitive.the-variants.{Contour}
 use Rattle.primitives.specs.Splines.{lineAngleOf, moveAngleOf}
 use Rattle.primitives.specs.Plan.{markedOf, planOf}
-use Rattle.tables.specs.Tables.{QuadTable, SplineTable, quadCapacityOf, splineCapacityOf, capacitiesOf}
+use Rattle.tables.specs.Tables.{QuadTable, SplineTable, capacitiesOf}
 use Rattle.tables.specs.Run.{World, world, applyOf, pushOf, runOf, startState}
-use Rattle.tables.proofs.Pushes.{isMark}
 use Rattle.tables.proofs.Runs.{next-is}
 use Rattle.tables.proofs.Moves.{run-done, run-grows, run-more, NoMark}
-use Rattle.tables.proofs.Beside.{Holds, Kept, kept-self, kept-then, Beside}
+use Rattle.tables.proofs.Beside.{done, Holds, Kept, kept-self, kept-then, Beside}
 use Rattle.tables.proofs.Stepping.{Stepped, Given, both, whole, alone}
 use Rattle.tables.proofs.Pushing.{push-step}
-
-abbrev done : World → Type 0
-done w = isDone (w .state .answer) ≡ true
 
 -- ---- primitives without a Move's
 module _ (setting : Setting) (bq bs : ℕ) (capsW capsA : Capacities) where

@@ -1,4 +1,5 @@
 pub mod RowLaws
+pub mod SplineRows
 pub mod Written
 pub mod RunningSums
 pub mod Growth
@@ -14,11 +15,10 @@ pub mod Moves
 pub mod Ends
 pub mod Owners
 pub mod Rounds
+pub mod Verdicts
 pub mod Drawn
 pub mod KindLaws
 pub mod Standing
-pub mod SplineRows
-pub mod Verdicts
 pub mod Beside
 pub mod Stepping
 pub mod Pushing

@@ -1,14 +1,13 @@
 -- The contours of a drawing, run in the whole and each alone: where all are done, or the whole is and each has no less room, or each is and there is room for
 -- the sums of theirs, all are done, and the tables of the contours stand in those of the whole one after the other. Assumes nothing.
 use Prim.Native.Nat.{ℕ, zero, suc, _+_, _≤_, _<_}
-use mathlib.Core.Path.{_≡_, refl, sym, ap, ap₂, _∙_, subst, subst₂}
+use mathlib.Core.Path.{_≡_, refl, sym, ap, ap₂, _∙_, subst₂}
 use mathlib.Core.Logic.{_⊎_, inl}
-use mathlib.Core.Bool.{Bool, true}
-use mathlib.Core.List.{List, [], _∷_, _++_}
-use native.Mathlib.Nat.{le-trans, le-of-eq, lt-of-lt-of-le, le-of-suc-le-suc, not-suc-le-zero, add-assoc}
+use mathlib.Core.Bool.{true}
+use mathlib.Core.List.{List, [], _∷_}
+use native.Mathlib.Nat.{le-trans, le-of-eq, lt-of-le-of-lt, le-of-suc-le-suc, not-suc-le-zero}
 use native.Mathlib.Omega.{arith}
 use lib.ListN.{length}
-use Rattle.answer.specs.Number.{isDone}
 use Rattle.point.specs.declared.Setting.{Setting}
 use Rattle.primitives.specs.declared.Capacities.{Capacities}
 use Rattle.primitives.specs.declared.Primitive.{Primitive}
@@ -17,25 +16,22 @@ use Rattle.primitives.specs.declared.QuadRow.{QuadRow}
 use Rattle.primitives.specs.declared.SplineRow.{SplineRow}
 use Rattle.store.specs.Columns.{Columns}
 use Rattle.store.specs.Drawable.{totalUsesOf}
-use Rattle.store.specs.Contours.{Drawing, aloneOf, uptoMove, contoursFrom}
+use Rattle.store.specs.Contours.{Drawing, uptoMove, contoursFrom}
 use Rattle.tables.specs.Tables.{QuadTable, SplineTable, quadCapacityOf, splineCapacityOf, capacitiesOf, quadRowAt, splineAt}
 use Rattle.tables.specs.Run.{World, world, runOf, startState}
-use Rattle.tables.specs.Commands.{primitivesFrom, primitivesOf, tablesOf}
+use Rattle.tables.specs.Commands.{primitivesFrom, tablesOf}
 use Rattle.tables.proofs.Runs.{run-append}
 use Rattle.tables.proofs.Moves.{run-done}
 use Rattle.tables.proofs.Sound.{Sound, sound, sound-run}
 use Rattle.tables.proofs.Owners.{home, home-owner}
 use Rattle.tables.proofs.Flags.{Flagged, Met, flagged-run}
-use Rattle.tables.proofs.Standing.{splineOn, quadOn, Stands, StandFrom}
-use Rattle.tables.proofs.Beside.{Holds, Kept, kept-self, kept-then}
+use Rattle.tables.proofs.Standing.{Stands, StandFrom}
+use Rattle.tables.proofs.Beside.{done, Holds, Kept, kept-self}
 use Rattle.tables.proofs.Stepping.{Stepped, Given, both, whole, alone}
 use Rattle.tables.proofs.Joining.{contour-step}
 use Rattle.tables.proofs.Slices.{alone-primitives, fromMove, upto-no-mark, later-contours, from-short, Moves, from-moves, contour-first}
 
 -- ---- a list of tables: whether each is done, and how many quads and splines they have
-abbrev pub done : World → Type 0
-done w = isDone (w .state .answer) ≡ true
-
 abbrev pub AllDone : List World → Type 0
 AllDone [] = Unit {0}
 AllDone (a ∷ rest) = done a × AllDone rest
@@ -106,14 +102,11 @@ module _ (setting : Setting) (capsW : Capacities) (tq : ℕ → QuadTable) (ts :
           earlier = λ i e.
               let l = le-of-eq e in
               let H = home capsW W S i l in
-              lt-of-le-of-lt' (le-of-eq (ap (λ (r : QuadRow). r .spline) (early-quad i l) ∙ home-owner capsW W S i H)) (H .inside);
+              lt-of-le-of-lt (le-of-eq (ap (λ (r : QuadRow). r .spline) (early-quad i l) ∙ home-owner capsW W S i H)) (H .inside);
         }
       where
         inside : (w a b k : ℕ) → w ≡ b + a → k < a → b + k < w
         inside w a b k e h = omega arith
-
-        lt-of-le-of-lt' : {a b c : ℕ} → a ≤ b → b < c → a < c
-        lt-of-le-of-lt' h k = omega arith
 
     earlier-kept : Kept bq bs W end
     earlier-kept = record { splines = early-spline; quads = early-quad }

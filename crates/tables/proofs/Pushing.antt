@@ -1,16 +1,15 @@
 -- A primitive that is no Move's, pushed in the whole and alone, by what it comes to: a line, a curve, nothing, or too many pieces. Assumes nothing.
 use Prim.Native.Nat.{ℕ, suc, _+_, _-_, _≤_, _<_}
-use mathlib.Core.Path.{_≡_, refl, sym, ap, ap₂, _∙_, subst, subst₂}
-use mathlib.Core.Logic.{_⊎_, inl, inr, _≢_}
+use mathlib.Core.Path.{_≡_, refl, sym, ap, _∙_, subst, subst₂}
+use mathlib.Core.Logic.{inl, inr, _≢_}
 use mathlib.Core.Bool.{Bool, true, false, true≢false}
-use native.Mathlib.Nat.{le-trans, le-of-eq, lt-of-lt-of-le, lt-of-le-of-lt, eq-or-lt-of-le, le-of-suc-le-suc, ne-of-lt}
+use native.Mathlib.Nat.{le-of-eq, lt-of-lt-of-le, eq-or-lt-of-le, le-of-suc-le-suc, ne-of-lt}
 use native.Mathlib.Numerals.{add-one}
 use native.Mathlib.Omega.{arith}
 use lib.Dec.{T}
 use lib.Ieee.{Float, le}
 use Rattle.leaves.specs.Single.{_⊕_}
 use Rattle.leaves.specs.Whole.{limit32}
-use Rattle.answer.specs.Number.{isDone}
 use Rattle.point.specs.declared.Point.{Point}
 use Rattle.point.specs.declared.WeightedPoint.{WeightedPoint}
 use Rattle.point.specs.declared.Angle.{Angle}
@@ -23,7 +22,6 @@ use Rattle.primitives.specs.declared.Primitive.{Primitive}
 use Rattle.primitives.specs.declared.Primitive.the-variants.{Contour, Line, Quad, Excess}
 use Rattle.primitives.specs.declared.Kind.the-variants.{Straight, Round}
 use Rattle.primitives.specs.declared.QuadRow.{QuadRow}
-use Rattle.primitives.specs.declared.SplineRow.{SplineRow}
 use Rattle.primitives.specs.declared.SplineEdit.{SplineEdit}
 use Rattle.primitives.specs.declared.Edit.{Edit}
 use Rattle.primitives.specs.declared.Edit.the-variants.{Extend}
@@ -35,8 +33,8 @@ use Rattle.tables.proofs.Pushes.{lastOf, isMark, splineEdit}
 use Rattle.tables.proofs.Drawn.{edit-sets}
 use Rattle.tables.proofs.RowLaws.{row-put, row-stays, capacity-stays}
 use Rattle.tables.proofs.Verdicts.{Opening, lineOpens, lineEdit, line-needs, line-stored, curveOpens, ownCurve, curveSum, curveEdit, bendEdit, CurveNeeds, curve-needs, curve-stored}
-use Rattle.tables.proofs.Standing.{splineOn, quadOn}
-use Rattle.tables.proofs.Beside.{Holds, Kept, kept-self, Beside, opens-same, free, sum-same, EditOn, edit-on, Top, top}
+use Rattle.tables.proofs.Standing.{quadOn}
+use Rattle.tables.proofs.Beside.{done, Holds, kept-self, Beside, opens-same, free, sum-same, EditOn, edit-on, top}
 use Rattle.tables.proofs.Stepping.{Stepped, Given, both, whole, alone, edited}
 
 -- ---- any edit of a world with room for it
@@ -61,9 +59,6 @@ module _ (caps : Capacities) (w : World) (H : Holds caps w) (opens : Bool) (star
       go false e = absurd (true≢false (sym e))
 
 module _ (setting : Setting) (bq bs : ℕ) (capsW capsA : Capacities) (W A : World) (B : Beside setting bq bs W A) (HW : Holds capsW W) (HA : Holds capsA A) where
-  abbrev done : World → Type 0
-  done w = isDone (w .state .answer) ≡ true
-
   -- ---- room on one side is room on the other
   less-alone : (w a cw ca b : ℕ) → w ≡ b + a → w < cw → cw ≤ b + ca → a < ca
   less-alone w a cw ca b e h k = omega arith

@@ -1,24 +1,22 @@
 -- The primitives of a contour alone are those that the whole has for its commands; and the commands after a Move are the contour's, then those from the next Move
 -- on. Assumes nothing.
-use Prim.Native.Nat.{ℕ, zero, suc, _+_, _-_, _≤_, _<_, max, zero-le, suc-le-suc}
+use Prim.Native.Nat.{ℕ, zero, suc, _+_, _-_, _≤_, _<_, max, zero-le}
 use mathlib.Core.Path.{_≡_, refl, sym, ap, ap₂, _∙_}
 use mathlib.Core.List.{List, [], _∷_, _++_}
-use native.Mathlib.Nat.{le-trans, le-of-eq, lt-of-lt-of-le, le-refl, add-assoc, add-zero, zero-add}
+use native.Mathlib.Nat.{le-trans, le-refl, add-assoc, add-zero}
 use native.Mathlib.Omega.{arith}
 use lib.Ieee.{Float, nan}
-use lib.ListN.{length, take, drop, getD}
+use lib.ListN.{length, drop, getD}
 use lib.Seq.{getD-take, getD-drop, take-length}
 use Rattle.point.specs.declared.WeightedPoint.{WeightedPoint}
-use Rattle.point.specs.Point.{pointAt, weighted}
 use Rattle.point.specs.declared.Setting.{Setting}
 use Rattle.primitives.specs.declared.Capacities.{Capacities}
-use Rattle.primitives.specs.declared.Cubic.{Cubic}
 use Rattle.primitives.specs.declared.Primitive.{Primitive}
-use Rattle.primitives.specs.declared.Primitive.the-variants.{Contour, Line, Quad}
+use Rattle.primitives.specs.declared.Primitive.the-variants.{Contour, Line}
 use Rattle.primitives.specs.Cubics.{cubicQuadsOf}
 use Rattle.store.specs.Columns.{Columns, columns, usesOf, storedPointOf}
 use Rattle.store.specs.Drawable.{totalUsesOf}
-use Rattle.store.specs.Contours.{Drawing, part, aloneOf, uptoMove, contoursFrom}
+use Rattle.store.specs.Contours.{part, aloneOf, uptoMove, contoursFrom}
 use Rattle.tables.specs.Commands.{cubicFrom, commandPrimitivesOf, primitivesFrom, primitivesOf}
 use Rattle.tables.proofs.Moves.{NoMark, command-no-mark, primitives-append}
 

@@ -44,6 +44,7 @@ use Rattle.tables.proofs.RunningSums.{Bent, natural, zero-natural, zero
 use Rattle.tables.proofs.Pushes.{lastOf, Allowed, splineEdit, RowOf, Pushed, kept, marked, lined, bent, pushed}
 use Rattle.tables.proofs.Spans.{Span, Agree, same-sum, same-owner, span-none, span-agree, span-more, span-total, few-quads}
 use Rattle.tables.proofs.RowLaws.{row-put, row-stays, capacity-stays}
+use Rattle.tables.proofs.SplineRows.{clear-length}
 
 -- the counts are within the capacities, and these within what the tables take
 pub record Room (caps : Capacities) (w : World) : Type 0 where
@@ -108,12 +109,8 @@ module _ (s : SplineTable) (edit : SplineEdit) where
   totals-length = length-set (s .curvature) (edit .at) (edit .row .curvature)
 
   pub flags-length : length (putSpline s edit .contour) ≡ length (s .contour)
-  unfolding putSpline clearFlag
-  flags-length = length-set (clearFlag (edit .clears) (s .contour) (edit .at)) (edit .at) _ ∙ go (edit .clears)
-    where
-      go : (b : Bool) → length (clearFlag b (s .contour) (edit .at)) ≡ length (s .contour)
-      go true = length-set (s .contour) (edit .at - 1) _
-      go false = refl
+  unfolding putSpline
+  flags-length = length-set (clearFlag (edit .clears) (s .contour) (edit .at)) (edit .at) _ ∙ clear-length s edit (edit .clears)
 
   pub firsts-length : length (putSpline s edit .first-quad) ≡ length (s .first-quad)
   unfolding putSpline

@@ -1,10 +1,10 @@
 -- The rows of the spline table after an edit is stored: the edit's own row; the one before it, which loses its flag where the edit clears that; and the others, which
 -- stay. The capacity stays too. Assumes nothing.
-use Prim.Native.Nat.{ℕ, _-_, _≤_, _<_, min}
+use Prim.Native.Nat.{ℕ, _-_, _<_, min}
 use mathlib.Core.Path.{_≡_, refl, sym, ap, _∙_}
 use mathlib.Core.Logic.{_≢_}
 use mathlib.Core.Bool.{Bool, true, false}
-use native.Mathlib.Nat.{le-trans, le-of-eq, lt-of-lt-of-le, min-le-left, min-le-right}
+use native.Mathlib.Nat.{le-of-eq, lt-of-lt-of-le, min-le-left, min-le-right}
 use lib.Ieee.{nan}
 use lib.ListN.{length, getD, set, length-set}
 use lib.Seq.{getD-set-same, getD-set-other}
@@ -62,7 +62,7 @@ takes s k h =
     }
 
 module _ (s : SplineTable) (edit : SplineEdit) where
-  clear-length : (b : Bool) → length (clearFlag b (s .contour) (edit .at)) ≡ length (s .contour)
+  pub clear-length : (b : Bool) → length (clearFlag b (s .contour) (edit .at)) ≡ length (s .contour)
   unfolding clearFlag
   clear-length true = length-set (s .contour) (edit .at - 1) (flagByteOf false)
   clear-length false = refl

@@ -1,23 +1,14 @@
 -- One primitive of a contour, pushed in the whole and alone. Where both are done, or one is and the other has the room, both are done, they stay beside each other,
 -- and no row before the contour changes. Assumes nothing.
 use Prim.Native.Nat.{ℕ, suc, _+_, _-_, _≤_, _<_}
-use mathlib.Core.Path.{_≡_, refl, sym, ap, ap₂, _∙_, subst, subst₂}
-use mathlib.Core.Logic.{_⊎_, inl, inr, _≢_}
-use mathlib.Core.Bool.{Bool, true, false, true≢false}
-use native.Mathlib.Nat.{le-trans, le-of-eq, lt-of-lt-of-le, lt-of-le-of-lt, eq-or-lt-of-le, le-of-suc-le-suc, ne-of-lt, le-refl}
-use native.Mathlib.Numerals.{add-one}
+use mathlib.Core.Path.{_≡_, refl, sym, ap, _∙_}
+use mathlib.Core.Logic.{inl, inr, _≢_}
+use mathlib.Core.Bool.{Bool, true, false}
+use native.Mathlib.Nat.{le-trans, le-of-eq, le-of-lt, lt-of-lt-of-le, eq-or-lt-of-le, le-of-suc-le-suc, ne-of-lt}
 use native.Mathlib.Omega.{arith}
-use lib.Ieee.{Float}
-use Rattle.answer.specs.Number.{isDone}
-use Rattle.point.specs.declared.Point.{Point}
-use Rattle.point.specs.declared.WeightedPoint.{WeightedPoint}
 use Rattle.point.specs.declared.Angle.{Angle}
 use Rattle.point.specs.declared.Setting.{Setting}
-use Rattle.point.specs.Point.{appliedOf, minusOf}
-use Rattle.point.specs.Angle.{angleOf}
 use Rattle.primitives.specs.declared.Capacities.{Capacities}
-use Rattle.primitives.specs.declared.Kind.the-variants.{Straight, Round}
-use Rattle.primitives.specs.declared.QuadRow.{QuadRow}
 use Rattle.primitives.specs.declared.SplineRow.{SplineRow}
 use Rattle.primitives.specs.declared.SplineEdit.{SplineEdit}
 use Rattle.primitives.specs.Splines.{lineAngleOf}
@@ -25,13 +16,13 @@ use Rattle.tables.specs.Tables.{QuadTable, quadCapacityOf, splineCapacit
 use Rattle.tables.specs.Run.{World, world}
 use Rattle.tables.proofs.SplineRows.{flaggedAs, spline-capacity-stays, row-new, row-kept, row-far, row-cleared}
 use Rattle.tables.proofs.Standing.{splineOn, quadOn}
-use Rattle.tables.proofs.Beside.{Holds, Kept, Beside, EditOn, Top}
+use Rattle.tables.proofs.Beside.{done, Holds, Kept, Beside, EditOn, Top}
 
 module _ (setting : Setting) (bq bs : ℕ) (capsW capsA : Capacities) where
   -- what a step, or a run, comes to: W was the whole before it
   pub record Stepped (W W' A' : World) : Type 0 where
-    pub whole-done : isDone (W' .state .answer) ≡ true
-    pub alone-done : isDone (A' .state .answer) ≡ true
+    pub whole-done : done W'
+    pub alone-done : done A'
     pub beside : Beside setting bq bs W' A'
     pub kept : Kept bq bs W W'
     pub whole-holds : Holds capsW W'
@@ -39,16 +30,13 @@ module _ (setting : Setting) (bq bs : ℕ) (capsW capsA : Capacities) where
 
   -- both are done, or one of them is, and the other has no less room
   pub data Given (W' A' : World) : Type 0 where
-    both : isDone (W' .state .answer) ≡ true → isDone (A' .state .answer) ≡ true → Given W' A'
-    whole : isDone (W' .state .answer) ≡ true → capsW .quads ≤ bq + capsA .quads → capsW .splines ≤ bs + capsA .splines → Given W' A'
-    alone : isDone (A' .state .answer) ≡ true → bq + A' .state .quads ≤ capsW .quads → bs + A' .state .splines ≤ capsW .splines → Given W' A'
+    both : done W' → done A' → Given W' A'
+    whole : done W' → capsW .quads ≤ bq + capsA .quads → capsW .splines ≤ bs + capsA .splines → Given W' A'
+    alone : done A' → bq + A' .state .quads ≤ capsW .quads → bs + A' .state .splines ≤ capsW .splines → Given W' A'
 
   -- ---- an edit stored in both, with quad tables that are beside each other too
   module _ (W A : World) (B : Beside setting bq bs W A) (HW : Holds capsW W) (HA : Holds capsA A) (eW eA : SplineEdit)
       (E : EditOn setting bq bs W A B eW eA) (TW : Top W eW) (TA : Top A eA) (rW : eW .at < capsW .splines) (rA : eA .at < capsA .splines) where
-    abbrev sW : SplineRow → SplineRow
-    sW = splineOn bq
-
     room-whole : eW .at < splineCapacityOf (W .splines)
     room-whole = lt-of-lt-of-le rW (HW .splines)
 
@@ -72,17 +60,14 @@ module _ (setting : Setting) (bq bs : ℕ) (capsW capsA : Capacities) where
         ∙ sym (ap (splineOn bq) (row-kept (A .splines) eA k (ne-of-lt l) c))
     old k l true c = elim (eq-or-lt-of-le l) [
       | inl e ↦
-          row-cleared (W .splines) eW (bs + k) (apart k l) (just-before (eW .at) (eA .at) (E .at) e) (lt-of-lt-of-le (below (eW .at) (eA .at) (E .at) l) (le-of-lt' room-whole)) (E .clears ∙ c)
+          row-cleared (W .splines) eW (bs + k) (apart k l) (just-before (eW .at) (eA .at) (E .at) e) (lt-of-lt-of-le (below (eW .at) (eA .at) (E .at) l) (le-of-lt room-whole)) (E .clears ∙ c)
           ∙ ap (flaggedAs false) (old-row k l)
-          ∙ sym (ap (splineOn bq) (row-cleared (A .splines) eA k (ne-of-lt l) (before-it (eA .at) e) (lt-of-lt-of-le l (le-of-lt' room-alone)) c))
+          ∙ sym (ap (splineOn bq) (row-cleared (A .splines) eA k (ne-of-lt l) (before-it (eA .at) e) (lt-of-lt-of-le l (le-of-lt room-alone)) c))
       | inr u ↦
           row-far (W .splines) eW (bs + k) (apart k l) (far (eW .at) (eA .at) (E .at) u) ∙ old-row k l
           ∙ sym (ap (splineOn bq) (row-far (A .splines) eA k (ne-of-lt l) (not-before (eA .at) u)))
     ]
       where
-        le-of-lt' : {a b : ℕ} → a < b → a ≤ b
-        le-of-lt' h = omega arith
-
         just-before : (w a : ℕ) → w ≡ bs + a → suc k ≡ a → bs + k ≡ w - 1
         just-before w a e f = omega arith
 
@@ -129,8 +114,8 @@ module _ (setting : Setting) (bq bs : ℕ) (capsW capsA : Capacities) where
         → Stepped W (world (eW .next) qW (putSpline (W .splines) eW)) (world (eA .next) qA (putSpline (A .splines) eA))
     edited qW qA cW cA rows before =
         record {
-          whole-done = TW .done;
-          alone-done = TA .done;
+          whole-done = TW .made;
+          alone-done = TA .made;
           beside =
               record {
                 splines = E .splines;

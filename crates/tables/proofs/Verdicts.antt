@@ -1,6 +1,6 @@
 -- What a primitive that comes to a line or a curve needs in order not to be refused, and that with it the edit is stored. Assumes nothing.
-use Prim.Native.Nat.{ℕ, _+_, _<_}
-use mathlib.Core.Path.{_≡_, refl, sym, ap, _∙_, subst}
+use Prim.Native.Nat.{_+_, _<_}
+use mathlib.Core.Path.{_≡_, refl, sym, ap, _∙_}
 use mathlib.Core.Bool.{Bool, true, false, not, _&&_, cond, true≢false}
 use lib.Dec.{T, leb}
 use lib.Ieee.{Float, le}
@@ -8,6 +8,7 @@ use lib.Ieee.Bits.{is-true}
 use borrow.Author.Tests.{leb-false, lt-leb}
 use Rattle.leaves.specs.Single.{_⊕_}
 use Rattle.leaves.specs.Whole.{limit32}
+use Rattle.answer.specs.declared.Answer.{Answer}
 use Rattle.answer.specs.declared.Answer.the-variants.{QuadsFull, SplinesFull, SumTooLarge}
 use Rattle.answer.specs.Number.{isDone}
 use Rattle.point.specs.declared.Point.{Point}
@@ -27,7 +28,6 @@ use Rattle.primitives.specs.Splines.{opensOf, lineAngleOf, sumBefore}
 use Rattle.primitives.specs.Plan.{refusedOf, planLineOf, quadRowOf, planCurveOf}
 use Rattle.tables.specs.Run.{World, applyOf}
 use Rattle.tables.proofs.Pushes.{lastOf, splineEdit}
-use Rattle.tables.proofs.Drawn.{passes}
 
 -- room for the spline that is opened, if one is
 abbrev pub Opening : Capacities → World → Bool → Type 0
@@ -42,6 +42,13 @@ opening-passes caps w true h = lt-leb (caps .splines) (w .state .splines) (h ref
 opening-passes caps w false h = refl
 
 module _ (setting : Setting) (caps : Capacities) (w : World) where
+  -- a test that was passed, since nothing was refused
+  passes : (t : Bool) (a : Answer) (x : Edit) → isDone a ≡ false
+      → isDone (applyOf (cond t (Keep (refusedOf (w .state) a)) x) (w .quads) (w .splines) .state .answer) ≡ true → t ≡ false
+  unfolding applyOf refusedOf
+  passes true a x n d = absurd (true≢false (sym d ∙ n))
+  passes false a x n d = refl
+
   -- ---- a line
   module _ (start end : Point) where
     abbrev pub lineOpens : Bool
@@ -54,7 +61,7 @@ module _ (setting : Setting) (caps : Capacities) (w : World) where
     pub line-needs : isDone (applyOf (planLineOf setting caps (w .state) (lastOf w) start end) (w .quads) (w .splines) .state .answer) ≡ true
         → Opening caps w lineOpens
     unfolding planLineOf
-    line-needs d = opening-is caps w lineOpens (passes setting caps w _ SplinesFull (Extend (lineEdit lineOpens)) refl d)
+    line-needs d = opening-is caps w lineOpens (passes _ SplinesFull (Extend (lineEdit lineOpens)) refl d)
 
     pub line-stored : Opening caps w lineOpens → planLineOf setting caps (w .state) (lastOf w) start end ≡ Extend (lineEdit lineOpens)
     unfolding planLineOf
@@ -97,11 +104,11 @@ module _ (setting : Setting) (caps : Capacities) (w : World) where
         let none = curveOpens && leb (caps .splines) (w .state .splines) in
         let over = not (le (curveSum curveOpens) limit32) in
         let answer : (Edit → Bool) = λ e. isDone (applyOf e (w .quads) (w .splines) .state .answer) in
-        let t₁ = passes setting caps w full QuadsFull (tested false none over) refl d in
+        let t₁ = passes full QuadsFull (tested false none over) refl d in
         let d₂ = ap (λ (t : Bool). answer (tested t none over)) (sym t₁) ∙ d in
-        let t₂ = passes setting caps w none SplinesFull (tested false false over) refl d₂ in
+        let t₂ = passes none SplinesFull (tested false false over) refl d₂ in
         let d₃ = ap (λ (t : Bool). answer (tested false t over)) (sym t₂) ∙ d₂ in
-        let t₃ = passes setting caps w over SumTooLarge (bendEdit curveOpens) refl d₃ in
+        let t₃ = passes over SumTooLarge (bendEdit curveOpens) refl d₃ in
         record {
           quads = leb-false (caps .quads) (w .state .quads) t₁;
           opening = opening-is caps w curveOpens t₂;
