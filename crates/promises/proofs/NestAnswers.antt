@@ -14,13 +14,13 @@ use Rattle.tables.specs.Run.{World}
 use Rattle.tables.proofs.Nested.{worldsFrom, AllDone, quadsIn, splinesIn, from-whole, from-alones}
 use Rattle.flatten.specs.Flatten.{Flattening}
 use Rattle.promises.specs.Accepted.{Job, Accepted}
-use Rattle.promises.specs.Nests.{Lent, lentTo, jobOf, alonesFrom, alonesOf, All, total, NoSmaller, AlonesAccepted, WholeAccepted}
+use Rattle.promises.specs.Nests.{Lent, lentTo, jobOf, alonesFrom, alonesOf, All, total, NoSmaller, AlonesAccepted, WholeAccepted, WholeTells, PiecesTell}
 use Rattle.promises.proofs.Flattened.{worldOf, itemsIn, passed, accepts, drawable-unless}
 use Rattle.promises.proofs.Decoding.{capsOf}
 use Rattle.promises.proofs.Cutting.{all-map}
 use Rattle.promises.proofs.JoinedWalks.{length-join}
 use Rattle.promises.proofs.Nested.{tablesQ, tablesS, worldsOf, worlds-are, joins, Fits, fits-told, fits-holds}
-use Rattle.promises.proofs.Nests.{all-two, settings, all-done, totals, splines-are, quads-are, points-are}
+use Rattle.promises.proofs.Nests.{all-two, settings, all-done, totals, splines-are, quads-are, points-are, nests-join, spread-alike}
 
 -- ---- each alone
 module _ (job : Job) (lent : ℕ → Lent) (room : (i : ℕ) → NoSmaller (lentTo job) (lent i)) (n : ℕ) (fits : Fits n (job .output)) where
@@ -105,3 +105,12 @@ whole-accepted job lent usable each room =
       y = le-trans (le-of-eq points) (room .y);
       end = le-trans (le-of-eq points) (room .end);
     }))
+
+-- ---- the whole tells of the pieces, and the pieces of the whole
+pub whole-tells : WholeTells
+whole-tells job lent h room spread = nests-join job lent h (alones-accepted job lent h room) spread
+
+pub pieces-tell : PiecesTell
+pieces-tell job lent usable each room spread =
+    let h = whole-accepted job lent usable each room in
+    (h, nests-join job lent h each (λ e. spread-alike job lent h each .1 (spread e)))

@@ -117,3 +117,17 @@ abbrev pub WholeAccepted : Type 0
 WholeAccepted =
     (job : Job) (lent : ℕ → Lent) → flatteningOf job .result .answer ≢ Unusable → All Accepted (alonesOf job lent)
     → RoomFor (lentTo job) (map flatteningOf (alonesOf job lent)) → Accepted job
+
+-- ---- so a user may look at the whole alone,
+abbrev pub WholeTells : Type 0
+WholeTells =
+    (job : Job) (lent : ℕ → Lent) → Accepted job → ((i : ℕ) → NoSmaller (lentTo job) (lent i)) → (job .setting ≡ Screen → Spread (flatteningOf job))
+    → Joined (flatteningOf job) (map flatteningOf (alonesOf job lent))
+
+-- or at the pieces alone
+abbrev pub PiecesTell : Type 0
+PiecesTell =
+    (job : Job) (lent : ℕ → Lent) → flatteningOf job .result .answer ≢ Unusable → All Accepted (alonesOf job lent)
+    → RoomFor (lentTo job) (map flatteningOf (alonesOf job lent))
+    → (job .setting ≡ Screen → All (λ (alone : Job). Spread (flatteningOf alone)) (alonesOf job lent))
+    → Accepted job × Joined (flatteningOf job) (map flatteningOf (alonesOf job lent))

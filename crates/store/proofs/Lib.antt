@@ -17,3 +17,4 @@ pub mod Steps
 pub mod Alone
 pub mod OwnCalls
 pub mod AloneDrawable
+pub mod Covering

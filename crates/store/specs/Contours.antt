@@ -1,10 +1,12 @@
 -- RULES, Contours: a contour by itself is a drawing too, defined by the commands of the whole. Assumes nothing.
 use Prim.Native.Nat.{ℕ, zero, suc, _+_}
-use mathlib.Core.List.{List, [], _∷_}
+use mathlib.Core.Path.{_≡_}
+use mathlib.Core.Bool.{true}
+use mathlib.Core.List.{List, [], _∷_, flatMap}
 use lib.ListN.{length, take, drop}
 use Rattle.store.specs.declared.StoreState.{StoreState}
 use Rattle.store.specs.Columns.{Columns, columns, moveCommand, usesOf, stateAt}
-use Rattle.store.specs.Drawable.{totalUsesOf}
+use Rattle.store.specs.Drawable.{totalUsesOf, drawableOf}
 
 -- a drawing: its counts and open index, and its columns
 pub record Drawing : Type 0 where
@@ -38,3 +40,13 @@ contoursFrom c (suc k ∷ ks) j = contoursFrom c ks (j + usesOf (suc k))
 
 unfoldable pub contoursOf : StoreState → Columns → List Drawing
 contoursOf st c = contoursFrom c (take (st .commands) (c .commands)) 0
+
+-- joined in order the contours are the whole: each command and each point is in exactly one
+pub record Covered (st : StoreState) (c : Columns) (contours : List Drawing) : Type 0 where
+  pub commands : flatMap (λ (d : Drawing). d .columns .commands) contours ≡ take (st .commands) (c .commands)
+  pub x : flatMap (λ (d : Drawing). d .columns .x) contours ≡ take (st .points) (c .x)
+  pub y : flatMap (λ (d : Drawing). d .columns .y) contours ≡ take (st .points) (c .y)
+  pub weight : flatMap (λ (d : Drawing). d .columns .weight) contours ≡ take (st .points) (c .weight)
+
+abbrev pub ContoursCover : Type 0
+ContoursCover = (st : StoreState) (c : Columns) → drawableOf st c ≡ true → Covered st c (contoursOf st c)
