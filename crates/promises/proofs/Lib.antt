@@ -37,6 +37,6 @@ pub mod Layouts
 pub mod ShiftedWalks
 pub mod JoinedWalks
 pub mod JoinedSpread
-pub mod Nested
+pub mod NestTables
 pub mod Nests
 pub mod NestAnswers

@@ -19,7 +19,7 @@ use Rattle.promises.proofs.Flattened.{worldOf, itemsIn, passed, accepts
 use Rattle.promises.proofs.Decoding.{capsOf}
 use Rattle.promises.proofs.Cutting.{all-map}
 use Rattle.promises.proofs.JoinedWalks.{length-join}
-use Rattle.promises.proofs.Nested.{tablesQ, tablesS, worldsOf, worlds-are, joins, Fits, fits-told, fits-holds}
+use Rattle.promises.proofs.NestTables.{tablesQ, tablesS, worldsOf, worlds-are, joins, Fits, fits-told, fits-holds}
 use Rattle.promises.proofs.Nests.{all-two, settings, all-done, totals, splines-are, quads-are, points-are, nests-join, spread-alike}
 
 -- ---- each alone

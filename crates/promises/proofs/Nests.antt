@@ -1,5 +1,5 @@
 -- 02, Eight: the whole's points are the contours' points joined in order, its words are theirs with the splines numbered on; when each alone is accepted, and when the
--- whole is. The plan: the tables of the contours stand in those of the whole (Nested); over such tables the knife's walks join (JoinedWalks); and where the condition on
+-- whole is. The plan: the tables of the contours stand in those of the whole (NestTables); over such tables the knife's walks join (JoinedWalks); and where the condition on
 -- sums holds the screen's walk is the knife's. Assumes nothing.
 use Prim.Native.Nat.{ℕ, suc, _+_}
 use mathlib.Core.Path.{_≡_, refl, sym, ap, ap₂, _∙_, subst}
@@ -32,7 +32,7 @@ use Rattle.promises.proofs.Cutting.{all-map}
 use Rattle.promises.proofs.SplineQuads.{items-same}
 use Rattle.promises.proofs.JoinedWalks.{commandsFrom, pointsIn, counts, points-join, commands-join, length-join}
 use Rattle.promises.proofs.JoinedSpread.{left, spread-same, spread-join}
-use Rattle.promises.proofs.Nested.{worlds-are, joins, walkedPoints, xs-are, ys-are, ends-are}
+use Rattle.promises.proofs.NestTables.{worlds-are, joins, walkedPoints, xs-are, ys-are, ends-are}
 
 -- ---- lists of jobs
 pub all-two : (P Q : Job → Type 0) (jobs : List Job) → All P jobs → All Q jobs → All (λ (a : Job). P a × Q a) jobs
