@@ -1058,14 +1058,21 @@ pub fn nests() -> Vec<Vec<Call>> {
     add(vec![Line(p(10.0, 0.0)), Line(p(10.0, 10.0)), Move(p(20.0, 0.0)), Line(p(20.0, 0.0)), Line(p(30.0, 0.0)), Line(p(30.0, 10.0))]);
     // the first contour ends along x: the second goes on so, then the third goes elsewhere
     let along = [Line(p(-10.0, 5.0)), Line(p(-10.0, 0.0)), Line(p(0.0, 0.0))];
-    let m = p(20.0, 0.0);
+    let (o, m) = (p(0.0, 0.0), p(20.0, 0.0));
     add([&along[..], &[Move(m), Line(m), Line(p(30.0, 0.0)), Move(m), Line(m), Line(p(20.0, 10.0)), Line(p(30.0, 10.0))]].concat());
     // contours without a spline, and with one that has no length, in between
     add([&along[..], &[Move(p(5.0, 5.0)), Quad(p(5.0, 5.0), p(5.0, 5.0)), Move(m), Line(m), Line(p(20.0, 10.0))]].concat());
     add([&along[..], &[Move(p(5.0, 5.0)), Line(p(5.0, 5.0)), Move(m), Quad(m, m), Line(m), Quad(m, m), Line(p(20.0, 10.0)), Move(p(5.0, 5.0))]].concat());
 
+    // sweeps whose last quad gets no step: on the screen the steps of later contours stray
+    let (start, sweep, end) = two_quads();
+    let swept = [&[Move(start)], &sweep[..]].concat();
+    let straight = |x: f32| vec![Move(p(x, 0.0)), Quad(p(x + 1.0, 0.0), p(x + 2.0, 0.0)), Quad(p(x + 3.0, 0.0), p(x + 4.0, 0.0))];
+    add([&swept[..], &swept, &straight(10.0)].concat());
+    add([straight(10.0), swept.clone(), vec![Move(end), Line(end), Line(o)], straight(20.0), swept.clone()].concat());
+    add([&swept[..], &[Move(end), Quad(end, end)], &straight(10.0), &[Line(m), Quad(p(25.0, 0.0), p(25.0, 5.0))]].concat());
+
     // how the contour before ends, each at the origin; what has no angle; and where the next goes
-    let o = p(0.0, 0.0);
     let befores: [&[Call]; 7] = [
         &[Line(p(10.0, 0.0)), Line(p(10.0, 10.0))],
         &along,
@@ -1108,13 +1115,6 @@ pub fn nests() -> Vec<Vec<Call>> {
             }
         }
     }
-    // sweeps whose last quad gets no step: on the screen the steps of later contours stray
-    let (start, sweep, end) = two_quads();
-    let swept = [&[Move(start)], &sweep[..]].concat();
-    let straight = |x: f32| vec![Move(p(x, 0.0)), Quad(p(x + 1.0, 0.0), p(x + 2.0, 0.0)), Quad(p(x + 3.0, 0.0), p(x + 4.0, 0.0))];
-    add([&swept[..], &swept, &straight(10.0)].concat());
-    add([straight(10.0), swept.clone(), vec![Move(end), Line(end), Line(o)], straight(20.0), swept.clone()].concat());
-    add([&swept[..], &[Move(end), Quad(end, end)], &straight(10.0), &[Line(m), Quad(p(25.0, 0.0), p(25.0, 5.0))]].concat());
     // many small contours, each with a doubled point first
     for n in [10, 100] {
         let corner = |i: u32| p((i % 10) as f32 * 3.0, (i / 10) as f32 * 3.0);
