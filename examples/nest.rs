@@ -135,7 +135,7 @@ fn main() {
     let mut for_each: Vec<Lent> = (0..threads).map(|_| Lent::new(1 << 8, 1 << 6, 1 << 10)).collect();
 
     let (mut whole, mut one, mut several) = (Points::new(), Duration::MAX, Duration::MAX);
-    for _ in 0..15 {
+    for _ in 0..25 {
         let start = Instant::now();
         whole = for_whole.flatten(&nest);
         one = one.min(start.elapsed());

@@ -87,14 +87,18 @@ fn same_points(a: &Output, b: &Output, n: usize) -> bool {
     bits(&a.x[..n]).eq(bits(&b.x[..n])) && bits(&a.y[..n]).eq(bits(&b.y[..n]))
 }
 
-/// Of drawings with more points, which take most of the time, one in eight is compared.
+/// Drawings with more points take most of the time.
 const LARGE: usize = 4096;
+
+/// Of the large ones, and of those with one contour, which alone is the same store, one in so many is compared. Drawings come as they are and built in turn, so that
+/// an odd share has both.
+const SHARE: u64 = 7;
 
 /// What was compared.
 #[derive(Clone, Debug, Default)]
 pub struct Counts {
-    /// large drawings, by setting, compared or not
-    pub large: [u64; 2],
+    /// large drawings and those with one contour, by setting, compared or not
+    pub shared: [u64; 2],
     /// accepted drawings, by setting, and how many of them have two contours or more
     pub drawings: [u64; 2],
     pub nests: [u64; 2],
@@ -113,16 +117,14 @@ pub struct Counts {
 }
 
 impl Counts {
-    /// An accepted drawing, which left `f` and `room`: each contour is accepted in as much room as it needs, and together they give what it gives.
+    /// An accepted drawing, which left `f` and `room`: each contour alone is accepted in as much room as the whole takes, and joined they give what it gives.
     pub fn accepted(&mut self, by: By, whole: Whole, f: Flattened, room: &Room) -> Result<(), String> {
-        let large = &mut self.large[whole.setting as usize];
-        *large += (f.points > LARGE) as u64;
-        if f.points > LARGE && *large % 8 != 1 {
+        let parts = contours(whole.st, whole.columns);
+        if (f.points > LARGE || parts.len() == 1) && !self.is_chosen(whole.setting) {
             return Ok(());
         }
         let mut lent = Room::new(f.quads, f.splines, f.points);
         let mut joined = Joined::default();
-        let parts = contours(whole.st, whole.columns);
         for (i, (st, c)) in parts.iter().enumerate() {
             let alone = by(whole.setting, *st, c, &mut lent);
             if alone.answer != 0 {
@@ -133,7 +135,17 @@ impl Counts {
         }
         self.count(whole.setting, parts.len(), f);
         self.joined(whole.setting, f, room, &joined).map_err(|e| format!("{:?}, {} contours: {e}", whole.setting, parts.len()))?;
+        // the whole again, four times: one in three of these
+        if self.drawings[whole.setting as usize] % 3 != 1 {
+            return Ok(());
+        }
         self.rooms(by, whole, f, room, &mut lent).map_err(|e| format!("{:?}: {e}", whole.setting))
+    }
+
+    fn is_chosen(&mut self, setting: Setting) -> bool {
+        let shared = &mut self.shared[setting as usize];
+        *shared += 1;
+        *shared % SHARE == 1
     }
 
     fn count(&mut self, setting: Setting, contours: usize, f: Flattened) {
@@ -205,9 +217,10 @@ impl Counts {
     pub fn print(&self) {
         println!("the whole against its contours, each flattened alone and joined:");
         println!("{:11}  flattenings of the screen and {} of the knife; {} and {} of them have two contours or more", self.drawings[0], self.drawings[1], self.nests[0], self.nests[1]);
-        println!("{:11}  contours, {} of them without a spline; {} points; of {} flattenings with over {LARGE} points one in eight is among these", self.contours, self.without_spline, self.points, self.large[0] + self.large[1]);
+        println!("{:11}  contours, {} of them without a spline; {} points", self.contours, self.without_spline, self.points);
+        println!("{:11}  flattenings of one contour or over {LARGE} points, of which one in {SHARE} is among these", self.shared[0] + self.shared[1]);
         println!("{:11}  flattenings of the screen where the condition on sums does not hold, {} of them with two contours or more; {} have other points", self.not_spread, self.not_spread_nests, self.other_points);
-        println!("{:11}  with just enough room; {} refused with a quad less, {} with a spline less, {} with a point less", self.enough, self.one_less[0], self.one_less[1], self.one_less[2]);
+        println!("{:11}  of all these flattenings, one in three, with just enough room; {} refused with a quad less, {} with a spline less, {} with a point less", self.enough, self.one_less[0], self.one_less[1], self.one_less[2]);
         println!("{:11}  refused with room for all, as one of the contours is", self.refused);
     }
 }
