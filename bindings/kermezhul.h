@@ -58,14 +58,15 @@ uint32_t kermezhul_build(KERMEZHUL_DRAWING);
 
 /* Flattens the drawing as it is, closed or not. setting: 0 for the screen, any other number for the knife. Nothing of the drawing is changed.
  *
- * The settings differ in four things. After a line without length the knife keeps the direction before it in its contour, and the screen forgets it: a corner at a
- * doubled point is then lost. For the knife a reversal of direction is a corner, for the screen it is none: a line out and the same line back then lose their far end.
- * For the knife a line and a quad never share a spline, for the screen they do if one runs smoothly into the other: the point where straight meets round is
- * then lost, and a chord goes across it. Cubics become quads; a quad whose control point lies on its start or end is a line. For the knife the points inside a
- * spline lie on its own quads; for the screen they may lie on those of an earlier one, whose last quad got no point, and the path then runs back.
+ * The settings differ in four things. After a line without length the knife keeps the direction before it in its contour, and the screen forgets it: a corner
+ * at a doubled point is then lost. For the knife a reversal of direction is a corner, for the screen it is none: a line out and the same line back then lose
+ * their far end. For the knife a line and a quad never share a spline, for the screen they do if one runs smoothly into the other: the point where straight
+ * meets round is then lost, and a chord goes across it. Cubics become quads; a quad whose control point lies on its start or end is a line. For the knife the
+ * points inside a spline lie on its own quads; for the screen they may lie on those of an earlier one, whose last quad got no point, and the path then runs
+ * back.
  *
- * For the knife the points are those of the contours, each flattened as a drawing by itself, one after the other. A contour is the commands from a Move up to the
- * next one or the end, with their points and weights, and `opening` 0. So contours may be flattened in any order, and by several threads at once. For the
+ * For the knife the points are those of the contours, each flattened as a drawing by itself, one after the other. A contour is the commands from a Move up to
+ * the next one or the end, with their points and weights, and `opening` 0. So contours may be flattened in any order, and by several threads at once. For the
  * screen it is so if in every spline of two or more quads a whole number lies strictly between the sums of the last two.
  *
  * The knife needs more room: at each smooth joint of straight and round one spline more, and one End more in words and outputs. A line without length after

@@ -215,12 +215,14 @@ impl Counts {
     }
 
     pub fn print(&self) {
+        let ([screens, knives], [nests, of_knife], [quad, spline, point]) = (self.drawings, self.nests, self.one_less);
         println!("the whole against its contours, each flattened alone and joined:");
-        println!("{:11}  flattenings of the screen and {} of the knife; {} and {} of them have two contours or more", self.drawings[0], self.drawings[1], self.nests[0], self.nests[1]);
+        println!("{screens:11}  flattenings of the screen and {knives} of the knife; {nests} and {of_knife} of them have two contours or more");
         println!("{:11}  contours, {} of them without a spline; {} points", self.contours, self.without_spline, self.points);
         println!("{:11}  flattenings of one contour or over {LARGE} points, of which one in {SHARE} is among these", self.shared[0] + self.shared[1]);
-        println!("{:11}  flattenings of the screen where the condition on sums does not hold, {} of them with two contours or more; {} have other points", self.not_spread, self.not_spread_nests, self.other_points);
-        println!("{:11}  of all these flattenings, one in three, with just enough room; {} refused with a quad less, {} with a spline less, {} with a point less", self.enough, self.one_less[0], self.one_less[1], self.one_less[2]);
+        println!("{:11}  flattenings of the screen where the condition on sums does not hold, {} of them with two contours or more", self.not_spread, self.not_spread_nests);
+        println!("{:11}    of them with other points than their contours", self.other_points);
+        println!("{:11}  with just enough room, one in three; refused: {quad} with a quad less, {spline} with a spline less, {point} with a point less", self.enough);
         println!("{:11}  refused with room for all, as one of the contours is", self.refused);
     }
 }
