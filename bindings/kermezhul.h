@@ -5,6 +5,8 @@
  * The caller lends all memory. Each column is a pointer and its length in entries. No pointer may be null, not even if the length is 0, and no two columns or
  * counts that are lent to one call may overlap. Apart from that every call is defined on all values: it returns 0, or the number of a refusal.
  *
+ * The library keeps no state and writes only what is lent to a call, so several threads may call it at once, each with memory of its own to write to.
+ *
  *   0 done                                            5 a cubic needs over 1,024 pieces
  *   1 a coordinate is NaN or beyond +-65,536          6 the quad table is full
  *   2 a weight is NaN or outside 1/64..64             7 the spline table is full, or holds 4,194,304
@@ -61,7 +63,11 @@ uint32_t kermezhul_build(KERMEZHUL_DRAWING);
  * For the knife a line and a quad never share a spline, for the screen they do if one runs smoothly into the other: the point where straight meets round is
  * then lost, and a chord goes across it. Cubics become quads; a quad whose control point lies on its start or end is a line. For the knife the points inside a
  * spline lie on its own quads; for the screen they may lie on those of an earlier one, whose last quad got no point, and the path then runs back. For the knife
- * a Move forgets the direction before it: the points of a drawing are those of its contours, each flattened alone, joined in order.
+ * a Move forgets the direction before it, for the screen it does not, which decides nothing there.
+ *
+ * For the knife the points are those of the contours, each flattened as a drawing by itself, one after the other. A contour is the commands from a Move up to
+ * the next one or the end, with their points and weights, and `opening` 0. So contours may be flattened in any order, and by several threads at once. For the
+ * screen it is so if in every spline of two or more quads a whole number lies strictly between the sums of the last two.
  *
  * The knife needs more room: at each smooth joint of straight and round one spline more, and one End more in words and outputs. A line without length after
  * a quad, or at a contour's start before one, has a spline too, whose End repeats the point unless a line goes on smoothly from there.

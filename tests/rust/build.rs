@@ -1,7 +1,8 @@
 //! Copies the original Rust to OUT_DIR, unchanged, and adds to `path.rs` a child module that reaches its private items.
 //! Parts of that module are cut out of the Rust's own text, so that nothing is imitated: the loop of `PathData::segments` over the
-//! commands, how `push_cubic` counts its pieces, and how two angles are compared. `path_knife.rs` is the same text with four things changed: one statement of
-//! `push_line`, the difference of two angles, that a line and a quad never share a spline, and where the cursor begins a spline.
+//! commands, how `push_cubic` counts its pieces, and how two angles are compared. `path_knife.rs` is the same text with five things changed: one statement of
+//! `push_line`, the difference of two angles, that a line and a quad never share a spline, where the cursor begins a spline, and that `push_contour` forgets the
+//! last angle.
 
 use std::{env, fs, path::PathBuf};
 
@@ -97,6 +98,17 @@ const BEGINS: &str = "
             let subdivisions = spline.curvature.ceil() as usize;
 ";
 
+/// `push_contour` sets the mark that a Move leaves.
+const MARKS: &str = "
+        self.contour = Some(contour);
+";
+
+/// The knife's forgets the last angle too, so that no contour knows the one before.
+const FORGETS: &str = "
+        self.contour = Some(contour);
+        self.last_angle = None;
+";
+
 fn main() {
     let here = PathBuf::from(env::var("CARGO_MANIFEST_DIR").unwrap());
     // real_rayon/ is a folder deeper
@@ -136,5 +148,6 @@ fn main() {
     let knife = changed(&knife, "fn diff(a0: f32, a1: f32) -> f32", "let angle_changed = ", FOLDED, FULL);
     let knife = KINDS.iter().fold(knife, |text, [from, to, old, new]| changed(&text, from, to, old, new));
     let knife = changed(&knife, "pub fn populate_buffers(", "pub fn eval_quad(", GOES_ON, BEGINS);
+    let knife = changed(&knife, "pub fn push_contour(", "pub fn push_line(", MARKS, FORGETS);
     fs::write(out.join("path_knife.rs"), with_probe(&knife, "false,")).unwrap();
 }

@@ -3,6 +3,8 @@
 //! The functions here are as thin as those of the C header beside them: the caller lends all memory as slices, and gets 0 or the number of a refusal.
 //! Every argument is allowed: a call either does its work or refuses.
 //!
+//! The library keeps no state and writes only what is lent to a call, so several threads may call it at once: `examples/nest.rs` does.
+//!
 //! ```no_run
 //! use kermezhul::{Call, Columns, State};
 //!
@@ -186,9 +188,13 @@ pub enum Setting {
     /// is lost, and a chord goes across it. Points inside a spline may lie on the quads of an earlier one, whose last quad got no point, and the path then runs
     /// back.
     Screen,
-    /// A line without length keeps the direction before it. A reversal of direction is a corner: a line out and the same line back keep their far end. A line
-    /// and a quad never share a spline, so that the point where straight meets round is a vertex. Cubics become quads; a quad whose control point lies on its
-    /// start or end is a line. The points inside a spline lie on its own quads.
+    /// A line without length keeps the direction before it, and a Move forgets it. A reversal of direction is a corner: a line out and the same line back keep their far
+    /// end. A line and a quad never share a spline, so that the point where straight meets round is a vertex. Cubics become quads; a quad whose control point
+    /// lies on its start or end is a line. The points inside a spline lie on its own quads.
+    ///
+    /// The points are those of the contours, each flattened as a drawing by itself, one after the other. A contour is the commands from a Move up to the next one
+    /// or the end, with their points and weights, and `opening` 0. On the screen it is so if in every spline of two or more quads a whole number lies strictly
+    /// between the sums of the last two.
     ///
     /// More room is needed: at each smooth joint of straight and round one spline more in [`Splines`], and one End more in [`Output`]. A line without
     /// length after a quad, or at a contour's start before one, has a spline too, whose End repeats the point unless a line goes on smoothly from there.

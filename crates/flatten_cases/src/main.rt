@@ -20,7 +20,7 @@ use replay::Tally;
 use store::StoreState;
 
 // As many drawings from the first on, all small, are flattened with full columns too.
-const FULL: u32 = 436;
+const FULL: u32 = 472;
 
 // The first row of a drawing: its setting, and how many of each there are.
 struct Expected {

@@ -2,8 +2,9 @@
 
 use crate::{
     call::{written, Call},
+    contours::{self, Whole},
     model::{
-        self,
+        self, cover,
         flatten::{errors_of, exact_pieces, flatten_with, powf_pieces},
         Columns, Flattened, Output, QuadTable, Setting, SplineTable, State, QUAD_ROW,
     },
@@ -44,6 +45,8 @@ pub struct Counts {
     pub screen_points: u64,
     pub settings_differ: u64,
     pub mismatches: u64,
+    /// the whole against its contours, by the model
+    pub contours: contours::Counts,
 }
 
 pub fn bits(column: &[f32]) -> impl Iterator<Item = u32> + '_ {
@@ -88,11 +91,7 @@ pub fn same_store(st: State, c: &Columns, store: &Store) -> Result<(), String> {
 
 /// All that a flattening gives on 0.
 pub fn same_flattening(f: Flattened, room: &Room, seen: &Seen) -> Result<(), String> {
-    same_columns(f, &room.quads, &room.splines, &room.output, seen)
-}
-
-pub fn same_columns(f: Flattened, q: &QuadTable, s: &SplineTable, o: &Output, seen: &Seen) -> Result<(), String> {
-    let t = &seen.tables;
+    let (q, s, o, t) = (&room.quads, &room.splines, &room.output, &seen.tables);
     if (f.splines, f.quads, f.points) != (t.curvature.len(), t.partial_splines.len(), seen.words.len()) {
         return Err(format!("{f:?}, the original has {} splines, {} quads, {} points", t.curvature.len(), t.partial_splines.len(), seen.words.len()));
     }
@@ -167,15 +166,19 @@ fn compare_flattenings(
         n.differing_drawings += 1;
     }
     let with = if differ { powf_pieces } else { exact_pieces };
+    let by = |setting: Setting, st: State, c: &Columns, room: &mut Room| flatten_with(with, setting, st, c, &mut room.quads, &mut room.splines, &mut room.output);
     let mut words = Vec::new();
     for (i, setting) in [Setting::Screen, Setting::Knife].into_iter().enumerate() {
-        let f = flatten_with(with, setting, st, c, &mut room.quads, &mut room.splines, &mut room.output);
+        let whole = Whole { setting, st, columns: c };
+        let f = by(setting, st, c, room);
         if f.answer != 0 {
             n.refused[f.answer as usize] += 1;
+            cover::uncounted(|| n.contours.refused(&by, whole, f.answer, room))?;
             continue;
         }
         let seen = see[i]();
         same_flattening(f, room, &seen).map_err(|e| format!("{setting:?}: {e}"))?;
+        cover::uncounted(|| n.contours.accepted(&by, whole, f, room))?;
         n.points += f.points as u64;
         if setting == Setting::Screen {
             n.screen_points += f.points as u64;

@@ -7,7 +7,7 @@ use crate::{
     seen::Store,
 };
 
-pub const KINDS: [&str; 17] = [
+pub const KINDS: [&str; 18] = [
     "whole numbers",
     "numbers to 100",
     "huge numbers",
@@ -25,11 +25,13 @@ pub const KINDS: [&str; 17] = [
     "slits and turns across ±π",
     "joints of straight and round",
     "long joined sweeps",
+    "nests",
 ];
 
-/// The last two kinds.
+/// The last three kinds.
 pub const JOINTS: usize = 15;
 pub const SWEEPS: usize = 16;
+pub const NESTS: usize = 17;
 
 /// A random kind: those with very many points come an eighth as often as the others.
 pub fn kind(rng: &mut Rng) -> usize {
@@ -56,6 +58,7 @@ pub fn random(rng: &mut Rng, k: usize) -> Vec<Call> {
         14 => out_and_back(rng),
         JOINTS => straight_and_round(rng),
         SWEEPS => joined_sweeps(rng),
+        NESTS => nest(rng, true),
         _ => mixed(rng, k),
     }
 }
@@ -515,6 +518,125 @@ fn joined_sweeps(rng: &mut Rng) -> Vec<Call> {
     calls
 }
 
+/// What has no angle where it starts and ends: lines and quads without length, or about 2^-23 long.
+fn without_angle(rng: &mut Rng, at: &mut P) -> Vec<Call> {
+    let mut near = |at: P| p(at.x + f32::EPSILON * rng.between(-1.2, 1.2) as f32, at.y);
+    let (a, b) = (near(*at), near(*at));
+    let from = *at;
+    match rng.below(12) {
+        0..=2 => vec![Call::Line(from)],
+        3 => vec![Call::Line(from), Call::Line(from)],
+        4 => vec![Call::Quad(from, from)],
+        5 => vec![Call::Line(from), Call::Quad(from, from)],
+        6 => vec![Call::RatQuad(from, from, weight(rng)), Call::Cubic(from, from, from), Call::Line(from)],
+        7 => {
+            *at = a;
+            vec![Call::Line(a)]
+        }
+        8 => {
+            *at = b;
+            vec![Call::Quad(a, b)]
+        }
+        _ => vec![],
+    }
+}
+
+/// Where a contour goes from `at` in this direction: nowhere, or by a few lines, quads or cubics, or a sweep. Gives the last direction.
+fn piece(rng: &mut Rng, at: &mut P, angle: f64, calls: &mut Vec<Call>) -> f64 {
+    let mut angle = angle;
+    let len = rng.pick(&[0.1, 1.0, 10.0]) * rng.between(0.2, 1.0);
+    match rng.below(8) {
+        0 => return angle,
+        1 => {
+            let n = 1 + rng.below(4);
+            calls.extend(straights(at, angle, len, n));
+            if let Some((a, b)) = by_one(rng, 2.0 * n as f32, *at, angle, 0.7) {
+                calls.push(Call::Quad(a, b));
+                (*at, angle) = (b, angle + 0.7);
+            }
+            return angle;
+        }
+        _ => {}
+    }
+    for _ in 0..1 + rng.below(4) {
+        let a = go(*at, angle, len);
+        let turn = rng.between(-2.0, 2.0);
+        let b = go(a, angle + turn, len);
+        match rng.below(8) {
+            0 => calls.push(Call::Quad(a, b)),
+            1 => calls.push(Call::RatQuad(a, b, weight(rng))),
+            2 => calls.push(Call::Cubic(a, b, go(b, angle + turn, len))),
+            _ => calls.push(Call::Line(a)),
+        }
+        (*at, angle) = match calls[calls.len() - 1] {
+            Call::Line(_) => (a, angle),
+            Call::Cubic(.., c) => (c, angle + turn),
+            _ => (b, angle + turn),
+        };
+        if rng.one_in(2) {
+            angle += turn;
+        }
+    }
+    angle
+}
+
+/// Many contours, of which a good part begins with what has no angle and then goes on as the one before ended, or nearly so, or back. `closes` says whether each is
+/// closed by a line, whose direction then is the last.
+fn nest(rng: &mut Rng, closes: bool) -> Vec<Call> {
+    use std::f64::consts::{FRAC_PI_2, PI};
+    let mut calls = Vec::new();
+    let mut last = FRAC_PI_2 * rng.below(4) as f64;
+    for _ in 0..if rng.one_in(20) { 20 + rng.below(60) } else { 2 + rng.below(5) } {
+        let start = if rng.one_in(3) { p(0.0, 0.0) } else { p(coordinate(rng, 0), coordinate(rng, 0)) };
+        let mut at = start;
+        calls.push(Call::Move(at));
+        for _ in 0..rng.below(3) {
+            calls.extend(without_angle(rng, &mut at));
+        }
+        let angle = match rng.below(5) {
+            0 => last,
+            1 => last + PI,
+            2 => last + rng.between(-0.002, 0.002),
+            3 => FRAC_PI_2 * rng.below(4) as f64,
+            _ => rng.between(0.0, 7.0),
+        };
+        let out = piece(rng, &mut at, angle, &mut calls);
+        last = if closes && at != start { ((start.y - at.y) as f64).atan2((start.x - at.x) as f64) } else { out };
+    }
+    if !rng.one_in(5) {
+        calls.push(Call::Build);
+    }
+    calls
+}
+
+/// The store of a nest made by hand: no contour is closed, and some Moves have nothing after them.
+pub fn nest_by_hand(rng: &mut Rng) -> Store {
+    let mut s = Store::default();
+    let calls = nest(rng, false);
+    for call in calls.iter().filter(|call| **call != Call::Build) {
+        for _ in 0..if matches!(call, Call::Move(_)) && rng.one_in(6) { 2 } else { 1 } {
+            append(&mut s, call);
+        }
+    }
+    s.opening = rng.below(s.x.len() as u64) as usize;
+    s
+}
+
+/// A call's points and command, as they are stored.
+fn append(s: &mut Store, call: &Call) {
+    let weights = match *call {
+        Call::RatQuad(_, _, w) => vec![w, 1.0],
+        Call::RatCubic(.., v, w) => vec![v, w, 1.0],
+        _ => vec![1.0; call.points().len()],
+    };
+    for (q, w) in call.points().iter().zip(&weights) {
+        s.x.push(q.x * w);
+        s.y.push(q.y * w);
+    }
+    s.commands.push(if let Call::Move(_) = call { 0 } else { weights.len() as u8 });
+    s.weight.extend(weights);
+}
+
 /// Straight quads of length 1 in a row: the sum 65,536 is accepted, one quad more gives answer 8. Too long for the fixed lists.
 pub fn long_rows() -> Vec<Vec<Call>> {
     let row = |n: u16| (0..n).map(|i| Call::Quad(p(i as f32 + 0.5, 0.0), p(i as f32 + 1.0, 0.0))).collect();
@@ -528,12 +650,13 @@ fn add_both(out: &mut Vec<Vec<Call>>, calls: Vec<Call>) {
     out.push(built);
 }
 
-/// Drawings made for one rule each, the slits, the joints of straight and round, and the sweeps.
+/// Drawings made for one rule each, the slits, the joints of straight and round, the sweeps, and the nests.
 pub fn directed() -> Vec<Vec<Call>> {
     let mut out = by_rule();
     out.extend(slits());
     out.extend(joints());
     out.extend(sweeps());
+    out.extend(nests());
     out
 }
 
@@ -878,17 +1001,24 @@ fn mirrored(calls: &[Call]) -> Vec<Vec<Call>> {
     ways.into_iter().map(other).collect()
 }
 
+fn at(x: u32, y: u32) -> P {
+    p(f32::from_bits(x), f32::from_bits(y))
+}
+
+/// Where the sweep of `sweeps` begins, its two quads, and where it ends.
+fn two_quads() -> (P, [Call; 2], P) {
+    let end = at(0x4003_c400, 0x3f62_6000);
+    (at(0xbf80_0000, 0), [Call::Quad(at(0xbf00_0000, 0), p(0.0, 0.0)), Call::Quad(at(0x3e84_4000, 0), end)], end)
+}
+
 /// Sweeps whose sum grows from 2 to 3 with the last quad, which then gets no step, and what comes after them. The first is the example, the second begins another
 /// contour where that goes on.
 pub fn sweeps() -> Vec<Vec<Call>> {
     use Call::*;
     let mut out: Vec<Vec<Call>> = Vec::new();
     let mut add = |calls: Vec<Call>| add_both(&mut out, calls);
-    let at = |x: u32, y: u32| p(f32::from_bits(x), f32::from_bits(y));
     // sums 2 and 3
-    let start = at(0xbf80_0000, 0);
-    let sweep = [Quad(at(0xbf00_0000, 0), p(0.0, 0.0)), Quad(at(0x3e84_4000, 0), at(0x4003_c400, 0x3f62_6000))];
-    let end = at(0x4003_c400, 0x3f62_6000);
+    let (start, sweep, end) = two_quads();
     let turned = Quad(at(0x4003_c400, 0x3ff1_3000), at(0x4003_c400, 0x4038_9800));
     let after = |next: &[Call]| [&[Move(start)], &sweep[..], next].concat();
     add(after(&[turned]));
@@ -916,6 +1046,83 @@ pub fn sweeps() -> Vec<Vec<Call>> {
     let mut rng = Rng(6);
     for _ in 0..100 {
         add(joined_sweeps(&mut rng));
+    }
+    out
+}
+
+/// Nests, where a contour begins with what has no angle, so that an angle of the contour before could part what follows. The first is the example.
+pub fn nests() -> Vec<Vec<Call>> {
+    use Call::*;
+    let mut out: Vec<Vec<Call>> = Vec::new();
+    let mut add = |calls: Vec<Call>| add_both(&mut out, calls);
+    add(vec![Line(p(10.0, 0.0)), Line(p(10.0, 10.0)), Move(p(20.0, 0.0)), Line(p(20.0, 0.0)), Line(p(30.0, 0.0)), Line(p(30.0, 10.0))]);
+    // the first contour ends along x: the second goes on so, then the third goes elsewhere
+    let along = [Line(p(-10.0, 5.0)), Line(p(-10.0, 0.0)), Line(p(0.0, 0.0))];
+    let (o, m) = (p(0.0, 0.0), p(20.0, 0.0));
+    add([&along[..], &[Move(m), Line(m), Line(p(30.0, 0.0)), Move(m), Line(m), Line(p(20.0, 10.0)), Line(p(30.0, 10.0))]].concat());
+    // contours without a spline, and with one that has no length, in between
+    add([&along[..], &[Move(p(5.0, 5.0)), Quad(p(5.0, 5.0), p(5.0, 5.0)), Move(m), Line(m), Line(p(20.0, 10.0))]].concat());
+    add([&along[..], &[Move(p(5.0, 5.0)), Line(p(5.0, 5.0)), Move(m), Quad(m, m), Line(m), Quad(m, m), Line(p(20.0, 10.0)), Move(p(5.0, 5.0))]].concat());
+
+    // sweeps whose last quad gets no step: on the screen the steps of later contours stray
+    let (start, sweep, end) = two_quads();
+    let swept = [&[Move(start)], &sweep[..]].concat();
+    let straight = |x: f32| vec![Move(p(x, 0.0)), Quad(p(x + 1.0, 0.0), p(x + 2.0, 0.0)), Quad(p(x + 3.0, 0.0), p(x + 4.0, 0.0))];
+    add([&swept[..], &swept, &straight(10.0)].concat());
+    add([straight(10.0), swept.clone(), vec![Move(end), Line(end), Line(o)], straight(20.0), swept.clone()].concat());
+    add([&swept[..], &[Move(end), Quad(end, end)], &straight(10.0), &[Line(m), Quad(p(25.0, 0.0), p(25.0, 5.0))]].concat());
+
+    // how the contour before ends, each at the origin; what has no angle; and where the next goes
+    let befores: [&[Call]; 7] = [
+        &[Line(p(10.0, 0.0)), Line(p(10.0, 10.0))],
+        &along,
+        &[Line(p(10.0, 0.0)), Line(o)],
+        &[Line(p(-10.0, 0.0)), Line(o), Line(o)],
+        &[Line(p(0.0, -10.0)), Line(o), Quad(o, o)],
+        &[Quad(p(5.0, 0.0), p(10.0, 0.0)), Quad(p(0.0, 10.0), o)],
+        &[Cubic(p(20.0, 30.0), p(-20.0, 0.0), o)],
+    ];
+    let angleless: [&[Call]; 8] = [
+        &[],
+        &[Line(m)],
+        &[Line(m), Line(m)],
+        &[Quad(m, m)],
+        &[Quad(m, m), Line(m)],
+        &[Line(m), Quad(m, m)],
+        &[Cubic(m, m, m), RatQuad(m, m, 2.0), Line(m), RatQuad(m, m, 0.5)],
+        &[Line(m), Build, Line(m)],
+    ];
+    for before in befores {
+        for none in angleless {
+            for (x, y) in [(1.0, 0.0), (0.0, 1.0), (-1.0, 0.0), (-1.0, -1.0), (1.0, 0.0009), (1.0, 0.0011)] {
+                let on = |t: f32, u: f32| p(m.x + 10.0 * (t * x - u * y), m.y + 10.0 * (t * y + u * x));
+                let begun = [before, &[Move(m)], none].concat();
+                add([&begun[..], &[Line(on(1.0, 0.0)), Line(on(1.0, 1.0))]].concat());
+                add([&begun[..], &[Quad(on(0.5, 0.0), on(1.0, 0.0)), Line(on(1.0, 1.0))]].concat());
+            }
+            add([before, &[Move(m)], none, &[Move(p(7.0, 7.0)), Line(p(7.0, 7.0)), Line(p(9.0, 7.0))]].concat());
+        }
+    }
+    // lines about 2^-23 long, and quads that are such lines
+    let e = f32::EPSILON;
+    for (a, b) in [(0.5, 0.0), (0.9, 0.0), (1.0, 0.0), (-0.75, 0.5), (0.75, -0.5), (0.0, 0.9)] {
+        for (x, y) in [(1.0, 0.0), (0.0, 1.0), (-1.0, 0.0)] {
+            let tiny = |t: f32| p(e * t * x, e * t * y);
+            for next in [p(10.0, 0.0), p(0.0, 10.0), p(-10.0, 0.0)] {
+                let begun = [Move(p(-30.0, 0.0)), Line(p(-20.0, 0.0)), Line(p(-20.0, 9.0)), Move(o)];
+                add([&begun[..], &[Line(tiny(a)), Line(next), Line(p(10.0, 10.0))]].concat());
+                add([&begun[..], &[Quad(tiny(a), tiny(b)), Line(next), Line(p(10.0, 10.0))]].concat());
+            }
+        }
+    }
+    // many small contours, each with a doubled point first
+    for n in [10, 100] {
+        let corner = |i: u32| p((i % 10) as f32 * 3.0, (i / 10) as f32 * 3.0);
+        let square = |i: u32| {
+            let a = corner(i);
+            vec![Move(a), Line(a), Line(p(a.x + 1.0, a.y)), Line(p(a.x + 1.0, a.y + 1.0)), Quad(p(a.x, a.y + 1.0), a)]
+        };
+        add((0..n).flat_map(square).collect());
     }
     out
 }

@@ -3,7 +3,7 @@
 use crate::{
     call::{written, Call},
     flat_case::Flat,
-    model::{self, Columns, Flattened, State, QUAD_ROW},
+    model::{self, Columns, Flattened, Output, QuadTable, Setting, SplineTable, State, QUAD_ROW},
 };
 use kermezhul as lib;
 
@@ -112,12 +112,10 @@ pub fn leaves_on(a: f32, b: f32, c: f32) -> Result<(), String> {
     Ok(())
 }
 
-
-/// The library's flattening of all that is lent.
-pub fn by_library(f: &mut Flat) -> Flattened {
-    let st = lib::State { points: f.st.points, commands: f.st.commands, opening: f.st.opening };
-    let drawn = lib::Drawn { x: &f.columns.x, y: &f.columns.y, weight: &f.columns.weight, commands: &f.columns.commands };
-    let (q, s, o) = (&mut f.quads, &mut f.splines, &mut f.output);
+/// The library's flattening.
+pub fn flatten(setting: Setting, st: State, c: &Columns, q: &mut QuadTable, s: &mut SplineTable, o: &mut Output) -> Flattened {
+    let st = lib::State { points: st.points, commands: st.commands, opening: st.opening };
+    let drawn = lib::Drawn { x: &c.x, y: &c.y, weight: &c.weight, commands: &c.commands };
     let mut quads = lib::Quads { rows: &mut q.rows, partial_splines: &mut q.partial_splines };
     let mut splines = lib::Splines {
         curvature: &mut s.curvature,
@@ -130,12 +128,17 @@ pub fn by_library(f: &mut Flat) -> Flattened {
         quad_count: &mut s.quad_count,
     };
     let mut output = lib::Output { words: &mut o.words, x: &mut o.x, y: &mut o.y, end: &mut o.end };
-    let setting = match f.setting {
-        model::Setting::Screen => lib::Setting::Screen,
-        model::Setting::Knife => lib::Setting::Knife,
+    let setting = match setting {
+        Setting::Screen => lib::Setting::Screen,
+        Setting::Knife => lib::Setting::Knife,
     };
     let r = lib::flatten(setting, st, drawn, &mut quads, &mut splines, &mut output);
     Flattened { answer: r.answer as u8, splines: r.splines, quads: r.quads, points: r.points }
+}
+
+/// The same on all that is lent.
+pub fn by_library(f: &mut Flat) -> Flattened {
+    flatten(f.setting, f.st, &f.columns, &mut f.quads, &mut f.splines, &mut f.output)
 }
 
 /// What is past the counts is as it was lent, bit for bit, an incomplete row of quads too.

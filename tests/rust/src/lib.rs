@@ -60,6 +60,7 @@ mod path_knife {
 
 pub mod against;
 pub mod call;
+pub mod contours;
 pub mod drawings;
 pub mod flat_case;
 #[cfg(feature = "library")]

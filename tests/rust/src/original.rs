@@ -84,4 +84,4 @@ macro_rules! original {
 }
 
 original!(screen, path, "The original as it is.");
-original!(knife, path_knife, "The original with the knife setting's statement of `push_line`, its difference of angles, and no spline of both kinds.");
+original!(knife, path_knife, "The original with the knife setting's five changes, which build.rs makes.");

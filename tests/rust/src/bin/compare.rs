@@ -5,7 +5,7 @@
 use against_rust::{
     number,
     against::{compare_drawing, compare_store, Counts, Room},
-    drawings::{by_hand, directed, kind_below, long_rows, random, rational_difference, DIFFERENT, JOINTS, KINDS, SWEEPS},
+    drawings::{by_hand, directed, kind_below, long_rows, nest_by_hand, random, rational_difference, DIFFERENT, JOINTS, KINDS, NESTS, SWEEPS},
     call::{p, Call},
     model::{self, cover, flatten::{exact_pieces, pieces_of}},
     original::screen,
@@ -42,7 +42,7 @@ fn main() {
 
     let directed = directed();
     let joints = drawings / 8;
-    println!("{} directed drawings, {drawings} random ones and {joints} each with joints of straight and round and with sweeps, seed {seed}", directed.len());
+    println!("{} directed drawings, {drawings} random ones and {joints} each with joints of straight and round, with sweeps and with nests, seed {seed}", directed.len());
     for calls in &directed {
         tell(compare_drawing(calls, true, &mut room, &mut n));
     }
@@ -66,12 +66,15 @@ fn main() {
         tell(compare_drawing(&calls, i % 64 == 0, &mut room, &mut n));
     }
     // they come last, so that the random ones before are the same as without them
-    for k in [JOINTS, SWEEPS] {
+    for k in [JOINTS, SWEEPS, NESTS] {
         for i in 0..joints {
             by_kind[k] += 1;
             let calls = random(&mut rng, k);
             tell(compare_drawing(&calls, i % 64 == 0, &mut room, &mut n));
         }
+    }
+    for _ in 0..joints / 4 {
+        tell(compare_store(&nest_by_hand(&mut rng), &[], &mut room, &mut n));
     }
     for (name, count) in KINDS.iter().zip(by_kind) {
         println!("{count:9}  {name}");
@@ -97,7 +100,12 @@ fn main() {
         "{:9}  cubics, {} of them cut differently ({} into more pieces than the original, {} into fewer), in {} drawings",
         n.cubics, n.differing_cubics, n.more, n.fewer, n.differing_drawings
     );
+    n.contours.print();
     println!("{:9}  mismatches, in {:.1} s", n.mismatches, start.elapsed().as_secs_f64());
+    if !n.contours.met() {
+        println!("UNMET a part of the claim on contours: {:?}", n.contours);
+        unmet += 1;
+    }
     if n.mismatches > 0 || unmet > 0 {
         std::process::exit(1);
     }

@@ -1,17 +1,19 @@
-//! Compares the library itself with the model, call by call: drawings, hostile calls, and the float leaves. Its status is not 0 on any mismatch.
+//! Compares the library itself with the model, call by call: drawings, hostile calls, and the float leaves; with the original; and each drawing with its contours
+//! flattened alone. Its status is not 0 on any mismatch, nor if a part of the claim on contours was not met.
 //!
 //! library [HOSTILE [SEED [DRAWINGS]]], or the variables KERMEZHUL_HOSTILE, KERMEZHUL_SEED and KERMEZHUL_LIBRARY_DRAWINGS.
 
 use against_rust::{
     number,
-    against::{same_columns, same_store},
+    against::{same_flattening, same_store, Room},
     call::{written, Call},
-    drawings::{directed, kind, random},
-    flat_case::{any_flat, every_length, every_spline_length, Flat, Lent},
-    hostile::{by_library, call_both, flatten_both, leaves_on, replay_both},
+    contours::{self, Whole},
+    drawings::{directed, kind, nest_by_hand, random},
+    flat_case::{any_flat, every_length, every_spline_length, Lent},
+    hostile::{call_both, flatten, flatten_both, leaves_on, replay_both},
     model::{
         flatten::{exact_pieces, pieces_of},
-        Columns, Output, QuadTable, Setting, SplineTable, State,
+        Columns, Flattened, Setting, State,
     },
     original::{knife, screen},
     rng::Rng,
@@ -48,39 +50,63 @@ struct Compared {
     differing_cubics: u64,
     differing_drawings: u64,
     refused: [u64; 12],
+    contours: contours::Counts,
+}
+
+fn by_library(setting: Setting, st: State, c: &Columns, room: &mut Room) -> Flattened {
+    flatten(setting, st, c, &mut room.quads, &mut room.splines, &mut room.output)
 }
 
 impl Compared {
     /// The calls and the flattening by the library, and all they leave against the original.
-    fn drawing(&mut self, calls: &[Call], lent: &mut Flat) -> Result<(), String> {
+    fn drawing(&mut self, calls: &[Call], room: &mut Room) -> Result<(), String> {
         self.drawings += 1;
-        (lent.st, lent.columns) = replay_both(calls, 2 + 4 * calls.len())?;
-        same_store(lent.st, &lent.columns, &screen::store(calls)).map_err(|e| format!("{e}\n{}", written(calls)))?;
+        let (st, columns) = replay_both(calls, 2 + 4 * calls.len())?;
+        same_store(st, &columns, &screen::store(calls)).map_err(|e| format!("{e}\n{}", written(calls)))?;
         let pieces = screen::pieces(calls);
-        let ours = pieces_of(lent.st, &lent.columns, exact_pieces);
+        let ours = pieces_of(st, &columns, exact_pieces);
         self.cubics += ours.len() as u64;
         let differing = ours.iter().zip(&pieces).filter(|(a, b)| **a != **b as u64).count() as u64;
         self.differing_cubics += differing;
         for setting in [Setting::Screen, Setting::Knife] {
-            lent.setting = setting;
-            let f = by_library(lent);
-            if f.answer != 0 {
-                self.refused[f.answer as usize] += 1;
-                continue;
-            }
-            if differing > 0 {
+            let whole = Whole { setting, st, columns: &columns };
+            let f = self.nest(whole, room).map_err(|e| format!("{e}\n{}", written(calls)))?;
+            if f.answer != 0 || differing > 0 {
                 continue;
             }
             let seen = match setting {
                 Setting::Screen => screen::flatten(calls),
                 Setting::Knife => knife::flatten(calls),
             };
-            same_columns(f, &lent.quads, &lent.splines, &lent.output, &seen).map_err(|e| format!("{setting:?}: {e}\n{}", written(calls)))?;
+            same_flattening(f, room, &seen).map_err(|e| format!("{setting:?}: {e}\n{}", written(calls)))?;
             self.whole += 1;
             self.points += f.points as u64;
         }
         if differing > 0 {
             self.differing_drawings += 1;
+        }
+        Ok(())
+    }
+
+    /// A drawing, and its contours alone. What it leaves is in `room`, unless it is refused.
+    fn nest(&mut self, whole: Whole, room: &mut Room) -> Result<Flattened, String> {
+        let f = by_library(whole.setting, whole.st, whole.columns, room);
+        if f.answer != 0 {
+            self.refused[f.answer as usize] += 1;
+            self.contours.refused(&by_library, whole, f.answer, room)?;
+        } else {
+            self.contours.accepted(&by_library, whole, f, room)?;
+        }
+        Ok(f)
+    }
+
+    /// A nest made by hand, whose contours are not closed.
+    fn by_hand(&mut self, rng: &mut Rng, room: &mut Room) -> Result<(), String> {
+        let s = nest_by_hand(rng);
+        let st = State { points: s.x.len(), commands: s.commands.len(), opening: s.opening };
+        let columns = Columns { x: s.x, y: s.y, weight: s.weight, commands: s.commands };
+        for setting in [Setting::Screen, Setting::Knife] {
+            self.nest(Whole { setting, st, columns: &columns }, room).map_err(|e| format!("{e}\n{columns:?}"))?;
         }
         Ok(())
     }
@@ -147,30 +173,30 @@ fn main() {
 
     // the library itself against the original: store, tables, words and points, both settings; drawn on and flattened again in between
     let mut compared = Compared::default();
-    let mut lent = Flat {
-        setting: Setting::Screen,
-        st: State::default(),
-        columns: Columns::default(),
-        quads: QuadTable::with_room(1 << 16),
-        splines: SplineTable::with_room(1 << 14),
-        output: Output::with_room(1 << 18),
-    };
+    let mut room = Room::new(1 << 16, 1 << 14, 1 << 18);
     for drawing in &directed {
-        t.tell(compared.drawing(drawing, &mut lent));
+        t.tell(compared.drawing(drawing, &mut room));
     }
     for _ in 0..number(3, "KERMEZHUL_LIBRARY_DRAWINGS", 100_000) {
         let k = kind(&mut rng);
         let drawing = random(&mut rng, k);
         if rng.one_in(8) && drawing.len() > 2 {
             let part = 1 + rng.below(drawing.len() as u64 - 1) as usize;
-            t.tell(compared.drawing(&drawing[..part], &mut lent));
+            t.tell(compared.drawing(&drawing[..part], &mut room));
         }
-        t.tell(compared.drawing(&drawing, &mut lent));
+        t.tell(compared.drawing(&drawing, &mut room));
+        if rng.one_in(16) {
+            t.tell(compared.by_hand(&mut rng, &mut room));
+        }
     }
     println!(
         "{} drawings by the library and the original, both settings: {} compared whole, {} points; {} cubics, {} of them cut differently, in {} drawings; refused by the library alone: {:?}",
         compared.drawings, compared.whole, compared.points, compared.cubics, compared.differing_cubics, compared.differing_drawings, &compared.refused[..10]
     );
+    compared.contours.print();
+    if !compared.contours.met() {
+        t.tell::<()>(Err("a part of the claim on contours was not met".to_string()));
+    }
 
     let leaves = hostile;
     for _ in 0..leaves {

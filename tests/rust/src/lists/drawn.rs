@@ -4,7 +4,7 @@ use super::row;
 use crate::{
     against::{compare_drawing, drawn, Counts, Room},
     call::{p, Call, P},
-    drawings::{by_rule, joints, kind, kind_below, random, slits, sweeps},
+    drawings::{by_rule, joints, kind, kind_below, nests, random, slits, sweeps},
     model::{cover, flatten::{exact_pieces, pieces_of}, QUAD_ROW},
     original::{knife, screen},
     rng::Rng,
@@ -74,8 +74,8 @@ struct Limits {
 const SMALL: Limits = Limits { points: 40, quads: 10, words: 40 };
 const LARGE: Limits = Limits { points: 200, quads: 126, words: 1000 };
 
-/// As many drawings from the first on, and the joints and sweeps after them, are flattened with full columns: with those in the knife setting between them they are
-/// FULL of `flatten_cases`.
+/// As many drawings from the first on, and the joints, sweeps and nests after them, are flattened with full columns: with those in the knife setting between them
+/// they are FULL of `flatten_cases`.
 const FULL: usize = 240;
 
 fn fits(calls: &[Call], l: &Limits) -> bool {
@@ -157,13 +157,15 @@ pub fn fixed() -> String {
     }
     // the first slits are examples; 151 is odd too. They are listed in the knife setting alone
     let slits = slits().into_iter().enumerate().filter(|(i, calls)| consider(calls.clone(), *i < 8 || i % 151 == 0, &SMALL, 0)).count();
-    // joints of straight and round, and sweeps, in both settings. They are chosen last, so that the others stay, and listed among those that are flattened with
-    // full columns
+    // joints of straight and round, sweeps and nests, in both settings. They are chosen last, so that the others stay, and listed among those that are flattened
+    // with full columns
     let of_joints = |i: usize| i < 6 || i < 174 && i % 7 == 0 || i % 151 == 0;
     let joints = joints().into_iter().enumerate().filter(|(i, calls)| consider(calls.clone(), of_joints(*i), &SMALL, 0)).count();
     let of_sweeps = |i: usize| i < 4 || i % 5 == 0;
     let sweeps = sweeps().into_iter().enumerate().filter(|(i, calls)| consider(calls.clone(), of_sweeps(*i), &SMALL, 0)).count();
-    let both = joints + sweeps;
+    let of_nests = |i: usize| i < 14 || i % 401 == 0;
+    let nests = nests().into_iter().enumerate().filter(|(i, calls)| consider(calls.clone(), of_nests(*i), &SMALL, 0)).count();
+    let both = joints + sweeps + nests;
     let last = chosen.split_off(chosen.len() - both);
     chosen.splice(FULL..FULL, last);
 
@@ -189,6 +191,7 @@ pub fn fixed() -> String {
     println!("{} drawings for flatten_cases, {screens} in the screen setting and {knives} in the knife setting", screens + knives);
     println!("{joints:6} drawings  joints of straight and round, in both settings");
     println!("{sweeps:6} drawings  sweeps, in both settings");
+    println!("{nests:6} drawings  nests, in both settings");
     println!("{slits:6} drawings  slits and turns across ±π");
     for (name, often) in cover::NAMES.iter().zip(seen_often) {
         println!("{often:6} drawings  {name}");

@@ -2,7 +2,7 @@
 
 use std::cell::RefCell;
 
-pub const NAMES: [&str; 44] = [
+pub const NAMES: [&str; 48] = [
     "splines opened by a contour mark",
     "splines opened by an angle",
     "splines opened by a gap",
@@ -47,6 +47,10 @@ pub const NAMES: [&str; 44] = [
     "splines of the knife that begin at another quad than the one before left off at",
     "  of them after a spline of lines",
     "points of the knife that are others by that",
+    "Moves of the knife that forget an angle",
+    "lines of the knife joined to a spline from which the forgotten angle would part them",
+    "  of them after a dropped quad",
+    "lines of the knife joined to a spline from which the forgotten angle would not part them",
 ];
 
 pub const MARK: usize = 0;
@@ -93,6 +97,10 @@ pub const LINES_BETWEEN: usize = 40;
 pub const BEGINS: usize = 41;
 pub const BEGINS_AFTER_LINES: usize = 42;
 pub const POINT_MOVED: usize = 43;
+pub const FORGETS: usize = 44;
+pub const NOT_PARTED: usize = 45;
+pub const NOT_PARTED_DROPPED: usize = 46;
+pub const STALE_ALIKE: usize = 47;
 
 /// What no drawing does.
 pub const NEVER: [usize; 2] = [NOT_FINITE, SCREEN_ONLY];
@@ -101,6 +109,14 @@ thread_local!(static COUNTS: RefCell<[u64; NAMES.len()]> = const { RefCell::new(
 
 pub fn count(i: usize) {
     COUNTS.with(|c| c.borrow_mut()[i] += 1);
+}
+
+/// Flattenings beside the one that is counted, which count nothing.
+pub fn uncounted<T>(f: impl FnOnce() -> T) -> T {
+    let before = counts();
+    let result = f();
+    COUNTS.with(|c| *c.borrow_mut() = before);
+    result
 }
 
 pub fn counts() -> [u64; NAMES.len()] {

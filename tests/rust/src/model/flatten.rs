@@ -309,12 +309,25 @@ struct Run {
     splines: Vec<Spline>,
     quads: Vec<Quad>,
     pieces: Pieces,
-    /// only for counting: a dropped quad comes right before, and how many pieces of the present cubic were taken
+    /// only for counting: a dropped quad comes right before, how many pieces of the present cubic were taken, and the last angle that a Move forgot
     after_dropped: bool,
     in_cubic: Option<u64>,
+    forgotten: Option<f32>,
 }
 
 impl Run {
+    fn begin_contour(&mut self) {
+        self.mark = true;
+        // "There a Move forgets the last angle."
+        if self.setting == Setting::Knife {
+            if self.last.is_some() {
+                count(cover::FORGETS);
+            }
+            self.forgotten = self.last.or(self.forgotten);
+            self.last = None;
+        }
+    }
+
     /// Whether a primitive of this kind that starts here in this direction opens a spline.
     fn opens(&self, kind: Kind, direction: Option<f32>, start: P) -> bool {
         if self.mark {
@@ -349,10 +362,24 @@ impl Run {
             return true;
         }
         count(cover::JOINED);
-        if self.setting == Setting::Knife && self.after_dropped {
-            count(cover::JOINED_DROPPED);
+        if self.setting == Setting::Knife {
+            self.count_joined(direction);
         }
         false
+    }
+
+    /// Of a primitive that the knife joins to a spline.
+    fn count_joined(&self, direction: Option<f32>) {
+        if self.after_dropped {
+            count(cover::JOINED_DROPPED);
+        }
+        if let (None, Some(before), Some(now)) = (self.last, self.forgotten, direction) {
+            let parts = around((now - before).abs()) > 0.001;
+            count(if parts { cover::NOT_PARTED } else { cover::STALE_ALIKE });
+            if parts && self.after_dropped {
+                count(cover::NOT_PARTED_DROPPED);
+            }
+        }
     }
 
     /// Opens a spline, or goes on with the last.
@@ -758,6 +785,7 @@ pub fn flatten_with(pieces: Pieces, setting: Setting, st: State, c: &Columns, q:
         pieces,
         after_dropped: false,
         in_cubic: None,
+        forgotten: None,
     };
     let mut answer = 0;
     let mut used = 0;
@@ -765,7 +793,7 @@ pub fn flatten_with(pieces: Pieces, setting: Setting, st: State, c: &Columns, q:
         let at = |i: usize| stored(c, i);
         let done = match k {
             MOVE => {
-                run.mark = true;
+                run.begin_contour();
                 Ok(())
             }
             LINE => run.line(at(used - 1), at(used)),
@@ -1002,6 +1030,21 @@ mod tests {
             assert_eq!((f.answer, f.splines), (if splines == 2 { 0 } else { 7 }, splines));
             assert!(s.first_quad[splines..].iter().all(|v| *v == 7) && s.quad_count[splines..].iter().all(|v| *v == 7));
         }
+    }
+
+    #[test]
+    fn for_the_knife_a_move_forgets_the_angle() {
+        let second = [Call::Move(p(20.0, 0.0)), Call::Line(p(20.0, 0.0)), Call::Line(p(30.0, 0.0)), Call::Line(p(30.0, 10.0))];
+        let calls = [&[Call::Line(p(10.0, 0.0)), Call::Line(p(10.0, 10.0))], &second[..]].concat();
+        let (ten, twenty, thirty) = (0x4120_0000, 0x41a0_0000, 0x41f0_0000);
+        knife_gives(
+            &calls,
+            &[0x7f80_0000, 0xff80_0000, 0xff80_0001, 0xffc0_0002, 0x7f80_0003, 0xff80_0003, 0xff80_0004, 0xffc0_0005],
+            &[0, ten, ten, 0, twenty, thirty, thirty, twenty],
+            &[0, 0, ten, 0, 0, 0, ten, 0],
+        );
+        // the second contour alone
+        knife_gives(&second, &[0x7f80_0000, 0xff80_0000, 0xff80_0001, 0xffc0_0002], &[twenty, thirty, thirty, twenty], &[0, 0, ten, 0]);
     }
 
     #[test]
