@@ -188,9 +188,9 @@ pub enum Setting {
     /// is lost, and a chord goes across it. Points inside a spline may lie on the quads of an earlier one, whose last quad got no point, and the path then runs
     /// back.
     Screen,
-    /// A line without length keeps the direction before it, and a Move forgets it. A reversal of direction is a corner: a line out and the same line back keep their far
-    /// end. A line and a quad never share a spline, so that the point where straight meets round is a vertex. Cubics become quads; a quad whose control point
-    /// lies on its start or end is a line. The points inside a spline lie on its own quads.
+    /// A line without length keeps the direction before it, and a Move forgets it. A reversal of direction is a corner: a line out and the same line back keep
+    /// their far end. A line and a quad never share a spline, so that the point where straight meets round is a vertex. Cubics become quads; a quad whose control
+    /// point lies on its start or end is a line. The points inside a spline lie on its own quads.
     ///
     /// The points are those of the contours, each flattened as a drawing by itself, one after the other. A contour is the commands from a Move up to the next one
     /// or the end, with their points and weights, and `opening` 0. On the screen it is so if in every spline of two or more quads a whole number lies strictly

@@ -4,32 +4,35 @@
 use Prim.Native.Nat.{ℕ, suc, _+_}
 use mathlib.Core.Path.{_≡_, refl, sym, ap, ap₂, _∙_, subst}
 use mathlib.Core.Logic.{_↔_}
+use mathlib.Core.Bool.{false}
 use mathlib.Core.List.{List, [], _∷_, _++_, map, flatMap, map-append, map-map}
 use lib.Ieee.{Float}
 use lib.ListN.{length}
 use Rattle.columns.specs.Flags.{flagByteOf}
 use Rattle.command.specs.declared.PointCommand.{PointCommand}
+use Rattle.command.specs.declared.PointCommand.the-variants.{Start, Incr, End}
 use Rattle.command.specs.Packing.{packOf, unpackOf}
 use Rattle.point.specs.declared.Setting.{Setting}
 use Rattle.point.specs.declared.Setting.the-variants.{Screen, Knife}
+use Rattle.primitives.specs.declared.QuadRow.{QuadRow}
 use Rattle.store.specs.Contours.{Drawing, contoursOf}
-use Rattle.tables.specs.Tables.{quadRowAt}
+use Rattle.tables.specs.Tables.{SplineTable, quadRowAt}
 use Rattle.tables.specs.Run.{World}
 use Rattle.tables.proofs.Standing.{StandFrom}
 use Rattle.tables.proofs.Nested.{AllDone, all-both}
-use Rattle.walk.specs.Walk.{wordOf, wordsOf}
-use Rattle.evaluate.specs.Evaluate.{Finished, pointsOf}
+use Rattle.walk.specs.Walk.{Item}
+use Rattle.evaluate.specs.Evaluate.{Finished, commandPointOf, itemPointOf, pointsOf}
 use Rattle.flatten.specs.Flatten.{Flattening, walked}
 use Rattle.promises.specs.Words.{decoded}
 use Rattle.promises.specs.Accepted.{Job, flatteningOf, Accepted, wordsIn, walkIn}
 use Rattle.promises.specs.Demand3.{Spread}
-use Rattle.promises.specs.Nests.{Lent, alonesFrom, alonesOf, All, total, xIn, yIn, endIn, numberedOn, wordsFrom, Joined}
-use Rattle.promises.specs.Nests.{NestsJoin, SpreadAlike}
+use Rattle.promises.specs.Nests.{Lent, alonesFrom, alonesOf, All, total, xIn, yIn, endIn, numberedOn, wordsFrom, WordsJoined, Joined}
+use Rattle.promises.specs.Nests.{NestsTell, NestsJoin, SpreadAlike}
 use Rattle.promises.proofs.Flattened.{worldOf, itemsIn, passed, words-are}
 use Rattle.promises.proofs.Decoding.{capsOf, job-sound, demand3a}
 use Rattle.promises.proofs.Walking.{commandOf}
 use Rattle.promises.proofs.Cutting.{all-map}
-use Rattle.promises.proofs.SplineQuads.{items-same}
+use Rattle.promises.proofs.SplineQuads.{same-commands, packed, items-same}
 use Rattle.promises.proofs.JoinedWalks.{commandsFrom, pointsIn, counts, points-join, commands-join, length-join}
 use Rattle.promises.proofs.JoinedSpread.{left, spread-same, spread-join}
 use Rattle.promises.proofs.NestTables.{worlds-are, joins, walkedPoints, xs-are, ys-are, ends-are}
@@ -66,6 +69,29 @@ unfolding total
 totals g h [] z = refl
 totals g h (a ∷ rest) z = ap₂ (λ (x y : ℕ). x + y) (z .0) (totals g h rest (z .1))
 
+-- ---- the ends are told by the commands
+abbrev endOf : PointCommand → ℕ
+endOf (Start k) = flagByteOf false
+endOf (Incr size) = flagByteOf false
+endOf (End k flag) = flagByteOf flag
+
+ends-told : (rows : ℕ → QuadRow) (s : SplineTable) (items : List Item)
+    → map (λ (p : Finished). flagByteOf (p .end)) (pointsOf rows s items) ≡ map endOf (map commandOf items)
+unfolding pointsOf itemPointOf commandPointOf
+ends-told rows s [] = refl
+ends-told rows s (i ∷ items) = ap₂ (λ (e : ℕ) (es : List ℕ). e ∷ es) (one (i .command) (i .step) (i .quad)) (ends-told rows s items)
+  where
+    one : (command : PointCommand) (p q : ℕ) → flagByteOf (commandPointOf rows s command p q .end) ≡ endOf command
+    one (Start k) p q = refl
+    one (Incr size) p q = refl
+    one (End k flag) p q = refl
+
+ends-numbered : (n : ℕ) (commands : List PointCommand) → map endOf (map (numberedOn n) commands) ≡ map endOf commands
+ends-numbered n [] = refl
+ends-numbered n (Start k ∷ commands) = ap (λ (es : List ℕ). flagByteOf false ∷ es) (ends-numbered n commands)
+ends-numbered n (Incr size ∷ commands) = ap (λ (es : List ℕ). flagByteOf false ∷ es) (ends-numbered n commands)
+ends-numbered n (End k flag ∷ commands) = ap (λ (es : List ℕ). flagByteOf flag ∷ es) (ends-numbered n commands)
+
 -- ---- what an accepted drawing leaves
 module _ (job : Job) (h : Accepted job) where
   pub splines-are : flatteningOf job .result .splines ≡ worldOf job .state .splines
@@ -84,6 +110,16 @@ module _ (job : Job) (h : Accepted job) where
   unfolding walked
   table-is = ap (λ (f : Flattening). f .quads) (passed job h .result)
 
+  commands-knife : map commandOf (itemsIn (job .setting) (worldOf job)) ≡ map commandOf (itemsIn Knife (worldOf job))
+  commands-knife = same-commands (job .setting) Knife (quadRowAt (worldOf job .quads)) (worldOf job .splines) (worldOf job .state .splines)
+
+  decoded-knife : decoded (wordsIn (flatteningOf job)) ≡ map commandOf (itemsIn Knife (worldOf job))
+  unfolding walked
+  decoded-knife = demand3a job h ∙ ap (λ (f : Flattening). map commandOf (walkIn (job .setting) f)) (passed job h .result) ∙ commands-knife
+
+  ends-knife : endIn (flatteningOf job) ≡ map endOf (map commandOf (itemsIn Knife (worldOf job)))
+  ends-knife = ends-are job h ∙ ends-told (quadRowAt (worldOf job .quads)) (worldOf job .splines) (itemsIn (job .setting) (worldOf job)) ∙ ap (map endOf) commands-knife
+
   -- the walk is the knife's
   knife-items : (job .setting ≡ Screen → Spread (flatteningOf job)) → itemsIn (job .setting) (worldOf job) ≡ itemsIn Knife (worldOf job)
   knife-items spread = go (job .setting) refl
@@ -101,18 +137,15 @@ module _ (job : Job) (h : Accepted job) where
     points-knife : walkedPoints job ≡ pointsIn Knife (worldOf job)
     points-knife = ap (pointsOf (quadRowAt (worldOf job .quads)) (worldOf job .splines)) knife
 
-    decoded-knife : decoded (wordsIn (flatteningOf job)) ≡ map commandOf (itemsIn Knife (worldOf job))
-    unfolding walked
-    decoded-knife = demand3a job h ∙ ap (λ (f : Flattening). map commandOf (walkIn (job .setting) f)) (passed job h .result) ∙ ap (map commandOf) knife
-
 -- ---- the words
 renumbered : (n : ℕ) (words : List ℕ) → map (λ (word : ℕ). packOf (numberedOn n (unpackOf word))) words ≡ map packOf (map (numberedOn n) (decoded words))
 renumbered n words =
     sym (map-map packOf (numberedOn n) (decoded words) ∙ map-map (λ (c : PointCommand). packOf (numberedOn n c)) unpackOf words)
 
-pub record Told (a : Job) : Type 0 where
-  pub decodes : decoded (wordsIn (flatteningOf a)) ≡ map commandOf (itemsIn Knife (worldOf a))
-  pub counted : flatteningOf a .result .splines ≡ worldOf a .state .splines
+record Told (a : Job) : Type 0 where
+  ends : endIn (flatteningOf a) ≡ map endOf (map commandOf (itemsIn Knife (worldOf a)))
+  decodes : decoded (wordsIn (flatteningOf a)) ≡ map commandOf (itemsIn Knife (worldOf a))
+  counted : flatteningOf a .result .splines ≡ worldOf a .state .splines
 
 words-from : (n : ℕ) (jobs : List Job) → All Told jobs → wordsFrom n (map flatteningOf jobs) ≡ map packOf (commandsFrom n (map worldOf jobs))
 unfolding wordsFrom commandsFrom
@@ -123,6 +156,14 @@ words-from n (a ∷ rest) z =
     (words-from (n + flatteningOf a .result .splines) rest (z .1)
     ∙ ap (λ (m : ℕ). map packOf (commandsFrom (n + m) (map worldOf rest))) (z .0 .counted))
     ∙ sym (map-append packOf (map (numberedOn n) (map commandOf (itemsIn Knife (worldOf a)))) _)
+
+ends-from : (n : ℕ) (jobs : List Job) → All Told jobs → flatMap endIn (map flatteningOf jobs) ≡ map endOf (commandsFrom n (map worldOf jobs))
+unfolding flatMap commandsFrom
+ends-from n [] z = refl
+ends-from n (a ∷ rest) z =
+    let own = map commandOf (itemsIn Knife (worldOf a)) in
+    ap₂ (λ (x y : List ℕ). x ++ y) (z .0 .ends ∙ sym (ends-numbered n own)) (ends-from (n + worldOf a .state .splines) rest (z .1))
+    ∙ sym (map-append endOf (map (numberedOn n) own) _)
 
 -- ---- a drawing that is accepted, and each of its contours alone
 module _ (job : Job) (lent : ℕ → Lent) (h : Accepted job) (each : All Accepted (alonesOf job lent)) where
@@ -165,7 +206,35 @@ module _ (job : Job) (lent : ℕ → Lent) (h : Accepted job) (each : All Accept
         λ z. spread-same (left 0 (job .output) whole) (flatteningOf job) (sym (table-is job h)) (sym (quads-are job h)) (s .1 (spread-from alones each z)),
       )
 
-  -- ---- joined in order
+  -- ---- the words, the ends and the counts
+  told : All Told alones
+  told = all-map Accepted Told (λ a z. record { ends = ends-knife a z; decodes = decoded-knife a z; counted = splines-are a z }) alones each
+
+  commands-joined : map commandOf (itemsIn (job .setting) whole) ≡ commandsFrom 0 (map worldOf alones)
+  commands-joined = commands-knife job h ∙ commands-join whole (map worldOf alones) stand
+
+  words-joined : WordsJoined (flatteningOf job) (map flatteningOf alones)
+  words-joined =
+      record {
+        words =
+            ap wordsIn (passed job h .result) ∙ words-are job ∙ packed (itemsIn (job .setting) whole) ∙ ap (map packOf) commands-joined
+            ∙ sym (words-from 0 alones told);
+        end = ends-knife job h ∙ ap (map endOf) (sym (commands-knife job h) ∙ commands-joined) ∙ sym (ends-from 0 alones told);
+        splines =
+            splines-are job h ∙ counts whole (map worldOf alones) stand .1
+            ∙ sym (totals (λ (f : Flattening). f .result .splines) (λ (w : World). w .state .splines) alones (all-map Accepted _ splines-are alones each));
+        quads =
+            quads-are job h ∙ counts whole (map worldOf alones) stand .0
+            ∙ sym (totals (λ (f : Flattening). f .result .quads) (λ (w : World). w .state .quads) alones (all-map Accepted _ quads-are alones each));
+        points =
+            points-are job h ∙ length-join (job .setting) whole (map worldOf alones) stand
+            ∙ sym (totals (λ (f : Flattening). f .result .points) (λ (w : World). length (itemsIn (job .setting) w)) alones
+            (all-map (λ (a : Job). Accepted a × (a .setting ≡ job .setting)) _
+            (λ a z. points-are a (z .0) ∙ ap (λ (x : Setting). length (itemsIn x (worldOf a))) (z .1)) alones
+            (all-two Accepted (λ (a : Job). a .setting ≡ job .setting) alones each same-setting)));
+      }
+
+  -- ---- the points
   module _ (spread : job .setting ≡ Screen → Spread (flatteningOf job)) where
     -- each alone is accepted, and its walk is the knife's
     record Good (a : Job) : Type 0 where
@@ -197,15 +266,8 @@ module _ (job : Job) (lent : ℕ → Lent) (h : Accepted job) (each : All Accept
     abbrev py : Finished → Float
     py p = p .point .y
 
-    abbrev pe : Finished → ℕ
-    pe p = flagByteOf (p .end)
-
     points-joined : walkedPoints job ≡ flatMap (pointsIn Knife) (map worldOf alones)
     points-joined = points-knife job h own ∙ points-join whole (map worldOf alones) stand
-
-    packed : wordsOf (itemsIn (job .setting) whole) ≡ map packOf (map commandOf (itemsIn (job .setting) whole))
-    unfolding wordsOf wordOf
-    packed = sym (map-map packOf commandOf (itemsIn (job .setting) whole))
 
     joined : Joined (flatteningOf job) (map flatteningOf alones)
     joined =
@@ -218,27 +280,11 @@ module _ (job : Job) (lent : ℕ → Lent) (h : Accepted job) (each : All Accept
               ys-are job h ∙ ap (map py) points-joined
               ∙ sym (flat yIn (pointsIn Knife) py alones
               (all-map Good _ (λ a g. ys-are a (g .accepted) ∙ ap (map py) (points-knife a (g .accepted) (g .knife))) alones good));
-          end =
-              ends-are job h ∙ ap (map pe) points-joined
-              ∙ sym (flat endIn (pointsIn Knife) pe alones
-              (all-map Good _ (λ a g. ends-are a (g .accepted) ∙ ap (map pe) (points-knife a (g .accepted) (g .knife))) alones good));
-          words =
-              ap wordsIn (passed job h .result) ∙ words-are job ∙ packed
-              ∙ ap (map packOf) (ap (map commandOf) own ∙ commands-join whole (map worldOf alones) stand)
-              ∙ sym (words-from 0 alones
-              (all-map Good Told (λ a g. record { decodes = decoded-knife a (g .accepted) (g .knife); counted = splines-are a (g .accepted) }) alones good));
-          splines =
-              splines-are job h ∙ counts whole (map worldOf alones) stand .1
-              ∙ sym (totals (λ (f : Flattening). f .result .splines) (λ (w : World). w .state .splines) alones (all-map Accepted _ splines-are alones each));
-          quads =
-              quads-are job h ∙ counts whole (map worldOf alones) stand .0
-              ∙ sym (totals (λ (f : Flattening). f .result .quads) (λ (w : World). w .state .quads) alones (all-map Accepted _ quads-are alones each));
-          points =
-              points-are job h ∙ length-join (job .setting) whole (map worldOf alones) stand
-              ∙ sym (totals (λ (f : Flattening). f .result .points) (λ (w : World). length (itemsIn (job .setting) w)) alones
-              (all-map (λ (a : Job). Accepted a × (a .setting ≡ job .setting)) _
-              (λ a z. points-are a (z .0) ∙ ap (λ (x : Setting). length (itemsIn x (worldOf a))) (z .1)) alones (all-two Accepted (λ (a : Job). a .setting ≡ job .setting) alones each same-setting)));
+          told = words-joined;
         }
+
+pub nests-tell : NestsTell
+nests-tell job lent h each = words-joined job lent h each
 
 pub nests-join : NestsJoin
 nests-join job lent h each spread = joined job lent h each spread

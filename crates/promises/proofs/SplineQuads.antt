@@ -17,6 +17,7 @@ use Rattle.facts.proofs.Numbers.{shift-one}
 use Rattle.answer.specs.declared.Answer.{Answer}
 use Rattle.answer.specs.declared.Answer.the-variants.{Done, Unusable, OutputShort}
 use Rattle.answer.specs.Number.{isDone}
+use Rattle.command.specs.declared.PointCommand.{PointCommand}
 use Rattle.command.specs.Packing.{packOf}
 use Rattle.point.specs.declared.Setting.{Setting}
 use Rattle.point.specs.declared.Setting.the-variants.{Screen, Knife}
@@ -35,7 +36,7 @@ use Rattle.tables.proofs.Sound.{Sound, cut-le}
 use Rattle.tables.proofs.Owners.{home, home-owner, owned, sum-round, zero-straight, not-both}
 use Rattle.walk.specs.Walk.{Item, subdivisionsOf, stepSizeOf, startsOf, cursorStartOf, cursorAfter, splineItemsOf, walkFrom, walkOf, wordOf, wordsOf}
 use Rattle.flatten.specs.Flatten.{Flattening, Output, flattened, flattening, fitsOutput, writeOutput, walked, tabled, flattenDrawable, flattenOf}
-use Rattle.promises.specs.Accepted.{Job, flatteningOf, walkIn, pieceOf}
+use Rattle.promises.specs.Accepted.{Job, flatteningOf, walkIn}
 use Rattle.promises.specs.Demand3.{StepOf, LastQuad, splineOfQuad, sumOfQuad, Between, Spread, QuadHasStep}
 use Rattle.promises.specs.StraightRound.{FirstQuad}
 use Rattle.promises.specs.SplineQuads.{firstQuad, quadCount, InRange, Ranges, RangesHold, LinesHaveNone, KnifeStays, KnifeSteps, StepsOfQuads, KnifeQuads}
@@ -315,26 +316,30 @@ steps-of-quads job h knife =
     (knife-quads (job .setting) knife (capsOf job) (worldOf job) (job-sound job) (finishedOf job .result .points) (finishedOf job .output))
 
 -- ---- what the knife's beginning changes
--- the words of a spline are the same from every cursor
-piece-words : (rows : ℕ → QuadRow) (s : SplineTable) (k c : ℕ) → wordsOf (splineItemsOf rows s k c) ≡ map packOf (pieceOf s k)
-unfolding wordsOf wordOf
-piece-words rows s k c = sym (map-map packOf commandOf (splineItemsOf rows s k c)) ∙ ap (map packOf) (piece-commands rows s k c)
-
-walk-words : (setting setting' : Setting) (rows : ℕ → QuadRow) (s : SplineTable) (n k c c' : ℕ)
-    → wordsOf (walkFrom setting rows s n k c) ≡ wordsOf (walkFrom setting' rows s n k c')
-unfolding walkFrom wordsOf
-walk-words setting setting' rows s zero k c c' = refl
-walk-words setting setting' rows s (suc n) k c c' =
+-- the commands of a spline are the same from every cursor
+walk-commands : (setting setting' : Setting) (rows : ℕ → QuadRow) (s : SplineTable) (n k c c' : ℕ)
+    → map commandOf (walkFrom setting rows s n k c) ≡ map commandOf (walkFrom setting' rows s n k c')
+unfolding walkFrom
+walk-commands setting setting' rows s zero k c c' = refl
+walk-commands setting setting' rows s (suc n) k c c' =
     let b = cursorStartOf setting (splineAt s k .«first_quad») c in
     let b' = cursorStartOf setting' (splineAt s k .«first_quad») c' in
-    map-append wordOf (splineItemsOf rows s k b) _
-    ∙ ap₂ (λ (x y : List ℕ). x ++ y) (piece-words rows s k b ∙ sym (piece-words rows s k b'))
-    (walk-words setting setting' rows s n (k + 1) (cursorAfter rows s k b) (cursorAfter rows s k b'))
-    ∙ sym (map-append wordOf (splineItemsOf rows s k b') _)
+    map-append commandOf (splineItemsOf rows s k b) _
+    ∙ ap₂ (λ (x y : List PointCommand). x ++ y) (piece-commands rows s k b ∙ sym (piece-commands rows s k b'))
+    (walk-commands setting setting' rows s n (k + 1) (cursorAfter rows s k b) (cursorAfter rows s k b'))
+    ∙ sym (map-append commandOf (splineItemsOf rows s k b') _)
+
+pub same-commands : (setting setting' : Setting) (rows : ℕ → QuadRow) (s : SplineTable) (n : ℕ)
+    → map commandOf (walkOf setting rows s n) ≡ map commandOf (walkOf setting' rows s n)
+unfolding walkOf
+same-commands setting setting' rows s n = walk-commands setting setting' rows s n 0 0 0
+
+pub packed : (items : List Item) → wordsOf items ≡ map packOf (map commandOf items)
+unfolding wordsOf wordOf
+packed items = sym (map-map packOf commandOf items)
 
 pub no-word-changes : NoWordChanges
-unfolding walkOf
-no-word-changes rows s n = walk-words Knife Screen rows s n 0 0 0
+no-word-changes rows s n = packed (walkOf Knife rows s n) ∙ ap (map packOf) (same-commands Knife Screen rows s n) ∙ sym (packed (walkOf Screen rows s n))
 
 -- where the cursor comes to each spline at its first quad, the walk is the screen's
 module _ (setting : Setting) (caps : Capacities) (w : World) (S : Sound caps w) (points : ℕ) (o : Output)

@@ -71,20 +71,30 @@ unfoldable pub wordsFrom : ℕ → List Flattening → List ℕ
 wordsFrom n [] = []
 wordsFrom n (f ∷ fs) = map (λ (word : ℕ). packOf (numberedOn n (unpackOf word))) (wordsIn f) ++ wordsFrom (n + f .result .splines) fs
 
-pub record Joined (whole : Flattening) (parts : List Flattening) : Type 0 where
-  pub x : xIn whole ≡ flatMap xIn parts
-  pub y : yIn whole ≡ flatMap yIn parts
-  pub end : endIn whole ≡ flatMap endIn parts
+-- the words, the ends of contours, and how many there are of each
+pub record WordsJoined (whole : Flattening) (parts : List Flattening) : Type 0 where
   pub words : wordsIn whole ≡ wordsFrom 0 parts
+  pub end : endIn whole ≡ flatMap endIn parts
   pub splines : whole .result .splines ≡ total (λ (f : Flattening). f .result .splines) parts
   pub quads : whole .result .quads ≡ total (λ (f : Flattening). f .result .quads) parts
   pub points : whole .result .points ≡ total (λ (f : Flattening). f .result .points) parts
+
+-- all of it
+pub record Joined (whole : Flattening) (parts : List Flattening) : Type 0 where
+  pub x : xIn whole ≡ flatMap xIn parts
+  pub y : yIn whole ≡ flatMap yIn parts
+  pub told : WordsJoined whole parts
 
 -- "as long as each alone and the whole are accepted and, in the screen setting, demand 3's condition on sums holds"
 abbrev pub NestsJoin : Type 0
 NestsJoin =
     (job : Job) (lent : ℕ → Lent) → Accepted job → All Accepted (alonesOf job lent) → (job .setting ≡ Screen → Spread (flatteningOf job))
     → Joined (flatteningOf job) (map flatteningOf (alonesOf job lent))
+
+-- for all but x and y no condition is needed, on the screen either
+abbrev pub NestsTell : Type 0
+NestsTell =
+    (job : Job) (lent : ℕ → Lent) → Accepted job → All Accepted (alonesOf job lent) → WordsJoined (flatteningOf job) (map flatteningOf (alonesOf job lent))
 
 -- the condition on the whole is the same as on each alone
 abbrev pub SpreadAlike : Type 0
