@@ -23,6 +23,7 @@ use Rattle.tables.specs.Tables.{SplineTable, splineAt}
 use Rattle.walk.specs.Walk.{Item, item, subdivisionsOf, stepSizeOf, startsOf, cursorStartOf, cursorAt, stepsFrom, cursorFrom, cursorAfter}
 use Rattle.walk.specs.Walk.{splineItemsOf, walkFrom, walkOf, wordOf, wordsOf}
 use Rattle.walk.proofs.Lengths.{steps-length}
+use Rattle.walk.proofs.Cursors.{any-cursor}
 use Rattle.evaluate.specs.declared.Place.{Place}
 use Rattle.evaluate.specs.Evaluate.{Finished, finished, commandPointOf, itemPointOf, pointsOf}
 use Rattle.evaluate.specs.Output.{Output, output, over, fitsOutput, writeOutput}
@@ -121,12 +122,11 @@ finish-cursor Screen rows s k cursor = go (subdivisionsOf s k)
 finish-cursor Knife rows s k cursor = refl
 
 -- for the knife it makes no difference where that is
-any-cursor : (setting : Setting) (rows : ℕ → QuadRow) (s : SplineTable) (n k j cursor : ℕ)
+left-anywhere : (setting : Setting) (rows : ℕ → QuadRow) (s : SplineTable) (n k j cursor : ℕ)
     → walkFrom setting rows s n k (leftAt setting rows s j cursor) ≡ walkFrom setting rows s n k (cursorAfter rows s j cursor)
-unfolding leftAt walkFrom cursorStartOf
-any-cursor Screen rows s n k j cursor = refl
-any-cursor Knife rows s zero k j cursor = refl
-any-cursor Knife rows s (suc n) k j cursor = refl
+unfolding leftAt
+left-anywhere Screen rows s n k j cursor = refl
+left-anywhere Knife rows s n k j cursor = any-cursor rows s n k _ _
 
 module _ (setting : Setting) (rows : ℕ → QuadRow) (s : SplineTable) (k : ℕ) (from : Place) (o : Output) where
   abbrev afterSteps : Written → Written
@@ -173,7 +173,7 @@ walk-from-written setting rows s (suc n) k from o =
     ap (λ (w : Written). writeWalkFrom setting rows s n (k + 1) (w .place) (w .output)) (spline-written setting rows s k from o)
     ∙ walk-from-written setting rows s n (k + 1) (placeAt (from .at + length items) cursor) (writeItems rows s (from .at) items o)
     ∙ sym (items-append rows s (from .at) items (walkFrom setting rows s n (k + 1) cursor) o)
-    ∙ ap (λ (l : List Item). writeItems rows s (from .at) (items ++ l) o) (any-cursor setting rows s n (k + 1) k start)
+    ∙ ap (λ (l : List Item). writeItems rows s (from .at) (items ++ l) o) (left-anywhere setting rows s n (k + 1) k start)
 
 -- ---- the four columns
 columnsFrom : (ℕ → QuadRow) → SplineTable → List Item → Output → ℕ → Output

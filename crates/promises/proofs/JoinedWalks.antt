@@ -15,6 +15,7 @@ use Rattle.tables.specs.Tables.{SplineTable, quadRowAt, splineAt}
 use Rattle.tables.specs.Run.{World}
 use Rattle.walk.specs.Walk.{Item, cursorStartOf, cursorAfter, splineItemsOf, walkFrom, walkOf}
 use Rattle.walk.proofs.Lengths.{walk-length}
+use Rattle.walk.proofs.Cursors.{any-cursor}
 use Rattle.evaluate.specs.Evaluate.{Finished, itemPointOf, pointsOf}
 use Rattle.promises.specs.Nests.{total, numberedOn}
 use Rattle.promises.proofs.Walking.{commandOf}
@@ -32,17 +33,12 @@ unfoldable pub itemsFrom : ℕ → ℕ → List World → List Item
 itemsFrom bq bs [] = []
 itemsFrom bq bs (a ∷ rest) = map (itemOn bq bs) (itemsIn Knife a) ++ itemsFrom (bq + a .state .quads) (bs + a .state .splines) rest
 
--- ---- the knife's walk does not depend on the cursor that it comes with, so it may be cut at any spline
+-- ---- the knife's walk may be cut at any spline, since it does not depend on the cursor that it comes with
 module _ (rows : ℕ → QuadRow) (s : SplineTable) where
-  pub any-cursor : (n k c c' : ℕ) → walkFrom Knife rows s n k c ≡ walkFrom Knife rows s n k c'
-  unfolding walkFrom cursorStartOf
-  any-cursor zero k c c' = refl
-  any-cursor (suc n) k c c' = refl
-
   pub walk-splits : (n m k c c' : ℕ) → walkFrom Knife rows s (n + m) k c ≡ walkFrom Knife rows s n k c ++ walkFrom Knife rows s m (k + n) c'
   unfolding walkFrom
   walk-splits zero m k c c' =
-      any-cursor (0 + m) k c c'
+      any-cursor rows s (0 + m) k c c'
       ∙ ap₂ (λ (x y : ℕ). walkFrom Knife rows s x y c') (zero-add m) (sym (add-zero k))
   walk-splits (suc n) m k c c' =
       let b = cursorStartOf Knife (splineAt s k .«first_quad») c in

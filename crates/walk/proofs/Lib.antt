@@ -1,2 +1,3 @@
 pub mod Lengths
 pub mod Examples
+pub mod Cursors
