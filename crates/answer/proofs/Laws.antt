@@ -6,13 +6,14 @@ use mathlib.Core.List.{List, [], _∷_}
 use borrow.Author.Tests.{eqb-true}
 use lib.ListN.{getD}
 use Rattle.answer.specs.declared.Answer.{Answer}
-use Rattle.answer.specs.declared.Answer.the-variants.{Done, BadCoordinate, BadWeight, Unusable, StoreFull, TooManyPieces, QuadsFull, SplinesFull, SumTooLarge, OutputShort, BadText, InputTooLong}
+use Rattle.answer.specs.declared.Answer.the-variants.{Done, BadCoordinate, BadWeight, Unusable, StoreFull, TooManyPieces, QuadsFull, SplinesFull, SumTooLarge, OutputShort, BadText, InputTooLong, NotPrintable, BufferShort}
 use Rattle.answer.specs.Number.{numberOf, isDone}
 
 -- the answers in the order of their numbers
 abbrev answers : List Answer
 answers =
-    Done ∷ BadCoordinate ∷ BadWeight ∷ Unusable ∷ StoreFull ∷ TooManyPieces ∷ QuadsFull ∷ SplinesFull ∷ SumTooLarge ∷ OutputShort ∷ BadText ∷ InputTooLong ∷ []
+    Done ∷ BadCoordinate ∷ BadWeight ∷ Unusable ∷ StoreFull ∷ TooManyPieces ∷ QuadsFull ∷ SplinesFull ∷ SumTooLarge ∷ OutputShort ∷ BadText ∷ InputTooLong
+    ∷ NotPrintable ∷ BufferShort ∷ []
 
 answer-at : (a : Answer) → getD answers (numberOf a) Done ≡ a
 answer-at Done = refl
@@ -27,6 +28,8 @@ answer-at SumTooLarge = refl
 answer-at OutputShort = refl
 answer-at BadText = refl
 answer-at InputTooLong = refl
+answer-at NotPrintable = refl
+answer-at BufferShort = refl
 
 pub number-apart : (a b : Answer) → numberOf a ≡ numberOf b → a ≡ b
 number-apart a b e = sym (answer-at a) ∙ ap (λ (n : ℕ). getD answers n Done) e ∙ answer-at b

@@ -3,7 +3,7 @@ use Prim.Native.Nat.{ℕ}
 use mathlib.Core.Bool.{Bool}
 use lib.Dec.{eqb}
 use Rattle.answer.specs.declared.Answer.{Answer}
-use Rattle.answer.specs.declared.Answer.the-variants.{Done, BadCoordinate, BadWeight, Unusable, StoreFull, TooManyPieces, QuadsFull, SplinesFull, SumTooLarge, OutputShort, BadText, InputTooLong}
+use Rattle.answer.specs.declared.Answer.the-variants.{Done, BadCoordinate, BadWeight, Unusable, StoreFull, TooManyPieces, QuadsFull, SplinesFull, SumTooLarge, OutputShort, BadText, InputTooLong, NotPrintable, BufferShort}
 
 abbrev pub numberOf : Answer → ℕ
 numberOf Done = 0
@@ -18,6 +18,8 @@ numberOf SumTooLarge = 8
 numberOf OutputShort = 9
 numberOf BadText = 10
 numberOf InputTooLong = 11
+numberOf NotPrintable = 12
+numberOf BufferShort = 13
 
 abbrev pub isDone : Answer → Bool
 isDone a = eqb (numberOf a) 0

@@ -28,6 +28,10 @@ pub enum Answer {
     BadText,
     // 11: input over 16,384 bytes
     InputTooLong,
+    // 12: a coordinate is NaN or rounds outside -32,768..32,767
+    NotPrintable,
+    // 13: the buffer for a text or for whole numbers is too short
+    BufferShort,
 }
 
 // The only match on an answer: all other code goes by its number.
@@ -47,6 +51,8 @@ pub fn number(a: Answer) -> u32
         Answer::OutputShort => 9,
         Answer::BadText => 10,
         Answer::InputTooLong => 11,
+        Answer::NotPrintable => 12,
+        Answer::BufferShort => 13,
     }
 }
 

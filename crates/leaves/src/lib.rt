@@ -21,4 +21,5 @@ pub use small::max;
 pub use small::min;
 pub use small::negative;
 pub use whole::ceil;
+pub use whole::whole_near;
 pub use whole::whole_up;

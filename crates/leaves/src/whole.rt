@@ -1,9 +1,9 @@
-// The next whole number up, as a float and as a count.
+// The next whole number up, as a float and as a count, and the nearest one.
 use crate::parts;
 ghost use mathlib.Core.Path.{_≡_};
 ghost use Prim.Native.Nat.{_+_, _-_, _/_, _^_, _<_};
 ghost use Rattle.leaves.specs.Small.{ceilOf};
-ghost use Rattle.leaves.specs.Whole.{wholeUpOf};
+ghost use Rattle.leaves.specs.Whole.{wholeUpOf, wholeNearOf};
 
 // t / 2 ^ d, down to a whole number.
 fn whole_below(t: u64, d: u64) -> u64
@@ -55,6 +55,30 @@ pub fn whole_up(x: f32) -> u32
         if x <= 65536.0 {
             let b = f32::to_bits(x);
             return whole_above(parts::digits(b), 149 - parts::place(b)) as u32;
+        }
+    }
+    65537
+}
+
+// t / 2 ^ d to the nearest whole number, halves up.
+fn whole_nearest(t: u64, d: u64) -> u64
+    requires { ⌜ t < 2 ^ 24 ⌝ }
+    ensures { λ r. ⌜ r ≡ (2 * t + 2 ^ d) / (2 * 2 ^ d) ⌝ }
+{
+    if d > 38 {
+        return 0;
+    }
+    (2 * t + (1u64 << d)) >> (d + 1)
+}
+
+// The whole number nearest to the size of x, halves away from zero; 65,537 for an x beyond ±65,536.
+pub fn whole_near(x: f32) -> u32
+    ensures { λ r. ⌜ r ≡ wholeNearOf x ⌝ }
+{
+    if x >= -65536.0 {
+        if x <= 65536.0 {
+            let b = f32::to_bits(x);
+            return whole_nearest(parts::digits(b), 149 - parts::place(b)) as u32;
         }
     }
     65537

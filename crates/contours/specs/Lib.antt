@@ -1,0 +1,3 @@
+pub mod Cutting
+pub mod Finished
+pub mod Contours

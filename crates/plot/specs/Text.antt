@@ -1,0 +1,18 @@
+-- 02, One: "`IN;`, then for each contour `PU x,y;` for its first point and `PD x,y;` for each later one". Assumes nothing.
+use Prim.Native.Nat.{ℕ}
+use mathlib.Core.List.{List, [], _∷_, _++_, flatMap}
+use lib.IntN.{ℤ}
+use Rattle.text.specs.Bytes.{bytes}
+use Rattle.text.specs.Signed.{signedOf}
+use Rattle.contours.specs.Finished.{Position}
+
+-- "No other blank": one after the letters
+unfoldable pub moveOf : List ℕ → Position ℤ → List ℕ
+moveOf pen p = pen ++ (bytes " " ++ (signedOf (p .x) ++ (bytes "," ++ (signedOf (p .y) ++ bytes ";"))))
+
+unfoldable pub contourText : List (Position ℤ) → List ℕ
+contourText [] = []
+contourText (first ∷ later) = moveOf (bytes "PU") first ++ flatMap (moveOf (bytes "PD")) later
+
+unfoldable pub textOf : List (List (Position ℤ)) → List ℕ
+textOf contours = bytes "IN;" ++ flatMap contourText contours

@@ -1,0 +1,21 @@
+// One coordinate.
+
+ghost use mathlib.Core.Path.{_≡_};
+ghost use Rattle.units.specs.Whole.{unitOf};
+use crate::Unit;
+
+pub fn whole(x: f32) -> Unit
+    ensures { λ r. ⌜ r ≡ unitOf x ⌝ }
+{
+    let size = leaves::whole_near(x);
+    if leaves::negative(x) {
+        if size > 32768 {
+            return Unit::Beyond;
+        }
+        return Unit::Whole(-(size as i32));
+    }
+    if size > 32767 {
+        return Unit::Beyond;
+    }
+    Unit::Whole(size as i32)
+}
