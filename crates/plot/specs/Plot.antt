@@ -1,7 +1,7 @@
 -- 02, One: the plot of finished points. "Refusals: 12 when a coordinate is NaN or rounds outside -32,768..32,767, then 13 when the text buffer is too short;
 -- neither writes a byte." Assumes nothing.
 use Prim.Native.Nat.{ℕ}
-use mathlib.Core.Bool.{Bool, true, false, _&&_}
+use mathlib.Core.Bool.{Bool, true, false, _&&_, cond}
 use mathlib.Core.List.{List, [], _∷_, map}
 use lib.IntN.{ℤ}
 use lib.Dec.{leb}
@@ -14,6 +14,10 @@ use Rattle.contours.specs.Finished.{Position, position, Vertex, vertex}
 use Rattle.contours.specs.Contours.{contoursOf}
 use Rattle.units.specs.Whole.{wholeOf, printableOf}
 use Rattle.plot.specs.declared.Plotted.{Plotted}
+use Rattle.plot.specs.declared.Measured.{Measured}
+use Rattle.plot.specs.declared.Measured.the-variants.{Fits, Short, Unprintable}
+use Rattle.plot.specs.declared.Spot.{Spot}
+use Rattle.plot.specs.declared.Spot.the-variants.{At, Beyond}
 use Rattle.plot.specs.Text.{textOf}
 
 unfoldable pub allPrintable : List (Vertex Float) → Bool
@@ -49,3 +53,10 @@ plotIn true true text buffer = plot (plotted Done (length text)) (sets buffer 0 
 
 unfoldable pub plotOf : List (Vertex Float) → List ℕ → Plot
 plotOf points buffer = let text = plotText points in plotIn (allPrintable points) (leb (length text) (length buffer)) text buffer
+
+-- ---- as the code goes: each point in plotter units, and what is found before a byte is written
+unfoldable pub spotOf : Float → Float → Spot
+spotOf x y = cond (printableOf x && printableOf y) (At (wholeOf x) (wholeOf y)) Beyond
+
+unfoldable pub measuredOf : List (Vertex Float) → ℕ → Measured
+measuredOf points room = cond (allPrintable points) (cond (leb (length (plotText points)) room) Fits Short) Unprintable

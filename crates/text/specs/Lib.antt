@@ -4,3 +4,4 @@ pub mod Decimal
 pub mod Places
 pub mod Signed
 pub mod ReadDecimal
+pub mod Written
