@@ -3,3 +3,4 @@ pub mod Hexes
 pub mod Shapes
 pub mod Decimals
 pub mod Stores
+pub mod Minus

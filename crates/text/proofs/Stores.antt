@@ -5,7 +5,7 @@ use Prim.Native.Nat.{ℕ, zero, suc, _+_, _≤_, _<_}
 use native.Mathlib.Nat.{add-zero}
 use native.Mathlib.Omega.{arith}
 use lib.ListN.{length, set}
-use lib.Seq.{sets, set-comm}
+use lib.Seq.{sets, set-comm, set-out}
 
 module _ {A : Type 0} where
   pub sets-append : (l : List A) (i : ℕ) (xs ys : List A) → sets l i (xs ++ ys) ≡ sets (sets l i xs) (i + length xs) ys
@@ -23,3 +23,8 @@ module _ {A : Type 0} where
 
   pub sets-last : (l : List A) (i : ℕ) (xs : List A) (b : A) → sets l i (xs ++ (b ∷ [])) ≡ sets (set l (i + length xs) b) i xs
   sets-last l i xs b = sets-append l i xs (b ∷ []) ∙ before-run l i (i + length xs) b xs (omega arith)
+
+  -- past the end nothing is stored
+  pub sets-out : (l : List A) (i : ℕ) (xs : List A) → length l ≤ i → sets l i xs ≡ l
+  sets-out l i [] h = refl
+  sets-out l i (a ∷ xs) h = ap (λ (m : List A). sets m (suc i) xs) (set-out l i a h) ∙ sets-out l (suc i) xs (omega arith)

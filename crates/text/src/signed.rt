@@ -14,7 +14,9 @@ fn magnitude(n: i64) -> u64
     ensures { λ r. ⌜ r ≡ natAbs n ⌝ }
 {
     if n < 0 {
-        return (-1 - n) as u64 + 1;
+        let below = -1 - n;
+        let most = below as u64;
+        return most + 1;
     }
     n as u64
 }
@@ -33,12 +35,13 @@ pub fn signed_length(n: i64) -> usize
 pub fn put_signed(buffer: &mut [u8], at: usize, n: i64) -> usize
     ensures { λ r. ⌜ (r ≡ length (signedOf n)) × (now (buffer .exit) ≡ sets (now (buffer .entry)) at (signedOf n)) ⌝ }
 {
-    if n >= 0 {
-        return put_decimal(buffer, at, magnitude(n));
+    if n < 0 {
+        if at >= buffer.len() {
+            return signed_length(n);
+        }
+        put_byte(buffer, at, 0, 0x2d);
+        let digits = put_decimal(buffer, at + 1, magnitude(n));
+        return digits + 1;
     }
-    if at >= buffer.len() {
-        return signed_length(n);
-    }
-    put_byte(buffer, at, 0, 0x2d);
-    put_decimal(buffer, at + 1, magnitude(n)) + 1
+    put_decimal(buffer, at, magnitude(n))
 }
