@@ -2,6 +2,7 @@
 use mathlib.Core.Path.{_≡_}
 use mathlib.Core.Bool.{Bool, true, false}
 use mathlib.Core.List.{List, [], _∷_, _++_, flatMap}
+use Rattle.facts.specs.Every.{All}
 
 -- what comes after the last cut is a piece too
 abbrev pub behind {ℓ} : {A : Type ℓ} → Bool → A → List (List A) → List (List A)
@@ -14,11 +15,6 @@ cutAfter test [] = []
 cutAfter test (a ∷ rest) = behind (test a) a (cutAfter test rest)
 
 -- ---- what the pieces are; proved in proofs/Cuts
--- P holds of each
-abbrev pub All : {A : Type 0} → (A → Type 0) → List A → Type 0
-All P [] = Unit {0}
-All P (a ∷ rest) = P a × All P rest
-
 -- "none is empty", and no entry before its last one passes
 pub record Piece {A : Type 0} (test : A → Bool) (piece : List A) : Type 0 where
   pub start : List A

@@ -4,3 +4,4 @@ pub mod Shapes
 pub mod Decimals
 pub mod Stores
 pub mod Minus
+pub mod ReadDecimal
