@@ -50,15 +50,27 @@ pub fn whole_points(x: &[f32], y: &[f32], whole_x: &mut [i32], whole_y: &mut [i3
         n = y.len();
     }
     if !all_printable(x, n) {
-        return Wholes { answer: Answer::NotPrintable, points: 0 };
+        return Wholes {
+            answer: Answer::NotPrintable,
+            points: 0,
+        };
     }
     if !all_printable(y, n) {
-        return Wholes { answer: Answer::NotPrintable, points: 0 };
+        return Wholes {
+            answer: Answer::NotPrintable,
+            points: 0,
+        };
     }
     if (whole_x.len() < n) | (whole_y.len() < n) {
-        return Wholes { answer: Answer::BufferShort, points: 0 };
+        return Wholes {
+            answer: Answer::BufferShort,
+            points: 0,
+        };
     }
     put_wholes(x, n, whole_x);
     put_wholes(y, n, whole_y);
-    Wholes { answer: Answer::Done, points: n }
+    Wholes {
+        answer: Answer::Done,
+        points: n,
+    }
 }
