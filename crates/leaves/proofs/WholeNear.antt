@@ -1,20 +1,21 @@
 -- Laws of the nearest whole number: the same from the digits of a pattern as from the value. Assumes nothing.
 use mathlib.Core.Path.{_≡_, refl, sym, ap, ap₂, _∙_, subst}
 use mathlib.Core.Logic.{inl, inr}
-use mathlib.Core.Bool.{Bool, true, false, _&&_, _||_, cond}
-use Prim.Native.Nat.{ℕ, suc, _+_, _-_, _*_, _/_, _^_, _<_, _≤_}
+use mathlib.Core.Bool.{Bool, true, false, _&&_, _||_, cond, true≢false, or-true}
+use Prim.Native.Nat.{ℕ, suc, _+_, _*_, _/_, _^_, _<_, _≤_}
 use native.Mathlib.Nat.{mul-one, one-mul, mul-assoc, mul-comm, mul-left-comm, add-mul, mul-pos, mul-le-mul-right, zero-lt-suc}
-use native.Mathlib.Nat.{le-of-eq, le-of-lt, le-trans, lt-of-lt-of-le, div-eq-of-lt, div-lt-iff-lt-mul}
+use native.Mathlib.Nat.{le-of-eq, le-of-lt, le-trans, lt-of-not-le, eq-or-lt-of-le, div-eq-of-lt, div-lt-iff-lt-mul}
 use native.Mathlib.Omega.{arith}
 use lib.IntN.{pos}
 use lib.Dec.{T, ltb, eqb, ltb→lt, eqb→eq}
 use lib.Pow.{pow-pos}
-use lib.Ieee.{Float, nan, inf, fin, binary32, up, down, le, lt, eq, neg, ofBits}
-use lib.Ieee.Fits.{and-l}
+use lib.Ieee.{Float, nan, inf, fin, up, down, level, le, lt, eq, neg, ofBits}
+use lib.Ieee.Fits.{and-l, down-pos}
 use lib.Ieee.Exact.{HasValue}
 use lib.Ieee.Nearest.{div-same}
 use lib.Ieee.Scale.{finite}
 use lib.Ieee.Positive.{num, den, den-pos}
+use borrow.Author.Tests.{lt-ltb, eq-eqb}
 use mir.Facts.{or-yes}
 use Rattle.leaves.specs.Whole.{limit32, wholeNearOf}
 use Rattle.leaves.proofs.WholeUp.{limit-is, upper, digits-cross}
@@ -87,3 +88,37 @@ pub whole-near-is : (x : Float) (a b : Bool) → le (neg limit32) x ≡ a → le
     → cond (a && b) ((2 * num x + den x) / (2 * den x)) 65537 ≡ wholeNearOf x
 unfolding wholeNearOf
 whole-near-is x a b h k = ap₂ (λ (p q : Bool). cond (p && q) ((2 * num x + den x) / (2 * den x)) 65537) (sym h) (sym k)
+
+-- ---- and a finite x that is not among those lies beyond
+inside : (a b : ℕ) → a ≤ b → ((ltb (a * 1) b || (eqb (a * 1) b && true)) ≡ true) × ((ltb (a * 1) b || (eqb b (a * 1) && true)) ≡ true)
+inside a b h = elim (eq-or-lt-of-le h) [
+  | inr u ↦
+      let l = lt-ltb (a * 1) b (subst (λ (x : ℕ). x < b) (sym (mul-one a)) u) in
+      (ap (λ (t : Bool). t || (eqb (a * 1) b && true)) l, ap (λ (t : Bool). t || (eqb b (a * 1) && true)) l)
+  | inl u ↦ (
+    ap (λ (t : Bool). ltb (a * 1) b || (t && true)) (eq-eqb (a * 1) b (mul-one a ∙ u)) ∙ or-true (ltb (a * 1) b),
+    ap (λ (t : Bool). ltb (a * 1) b || (t && true)) (eq-eqb b (a * 1) (sym (mul-one a ∙ u))) ∙ or-true (ltb (a * 1) b),
+  )
+]
+
+inside-le : (x : Float) → T (finite x) → num x ≤ 65536 * den x → (le (fin true 1 (pos 16)) x && le x (fin false 1 (pos 16))) ≡ true
+unfolding le lt eq
+inside-le nan f h = absurd f
+inside-le (inf s) f h = absurd f
+inside-le (fin true m e) f h =
+    ap₂ (λ (p q : Bool). p && (q || level true (m * up e * 1) false (65536 * down e))) (inside (m * up e) (65536 * down e) h .1)
+    (lt-ltb 0 (m * up e * 1 + 65536 * down e) (some (m * up e * 1) (down e) (down-pos e)))
+  where
+    some : (a d : ℕ) → 0 < d → 0 < a + 65536 * d
+    some a d h = omega arith
+inside-le (fin false m e) f h =
+    ap₂ (λ (p q : Bool). (p || level true (65536 * down e) false (m * up e * 1)) && q) (lt-ltb 0 (65536 * down e + m * up e * 1) (some (m * up e * 1) (down e) (down-pos e)))
+    (inside (m * up e) (65536 * down e) h .0)
+  where
+    some : (a d : ℕ) → 0 < d → 0 < 65536 * d + a
+    some a d h = omega arith
+
+pub beyond : (x : Float) → T (finite x) → (le (neg limit32) x && le x limit32) ≡ false → 65536 * den x < num x
+beyond x f h =
+    lt-of-not-le (λ (g : num x ≤ 65536 * den x). true≢false (sym (inside-le x f g)
+    ∙ ap₂ (λ (a b : Float). le a x && le x b) (sym minus-is) (sym limit-is) ∙ h))
