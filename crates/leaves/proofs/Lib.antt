@@ -2,6 +2,7 @@ pub mod Shifts
 pub mod Comparisons
 pub mod Signs
 pub mod WholeUp
+pub mod WholeNear
 pub mod FmaParts
 pub mod FmaNearest
 pub mod RootParts

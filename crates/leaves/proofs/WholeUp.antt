@@ -184,14 +184,14 @@ module _ (x : Float) (t p : ℕ) where
       go false = sym (up-same (num x) (den x) (t * 2 ^ j) 1 (den-pos x) (pow-pos 0) c ∙ div-one (t * 2 ^ j + 1 - 1) ∙ sym (same (t * 2 ^ j)))
 
 -- ---- the count: an x from 0 to 65,536
-limit-is : limit32 ≡ fin false 1 (pos 16)
+pub limit-is : limit32 ≡ fin false 1 (pos 16)
 unfolding ofBits
 limit-is = refl
 
 lower : (e : ℤ) (n : ℕ) → T (false || (eqb (0 * down e) (n * 1) && (false || eqb (0 * down e) 0))) → n ≡ 0
 lower e n h = sym (sym (zero-mul (down e)) ∙ eqb→eq (0 * down e) (n * 1) (and-l (eqb (0 * down e) (n * 1)) (false || eqb (0 * down e) 0) h) ∙ mul-one n)
 
-upper : (a b : ℕ) → T (ltb (a * 1) b || (eqb (a * 1) b && (true || eqb (a * 1) 0))) → a ≤ b
+pub upper : (a b : ℕ) → T (ltb (a * 1) b || (eqb (a * 1) b && (true || eqb (a * 1) 0))) → a ≤ b
 upper a b h = elim (or-yes (ltb (a * 1) b) (eqb (a * 1) b && true) h) [
   | inl u ↦ subst (λ (x : ℕ). x ≤ b) (mul-one a) (le-of-lt (ltb→lt (a * 1) b u))
   | inr u ↦ subst (λ (x : ℕ). x ≤ b) (mul-one a) (le-of-eq (eqb→eq (a * 1) b (and-l (eqb (a * 1) b) true u)))

@@ -1,7 +1,7 @@
 // The next whole number up, as a float and as a count, and the nearest one.
 use crate::parts;
 ghost use mathlib.Core.Path.{_≡_};
-ghost use Prim.Native.Nat.{_+_, _-_, _/_, _^_, _<_};
+ghost use Prim.Native.Nat.{_+_, _-_, _*_, _/_, _^_, _<_};
 ghost use Rattle.leaves.specs.Small.{ceilOf};
 ghost use Rattle.leaves.specs.Whole.{wholeUpOf, wholeNearOf};
 

@@ -1,19 +1,21 @@
 // Finished points to whole plotter units. All are tested before one is written.
 
 ghost use mathlib.Core.Path.{_≡_};
-ghost use lib.ListN.{take};
+ghost use mathlib.Core.Bool.{true};
+ghost use Prim.Native.Nat.{_≤_};
+ghost use lib.ListN.{length, take};
 ghost use lib.Seq.{sets};
 ghost use mathlib.Core.List.{map};
 ghost use Rattle.units.specs.Whole.{printableOf, wholeOf};
 ghost use Rattle.units.specs.Columns.{allPrintable, rounding, roundingOf};
 use crate::Unit;
 use crate::Wholes;
-use crate::whole::whole;
+use crate::nearest::whole;
 use answer::Answer;
-use columns::read_f32;
 
-// Whether the first n entries, or all where there are fewer, round into the plotter's range.
+// Whether the first n entries round into the plotter's range.
 fn all_printable(column: &[f32], n: usize) -> bool
+    requires { ⌜ n ≤ length (now column) ⌝ }
     ensures { λ r. ⌜ r ≡ allPrintable (take n (now (column .entry))) ⌝ }
 {
     let mut i = 0;
@@ -29,6 +31,9 @@ fn all_printable(column: &[f32], n: usize) -> bool
 
 // The first n entries, rounded.
 fn put_wholes(column: &[f32], n: usize, to: &mut [i32])
+    requires { ⌜ n ≤ length (now column) ⌝ }
+    requires { ⌜ n ≤ length (now to) ⌝ }
+    requires { ⌜ allPrintable (take n (now column)) ≡ true ⌝ }
     ensures { λ _. ⌜ now (to .exit) ≡ sets (now (to .entry)) 0 (map wholeOf (take n (now (column .entry)))) ⌝ }
 {
     let mut i = 0;
@@ -50,15 +55,27 @@ pub fn whole_points(x: &[f32], y: &[f32], whole_x: &mut [i32], whole_y: &mut [i3
         n = y.len();
     }
     if !all_printable(x, n) {
-        return Wholes { answer: Answer::NotPrintable, points: 0 };
+        return Wholes {
+            answer: Answer::NotPrintable,
+            points: 0,
+        };
     }
     if !all_printable(y, n) {
-        return Wholes { answer: Answer::NotPrintable, points: 0 };
+        return Wholes {
+            answer: Answer::NotPrintable,
+            points: 0,
+        };
     }
     if (whole_x.len() < n) | (whole_y.len() < n) {
-        return Wholes { answer: Answer::BufferShort, points: 0 };
+        return Wholes {
+            answer: Answer::BufferShort,
+            points: 0,
+        };
     }
     put_wholes(x, n, whole_x);
     put_wholes(y, n, whole_y);
-    Wholes { answer: Answer::Done, points: n }
+    Wholes {
+        answer: Answer::Done,
+        points: n,
+    }
 }

@@ -12,10 +12,13 @@ pub fn whole(x: f32) -> Unit
         if size > 32768 {
             return Unit::Beyond;
         }
-        return Unit::Whole(-(size as i32));
+        let n = size as i32;
+        let below = -n;
+        return Unit::Whole(below);
     }
     if size > 32767 {
         return Unit::Beyond;
     }
-    Unit::Whole(size as i32)
+    let above = size as i32;
+    Unit::Whole(above)
 }
