@@ -4,3 +4,4 @@
 mod drawing;
 mod flattening;
 mod leaf;
+mod plotting;

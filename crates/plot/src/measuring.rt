@@ -1,6 +1,8 @@
 // What a text needs, before a byte of it is written.
 
 ghost use mathlib.Core.Path.{_≡_};
+ghost use mathlib.Core.Bool.{true};
+ghost use Prim.Native.Nat.{_-_};
 ghost use lib.ListN.{length};
 ghost use Rattle.contours.specs.Finished.{position, finishedOf};
 ghost use Rattle.plot.specs.Text.{penOf, moveOf};
@@ -29,27 +31,34 @@ fn move_length(x: i32, y: i32) -> usize
     5 + text::signed_length(x as i64) + text::signed_length(y as i64)
 }
 
+// What is left of a room; none where the bytes are too many for it.
+fn less(room: usize, bytes: usize) -> usize
+    ensures { λ r. ⌜ r ≡ room - bytes ⌝ }
+{
+    if room < bytes {
+        return 0;
+    }
+    room - bytes
+}
+
 // Bytes are counted down from the room, since a text can be longer than any count.
 pub fn measured(x: &[f32], y: &[f32], end: &[u8], room: usize) -> Measured
     ensures { λ r. ⌜ r ≡ measuredOf (finishedOf (now (x .entry)) (now (y .entry)) (now (end .entry))) room ⌝ }
 {
     let n = contours::shortest(x.len(), y.len(), end.len());
     let mut short = room < 3;
-    let mut left = if short { 0 } else { room - 3 };
+    let mut left = less(room, 3);
     let mut i = 0;
     while i < n {
         match spot(read_f32(x, i), read_f32(y, i)) {
             Spot::Beyond => return Measured::Unprintable,
             Spot::At(px, py) => {
                 let bytes = move_length(px, py);
-                if bytes > left {
-                    short = true;
-                } else {
-                    left -= bytes;
-                }
+                short = short | (left < bytes);
+                left = less(left, bytes);
+                i += 1;
             }
         }
-        i += 1;
     }
     if short {
         return Measured::Short;

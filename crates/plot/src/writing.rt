@@ -1,6 +1,7 @@
 // The text of points that are tested and measured.
 
 ghost use mathlib.Core.Path.{_≡_};
+ghost use mathlib.Core.Bool.{true};
 ghost use mathlib.Core.List.{[], _∷_, _++_, map};
 ghost use Prim.Native.Nat.{_+_, _≤_};
 ghost use lib.ListN.{length};
@@ -61,12 +62,14 @@ pub fn put_text(x: &[f32], y: &[f32], end: &[u8], text: &mut [u8]) -> usize
     let mut i = 0;
     while i < n {
         match spot(read_f32(x, i), read_f32(y, i)) {
-            Spot::At(px, py) => at = put_move(text, at, up, px, py),
             // This never happens: all points were tested.
-            Spot::Beyond => {}
+            Spot::Beyond => return at,
+            Spot::At(px, py) => {
+                at = put_move(text, at, up, px, py);
+                up = is_flag(read_u8(end, i));
+                i += 1;
+            }
         }
-        up = is_flag(read_u8(end, i));
-        i += 1;
     }
     at
 }
