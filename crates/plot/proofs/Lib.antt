@@ -1,3 +1,5 @@
 pub mod Moves
+pub mod Spots
 pub mod Measure
+pub mod Writes
 pub mod ReadBack
