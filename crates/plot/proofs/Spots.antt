@@ -61,3 +61,24 @@ module _ (x y : Float) where
       let p = whole-yes (printableOf x) (wholeOf x) a h in
       let q = whole-yes (printableOf y) (wholeOf y) b k in
       ap₂ found.At (p .1) (q .1) ∙ sym (ap₂ (λ (s t : Bool). chosen (s && t)) (p .0) (q .0))
+
+-- ---- and back: what a found point says of its coordinates
+spot-cases : (b : Bool) (n m x y : ℤ) → found.At n m ≡ cond b (found.At x y) found.Beyond → (b ≡ true) × (n ≡ x) × (m ≡ y)
+spot-cases true n m x y h = (refl, cc, cc)
+spot-cases false n m x y h = absurd (let z : _≡_ {A = ℕ} 0 1 = cc in omega arith)
+
+none-cases : (b : Bool) (x y : ℤ) → found.Beyond ≡ cond b (found.At x y) found.Beyond → b ≡ false
+none-cases true x y h = absurd (let z : _≡_ {A = ℕ} 0 1 = cc in omega arith)
+none-cases false x y h = refl
+
+pub spot-yes : (x y : Float) (n m : ℤ) → found.At n m ≡ spotOf x y → (printableOf x && printableOf y ≡ true) × (n ≡ wholeOf x) × (m ≡ wholeOf y)
+unfolding spotOf
+spot-yes x y n m h = spot-cases (printableOf x && printableOf y) n m (wholeOf x) (wholeOf y) h
+
+pub spot-no : (x y : Float) → found.Beyond ≡ spotOf x y → printableOf x && printableOf y ≡ false
+unfolding spotOf
+spot-no x y h = none-cases (printableOf x && printableOf y) (wholeOf x) (wholeOf y) h
+
+-- the coordinates as they were read
+pub spot-read : (s : Spot) (a b x y : Float) → s ≡ spotOf a b → a ≡ x → b ≡ y → s ≡ spotOf x y
+spot-read s a b x y h e f = h ∙ ap₂ spotOf e f
