@@ -90,8 +90,8 @@ module _ (points : List (Vertex Float)) (text₀ : List ℕ) (n : ℕ) where
 
 -- ---- the first three bytes, and the moves after them
 module _ (points : List (Vertex Float)) where
-  pub moves-fit : (text text' : List ℕ) → length text' ≡ length text → length (plotText points) ≤ length text → 3 + length (movesFrom points true 0) ≤ length text'
-  moves-fit text text' k h =
+  pub moves-fit : (room room' : ℕ) → room' ≡ room → length (plotText points) ≤ room → 3 + length (movesFrom points true 0) ≤ room'
+  moves-fit room room' k h =
       omega (arith, k, h, ap length (text-moves (map wholeVertex points)), length-append (bytes "IN;") (movesFrom points true 0))
 
   pub text-written : (b0 b1 b2 : List ℕ) (n : ℕ) → b1 ≡ sets b0 0 (bytes "IN;") → WrittenAs (movesFrom points true 0) b1 3 b2 n → WrittenAs (plotText points) b0 0 b2 n

@@ -4,4 +4,5 @@ pub mod Measure
 pub mod Writes
 pub mod Counting
 pub mod Filling
+pub mod Outcomes
 pub mod ReadBack
