@@ -11,7 +11,7 @@ use lib.Ieee.{Float, nan, inf, fin, up, down, le, lt, eq, neg, ofBits}
 use lib.Ieee.Fits.{down-pos}
 use lib.Ieee.Scale.{finite}
 use lib.Ieee.Positive.{num, den}
-use borrow.Author.Tests.{le-leb, lt-leb}
+use borrow.Author.Tests.{leb-true, lt-leb}
 use mir.Syntax.{w32}
 use mir.Val.{SFits, ofZ, toZ}
 use mir.Facts.{toZ-ofZ, toZ-pos}
@@ -90,6 +90,9 @@ unit-is x s n h k = ap₂ of-size h k ∙ of-both x
 small : (n : ℕ) → n ≤ 32768 → n < 2147483648
 small n h = omega arith
 
+less : (n : ℕ) → n ≤ 32767 → n ≤ 32768
+less n h = omega arith
+
 pub negated : (n : ℕ) → n ≤ 32768 → toZ w32 0 -ℤ toZ w32 n ≡ negℤ (pos n)
 negated n h = ap (λ (z : ℤ). pos 0 -ℤ z) (toZ-pos w32 (small n h)) ∙ +ℤ-idl (negℤ (pos n))
 
@@ -108,6 +111,9 @@ negative-is n h = toZ-ofZ (negated-fits n h) ∙ negated n h
 
 pub positive-is : (n : ℕ) → n ≤ 32767 → toZ w32 n ≡ signed false n
 positive-is n h = toZ-pos w32 (small n (less n h))
-  where
-    less : (n : ℕ) → n ≤ 32767 → n ≤ 32768
-    less n h = omega arith
+
+-- what is in range fits
+pub range-fits : (z : ℤ) → inRange z ≡ true → SFits w32 z
+unfolding inRange
+range-fits (pos n) h = record { sfits = small n (less n (leb-true n 32767 h)) }
+range-fits (negsuc n) h = record { sfits = small n (less n (leb-true n 32767 h)) }

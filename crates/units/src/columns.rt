@@ -10,7 +10,7 @@ ghost use Rattle.units.specs.Whole.{printableOf, wholeOf};
 ghost use Rattle.units.specs.Columns.{allPrintable, rounding, roundingOf};
 use crate::Unit;
 use crate::Wholes;
-use crate::nearest::whole;
+use crate::coordinate::whole;
 use answer::Answer;
 
 // Whether the first n entries round into the plotter's range.

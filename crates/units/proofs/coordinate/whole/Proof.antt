@@ -1,4 +1,4 @@
--- `units::nearest::whole` meets its contract. Assumes nothing.
+-- `units::coordinate::whole` meets its contract. Assumes nothing.
 use mathlib.Core.Path.{_≡_, sym, ap, _∙_}
 use mathlib.Core.Bool.{Bool, true, false}
 use borrow.Author.Needs.{needs}
@@ -6,8 +6,8 @@ use borrow.Author.Tests.{le-leb, lt-leb}
 use Rattle.units.specs.declared.Unit.the-variants.{Whole}
 use Rattle.units.specs.Whole.{unitOf}
 use Rattle.units.proofs.Units.{of-size, range-above, range-below, size-yes, size-no, unit-is, negated-fits, negative-is, positive-is}
-use Rattle.units.proofs.nearest.whole.Statement.{statement}
-use Rattle.units.proofs.nearest.whole.Tie as tie
+use Rattle.units.proofs.coordinate.whole.Statement.{statement}
+use Rattle.units.proofs.coordinate.whole.Tie as tie
 
 whole-near-requires : tie.Need-whole-near-requires
 whole-near-requires c κs = search needs
