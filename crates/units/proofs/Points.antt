@@ -1,19 +1,24 @@
--- Laws of the passes over a column: what is left of it gives what the whole gives. Assumes nothing.
+-- Laws of the passes over a column, where what is left of it gives what the whole gives; and of both columns. Assumes nothing.
 use mathlib.Core.Path.{_≡_, refl, sym, ap, ap₂, _∙_, subst}
-use mathlib.Core.Bool.{Bool, true, false, _&&_, cond}
+use mathlib.Core.Bool.{Bool, true, false, not, _&&_, _||_, cond}
+use mathlib.Core.Logic.{_⊎_, inl, inr}
 use mathlib.Core.List.{List, [], _∷_, map}
-use Prim.Native.Nat.{ℕ, zero, suc, _+_, _-_, _<_, _≤_}
+use Prim.Native.Nat.{ℕ, suc, _+_, _<_, _≤_, min}
+use native.Mathlib.Nat.{le-of-eq, le-of-lt, le-trans, min-eq-left, min-eq-right, min-le-left, min-le-right}
 use native.Mathlib.Omega.{arith}
 use lib.IntN.{ℤ}
+use lib.Dec.{leb, ltb}
+use borrow.Author.Tests.{ltb-true, ltb-false, leb-true, le-leb, lt-leb}
 use lib.ListN.{length, getD, set, take, drop, length-set}
 use lib.Seq.{length-take-le, drop-cons, drop-length, getD-take, sets}
 use lib.Ieee.{Float}
 use mir.Syntax.{w32}
 use mir.Val.{ofZ, toZ}
 use mir.Facts.{toZ-ofZ}
+use Rattle.answer.specs.declared.Answer.the-variants.{Done, NotPrintable, BufferShort}
 use Rattle.units.specs.declared.Unit.the-variants.{Whole, Beyond}
 use Rattle.units.specs.Whole.{wholeOf, printableOf, unitOf}
-use Rattle.units.specs.Columns.{allPrintable}
+use Rattle.units.specs.Columns.{allPrintable, rounding, wholes, roundingIn, roundingOf}
 use Rattle.units.proofs.Nearest.{whole-range}
 use Rattle.units.proofs.Units.{range-fits}
 
@@ -122,3 +127,64 @@ module _ (l : List Float) (n : ℕ) (to₀ to : List ℤ) (i : ℕ) (hn : n ≤ 
 
   pub put-end : n ≤ i → to ≡ sets to₀ 0 (map wholeOf (take n l))
   put-end h = sym (ap (λ (r : List Float). sets to i (map wholeOf r)) (rest-none l n hn i (g .below) h)) ∙ g .same
+
+-- ---- both columns: the tests that the code makes give `roundingOf`
+leb-not : (n a : ℕ) → leb n a ≡ not (ltb a n)
+leb-not n a = go (ltb a n) refl
+  where
+    go : (t : Bool) → ltb a n ≡ t → leb n a ≡ not t
+    go true h = lt-leb n a (ltb-true a n h)
+    go false h = le-leb n a (ltb-false a n h)
+
+either : (a b : Bool) → not (a || b) ≡ (not a && not b)
+either true b = refl
+either false b = refl
+
+-- whether there is room for n, as the code asks
+pub room : (a b n : ℕ) (t : Bool) → (ltb a n || ltb b n) ≡ t → not t ≡ (leb n a && leb n b)
+room a b n t h = ap not (sym h) ∙ either (ltb a n) (ltb b n) ∙ ap₂ (λ (p q : Bool). p && q) (sym (leb-not n a)) (sym (leb-not n b))
+
+pub room-for : (a b n : ℕ) → (ltb a n || ltb b n) ≡ false → (n ≤ a) × (n ≤ b)
+room-for a b n h =
+    let r = both (leb n a) (leb n b) (sym (room a b n false h)) in
+    (leb-true n a (r .0), leb-true n b (r .1))
+
+-- the shorter of two
+pub shorter : (a b n : ℕ) → ((b < a) × (n ≡ b)) ⊎ ((a ≤ b) × (n ≡ a)) → n ≡ min a b
+shorter a b n o = elim o [ inl z ↦ z .1 ∙ sym (min-eq-right (le-of-lt (z .0))) | inr z ↦ z .1 ∙ sym (min-eq-left (z .0)) ]
+
+module _ (xs ys : List Float) (x y : List ℤ) (n : ℕ) (e : n ≡ min (length xs) (length ys)) where
+  pub short-x : n ≤ length xs
+  short-x = le-trans (le-of-eq e) (min-le-left (length xs) (length ys))
+
+  pub short-y : n ≤ length ys
+  short-y = le-trans (le-of-eq e) (min-le-right (length xs) (length ys))
+
+  by-tests : (a b r : Bool) → a ≡ allPrintable (take n xs) → b ≡ allPrintable (take n ys) → r ≡ (leb n (length x) && leb n (length y))
+      → roundingIn (a && b) r (take n xs) (take n ys) x y ≡ roundingOf xs ys x y
+  unfolding roundingOf
+  by-tests a b r h k l =
+      ap₂ (λ (p q : Bool). roundingIn (p && q) r (take n xs) (take n ys) x y) h k
+      ∙ ap (λ (t : Bool). roundingIn (allPrintable (take n xs) && allPrintable (take n ys)) t (take n xs) (take n ys) x y) l
+      ∙ ap (λ (j : ℕ). roundingIn (allPrintable (take j xs) && allPrintable (take j ys)) (leb j (length x) && leb j (length y)) (take j xs) (take j ys) x y) e
+
+  pub refused-x : false ≡ allPrintable (take n xs) → rounding (wholes NotPrintable 0) x y ≡ roundingOf xs ys x y
+  unfolding roundingIn
+  refused-x h = by-tests false (allPrintable (take n ys)) (leb n (length x) && leb n (length y)) h refl refl
+
+  pub refused-y : true ≡ allPrintable (take n xs) → false ≡ allPrintable (take n ys) → rounding (wholes NotPrintable 0) x y ≡ roundingOf xs ys x y
+  unfolding roundingIn
+  refused-y h k = by-tests true false (leb n (length x) && leb n (length y)) h k refl
+
+  module _ (h : true ≡ allPrintable (take n xs)) (k : true ≡ allPrintable (take n ys)) where
+    pub too-short : (ltb (length x) n || ltb (length y) n) ≡ true → rounding (wholes BufferShort 0) x y ≡ roundingOf xs ys x y
+    unfolding roundingIn
+    too-short l = by-tests true true false h k (room (length x) (length y) n true l)
+
+    pub all-written : (ltb (length x) n || ltb (length y) n) ≡ false → (u v : List ℤ) → u ≡ sets x 0 (map wholeOf (take n xs)) → v ≡ sets y 0 (map wholeOf (take n ys))
+        → rounding (wholes Done n) u v ≡ roundingOf xs ys x y
+    unfolding roundingIn
+    all-written l u v i j =
+        ap₂ (λ (p q : List ℤ). rounding (wholes Done n) p q) i j
+        ∙ ap (λ (m : ℕ). rounding (wholes Done m) (sets x 0 (map wholeOf (take n xs))) (sets y 0 (map wholeOf (take n ys)))) (sym (length-take-le n xs short-x))
+        ∙ by-tests true true true h k (room (length x) (length y) n false l)
