@@ -2,8 +2,8 @@
 -- are printed. Over whole numbers first: x is ±N / D and a number ±b lies b * D from 0. Assumes nothing.
 use mathlib.Core.Path.{_≡_, refl, sym, ap, ap₂, _∙_, subst}
 use mathlib.Core.Logic.{_⊎_, inl, inr}
-use mathlib.Core.Bool.{Bool, true, false, Bool·beq, true≢false}
-use Prim.Native.Nat.{ℕ, zero, suc, _+_, _-_, _*_, _/_, _<_, _≤_}
+use mathlib.Core.Bool.{Bool, true, false, true≢false}
+use Prim.Native.Nat.{ℕ, zero, suc, _+_, _*_, _/_, _<_, _≤_}
 use native.Mathlib.Nat.{mul-one, one-mul, zero-mul, add-mul, mul-left-comm, mul-pos, zero-lt-suc, mul-le-mul-right, le-of-eq, le-trans, le-antisymm}
 use native.Mathlib.Nat.{eq-or-lt-of-le, lt-irrefl, div-mul-le-self, lt-div-mul-add}
 use native.Mathlib.Omega.{arith}
@@ -13,7 +13,6 @@ use borrow.Author.Tests.{ltb-true, ltb-false}
 use lib.Ieee.{Float, nan, inf, fin, up, down}
 use lib.Ieee.Fits.{down-pos}
 use lib.Ieee.Scale.{finite}
-use lib.Ieee.Positive.{den}
 use Rattle.rounding.specs.Nearest.{signed, farFrom}
 use Rattle.rounding.proofs.Signed.{gap, apart, apart-is, signed-times}
 use Rattle.leaves.specs.Small.{negativeOf}

@@ -181,8 +181,8 @@ module _ (xs ys : List Float) (x y : List ℤ) (n : ℕ) (e : n ≡ min (length 
     unfolding roundingIn
     too-short l = by-tests true true false h k (room (length x) (length y) n true l)
 
-    pub all-written : (ltb (length x) n || ltb (length y) n) ≡ false → (u v : List ℤ) → u ≡ sets x 0 (map wholeOf (take n xs)) → v ≡ sets y 0 (map wholeOf (take n ys))
-        → rounding (wholes Done n) u v ≡ roundingOf xs ys x y
+    pub all-written : (ltb (length x) n || ltb (length y) n) ≡ false → (u v : List ℤ) → u ≡ sets x 0 (map wholeOf (take n xs))
+        → v ≡ sets y 0 (map wholeOf (take n ys)) → rounding (wholes Done n) u v ≡ roundingOf xs ys x y
     unfolding roundingIn
     all-written l u v i j =
         ap₂ (λ (p q : List ℤ). rounding (wholes Done n) p q) i j

@@ -1,16 +1,14 @@
 -- Laws of one coordinate: what the code makes of its size and its sign is what `unitOf` says. Assumes nothing.
 use mathlib.Core.Path.{_≡_, refl, sym, ap, ap₂, _∙_, subst}
-use mathlib.Core.Bool.{Bool, true, false, _&&_, cond, true≢false}
+use mathlib.Core.Bool.{Bool, true, false, _&&_, cond}
 use Prim.Native.Nat.{ℕ, zero, suc, _+_, _*_, _/_, _<_, _≤_}
-use native.Mathlib.Nat.{mul-pos, zero-lt-suc, le-refl, lt-of-le-of-lt, lt-of-lt-of-le, le-div-iff-mul-le}
+use native.Mathlib.Nat.{mul-pos, zero-lt-suc, le-div-iff-mul-le}
 use native.Mathlib.Omega.{arith}
 use lib.IntN.{ℤ, pos, negsuc, negℤ, _-ℤ_, +ℤ-idl}
 use lib.Dec.{leb, leb·suc-suc, lit<}
 use lib.Signed.{mag}
 use lib.Ieee.{Float, nan, inf, fin, up, down, le, lt, eq, neg, ofBits}
 use lib.Ieee.Fits.{down-pos}
-use lib.Ieee.Scale.{finite}
-use lib.Ieee.Positive.{num, den}
 use borrow.Author.Tests.{leb-true, lt-leb}
 use mir.Syntax.{w32}
 use mir.Val.{SFits, ofZ, toZ}

@@ -1,5 +1,5 @@
 -- `units::columns::put_wholes` meets its contract. The loop's invariant: with what is left to write, the column becomes what it has to become. Assumes nothing.
-use mathlib.Core.Path.{_≡_, refl, sym, subst, _∙_}
+use mathlib.Core.Path.{refl, sym, subst, _∙_}
 use mathlib.Core.Logic.{inl, inr}
 use Prim.Native.Nat.{_+_, _-_}
 use native.Mathlib.Omega.{arith}
