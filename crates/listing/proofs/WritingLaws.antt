@@ -24,10 +24,12 @@ use Rattle.text.specs.Hex.{hexOf}
 use Rattle.text.specs.Decimal.{decimalIn, decimalOf}
 use Rattle.text.proofs.Hexes.{hex-digits-length}
 use Rattle.text.proofs.Decimals.{one-digit, decimal-short}
+use Rattle.text.specs.Written.{WrittenAs}
 use Rattle.text.proofs.Stores.{sets-append}
+use Rattle.text.proofs.Written.{written-then}
 use Rattle.listing.specs.declared.Listed.{Listed}
 use Rattle.listing.specs.declared.Listed.the-variants.{Bytes, Short}
-use Rattle.listing.specs.Writing.{WrittenAs, lineOf, pointLines, allPointLines, reportOf, refusalOf, headOf, columnPoints, Listing, listed, listedAs}
+use Rattle.listing.specs.Writing.{lineOf, pointLines, allPointLines, reportOf, refusalOf, headOf, columnPoints, Listing, listed, listedAs}
 
 -- ---- lengths
 pub line-length : (key value : List ℕ) → length (lineOf key value) ≡ length key + length value + 2
@@ -129,21 +131,6 @@ line-written b0 b1 b2 b3 b4 key value at d e e1 e2 e3 e4 =
 
 pub hex-seen : (b b' : List ℕ) (at n m : ℕ) → b ≡ sets b' at (hexOf n) → n ≡ m → b ≡ sets b' at (hexOf m)
 hex-seen b b' at n m h e = h ∙ ap (λ (k : ℕ). sets b' at (hexOf k)) e
-
--- ---- one text after another
-pub written-then : (s t b0 b1 b2 : List ℕ) (at n1 n2 : ℕ) → WrittenAs s b0 at b1 n1 → WrittenAs t b1 n1 b2 n2 → WrittenAs (s ++ t) b0 at b2 n2
-written-then s t b0 b1 b2 at n1 n2 w v =
-    record {
-      stored =
-          v .stored
-          ∙ ap (λ (b : List ℕ). sets b n1 t) (w .stored)
-          ∙ ap (λ (m : ℕ). sets (sets b0 at s) m t) (w .next)
-          ∙ sym (sets-append b0 at s t);
-      next = omega (arith, length-append s t);
-    }
-
-pub written-same : (s t b0 b1 : List ℕ) (at n : ℕ) → s ≡ t → WrittenAs s b0 at b1 n → WrittenAs t b0 at b1 n
-written-same s t b0 b1 at n e w = rw e at w
 
 -- ---- the points, one by one
 module _ (x y : List Float) (end : List ℕ) where

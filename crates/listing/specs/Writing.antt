@@ -1,7 +1,6 @@
 -- RULES, The program 9: "Output: answer, line, points, then x, y, end for each point; x and y in eight lowercase hex digits, the others in plain decimal, each line ended
 -- by 0x0A." Assumes nothing.
 use Prim.Native.Nat.{ℕ, zero, suc, _+_}
-use mathlib.Core.Path.{_≡_}
 use mathlib.Core.Bool.{cond}
 use mathlib.Core.List.{List, [], _∷_, _++_}
 use lib.Dec.{leb}
@@ -19,11 +18,6 @@ use Rattle.text.specs.Hex.{hexOf}
 use Rattle.text.specs.Decimal.{decimalOf}
 use Rattle.listing.specs.declared.Listed.{Listed}
 use Rattle.listing.specs.declared.Listed.the-variants.{Bytes, Short}
-
--- these bytes are written from a place on, and the number that is given back is the place after them
-pub record WrittenAs (text before : List ℕ) (at : ℕ) (after : List ℕ) (behind : ℕ) : Type 0 where
-  pub stored : after ≡ sets before at text
-  pub next : behind ≡ at + length text
 
 unfoldable pub lineOf : List ℕ → List ℕ → List ℕ
 lineOf key value = key ++ (bytes "=" ++ (value ++ bytes "\n"))

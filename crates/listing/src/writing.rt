@@ -11,7 +11,8 @@ ghost use Rattle.point.specs.Point.{pointAt};
 ghost use Rattle.evaluate.specs.Evaluate.{finished};
 ghost use Rattle.text.specs.Hex.{hexOf};
 ghost use Rattle.text.specs.Decimal.{decimalOf};
-ghost use Rattle.listing.specs.Writing.{lineOf, pointLines, allPointLines, reportOf, refusalOf, WrittenAs, headOf, columnPoints, listed, listedAs};
+ghost use Rattle.text.specs.Written.{WrittenAs};
+ghost use Rattle.listing.specs.Writing.{lineOf, pointLines, allPointLines, reportOf, refusalOf, headOf, columnPoints, listed, listedAs};
 use crate::Listed;
 use answer::Answer;
 

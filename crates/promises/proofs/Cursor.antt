@@ -20,7 +20,7 @@ use Rattle.primitives.specs.declared.QuadRow.{QuadRow}
 use Rattle.tables.proofs.RunningSums.{Sum, Reaches, grows-reaches, Up, lt-whole, below-up, up-below, up-two, up-limit}
 use Rattle.tables.proofs.Spans.{sumAt, Span}
 use Rattle.walk.specs.Walk.{Item, item, cursorAt, stepsFrom, cursorFrom}
-use Rattle.promises.proofs.Cutting.{All}
+use Rattle.facts.specs.Every.{All}
 
 -- p is at most x
 abbrev pub AtMost : ℕ → Float → Type 0

@@ -17,11 +17,13 @@ use Rattle.tables.specs.Commands.{primitivesOf, tablesOf}
 use Rattle.tables.proofs.Sound.{Sound, sound, splines-room}
 use Rattle.walk.specs.Walk.{Item, walkOf, wordOf, wordsOf}
 use Rattle.flatten.specs.Flatten.{Flattening, walked}
-use Rattle.promises.specs.Words.{isEnd, cutAfter, decoded, piecesIn}
+use Rattle.promises.specs.Words.{isEnd, decoded, piecesIn}
+use Rattle.contours.specs.Cutting.{cutAfter}
 use Rattle.promises.specs.Accepted.{Job, wordsIn, walkIn, pieceOf}
 use Rattle.promises.specs.Demand3.{Demand3a, NeverNan, PiecesAreSplines, Demand3b}
 use Rattle.promises.proofs.Flattened.{worldOf, itemsIn, finishedOf, passed, words-are}
-use Rattle.promises.proofs.Cutting.{All, cut-map}
+use Rattle.facts.specs.Every.{All}
+use Rattle.contours.proofs.Cutting.{cut-map}
 use Rattle.promises.proofs.Walking.{commandOf, endsItem, Packed, pieces-count, piece-at, piece-commands, walk-packed}
 
 -- ---- the tables of a job are sound, and its walk can be packed

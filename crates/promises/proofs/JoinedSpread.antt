@@ -14,7 +14,7 @@ use Rattle.tables.proofs.Spans.{sumAt, ownerAt, same-sum, same-owner}
 use Rattle.tables.proofs.Owners.{owned}
 use Rattle.flatten.specs.Flatten.{Flattening, Output, flattened, flattening}
 use Rattle.promises.specs.Demand3.{splineOfQuad, sumOfQuad, LastQuad, Between, Spread}
-use Rattle.promises.proofs.Cutting.{All}
+use Rattle.facts.specs.Every.{All}
 use Rattle.tables.proofs.Standing.{Stands, StandFrom}
 use Rattle.promises.specs.Nests.{total}
 use Rattle.promises.proofs.JoinedWalks.{counts-from}

@@ -29,7 +29,8 @@ use Rattle.evaluate.specs.declared.StepQuad.{StepQuad}
 use Rattle.evaluate.specs.Evaluate.{Finished, finished, previousSumOf, stepQuadOf, stepPointOf, commandPointOf, itemPointOf, pointsOf}
 use Rattle.evaluate.specs.Output.{Output, output, over, writeOutput}
 use Rattle.promises.specs.Words.{isStep}
-use Rattle.promises.proofs.Cutting.{All, all-append, all-map}
+use Rattle.facts.specs.Every.{All}
+use Rattle.facts.proofs.Every.{all-append, all-map}
 use Rattle.promises.proofs.Cursor.{cursor-under, steps-under}
 use Rattle.promises.proofs.Arrivals.{all-steps, none-left, ends, Early, starts-early, stays-early}
 use Rattle.promises.proofs.Steps.{Steps, spline-steps}

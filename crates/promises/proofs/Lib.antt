@@ -2,7 +2,6 @@ pub mod Examples
 pub mod Listings
 pub mod Drawings
 pub mod Flattened
-pub mod Cutting
 pub mod Walking
 pub mod Decoding
 pub mod Contours
@@ -40,3 +39,4 @@ pub mod JoinedSpread
 pub mod NestTables
 pub mod Nests
 pub mod NestAnswers
+pub mod Plots

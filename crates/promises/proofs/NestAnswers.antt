@@ -14,10 +14,11 @@ use Rattle.tables.specs.Run.{World}
 use Rattle.tables.proofs.Nested.{worldsFrom, AllDone, quadsIn, splinesIn, from-whole, from-alones}
 use Rattle.flatten.specs.Flatten.{Flattening}
 use Rattle.promises.specs.Accepted.{Job, Accepted}
-use Rattle.promises.specs.Nests.{Lent, lentTo, jobOf, alonesFrom, alonesOf, All, total, NoSmaller, AlonesAccepted, WholeAccepted, WholeTells, PiecesTell}
+use Rattle.promises.specs.Nests.{Lent, lentTo, jobOf, alonesFrom, alonesOf, total, NoSmaller, AlonesAccepted, WholeAccepted, WholeTells, PiecesTell}
+use Rattle.facts.specs.Every.{All}
 use Rattle.promises.proofs.Flattened.{worldOf, itemsIn, passed, accepts, drawable-unless}
 use Rattle.promises.proofs.Decoding.{capsOf}
-use Rattle.promises.proofs.Cutting.{all-map}
+use Rattle.facts.proofs.Every.{all-map}
 use Rattle.promises.proofs.JoinedWalks.{length-join}
 use Rattle.promises.proofs.NestTables.{tablesQ, tablesS, worldsOf, worlds-are, joins, Fits, fits-told, fits-holds}
 use Rattle.promises.proofs.Nests.{all-two, settings, all-done, totals, splines-are, quads-are, points-are, nests-join, spread-alike}

@@ -26,12 +26,13 @@ use Rattle.flatten.specs.Flatten.{Flattening, walked}
 use Rattle.promises.specs.Words.{decoded}
 use Rattle.promises.specs.Accepted.{Job, flatteningOf, Accepted, wordsIn, walkIn}
 use Rattle.promises.specs.Demand3.{Spread}
-use Rattle.promises.specs.Nests.{Lent, alonesFrom, alonesOf, All, total, xIn, yIn, endIn, numberedOn, wordsFrom, WordsJoined, Joined}
+use Rattle.promises.specs.Nests.{Lent, alonesFrom, alonesOf, total, xIn, yIn, endIn, numberedOn, wordsFrom, WordsJoined, Joined}
+use Rattle.facts.specs.Every.{All}
 use Rattle.promises.specs.Nests.{NestsTell, NestsJoin, SpreadAlike}
 use Rattle.promises.proofs.Flattened.{worldOf, itemsIn, passed, words-are}
 use Rattle.promises.proofs.Decoding.{capsOf, job-sound, demand3a}
 use Rattle.promises.proofs.Walking.{commandOf}
-use Rattle.promises.proofs.Cutting.{all-map}
+use Rattle.facts.proofs.Every.{all-map}
 use Rattle.promises.proofs.SplineQuads.{same-commands, packed, items-same}
 use Rattle.promises.proofs.JoinedWalks.{commandsFrom, pointsIn, counts, points-join, commands-join, length-join}
 use Rattle.promises.proofs.JoinedSpread.{left, spread-same, spread-join}

@@ -31,7 +31,8 @@ use Rattle.walk.specs.Walk.{Item, item, subdivisionsOf, stepSizeOf, startsOf, c
 use Rattle.walk.specs.Walk.{splineItemsOf, walkFrom, walkOf}
 use Rattle.evaluate.specs.declared.StepQuad.{StepQuad}
 use Rattle.evaluate.specs.Evaluate.{Finished, finished, previousSumOf, stepQuadOf, stepPointOf, commandPointOf, itemPointOf, pointsOf}
-use Rattle.promises.proofs.Cutting.{All, all-append, all-map}
+use Rattle.facts.specs.Every.{All}
+use Rattle.facts.proofs.Every.{all-append, all-map}
 use Rattle.promises.proofs.Cursor.{cursor-under, steps-under}
 use Rattle.promises.proofs.Arrivals.{all-steps, none-left, ends, starts-exact}
 use Rattle.promises.proofs.Flattened.{itemsIn}

@@ -24,12 +24,14 @@ use Rattle.tables.proofs.Sound.{Sound, cut-le}
 use Rattle.tables.proofs.Owners.{Home, home, home-owner}
 use Rattle.walk.specs.Walk.{Item, item, subdivisionsOf, stepSizeOf, startsOf, cursorStartOf, cursorAt, stepsFrom, cursorFrom, cursorAfter, splineItemsOf, walkOf}
 use Rattle.flatten.specs.Flatten.{Flattening, Output, flattened, flattening, walked}
-use Rattle.promises.specs.Words.{isStep, isEnd, cutAfter}
+use Rattle.promises.specs.Words.{isStep, isEnd}
+use Rattle.contours.specs.Cutting.{cutAfter}
 use Rattle.promises.specs.Accepted.{walkIn, stepsOf}
 use Rattle.promises.specs.Demand3.{StepOf, splineOfQuad, LastQuad, NotAfterLast, Demand3e, Spread, QuadHasStep, NoStray, Demand3f}
 use Rattle.promises.proofs.Flattened.{worldOf, finishedOf, passed}
 use Rattle.promises.proofs.Decoding.{capsOf, job-sound}
-use Rattle.promises.proofs.Cutting.{All, all-append, all-map, all-member}
+use Rattle.facts.specs.Every.{All}
+use Rattle.facts.proofs.Every.{all-append, all-map, all-member}
 use Rattle.promises.proofs.Walking.{Piece, piece-at}
 use Rattle.promises.proofs.Cursor.{Below, steps-under, Falls, first-falls, StepAt, step-at, steps-fall, cursor-ends, Reached, reached, falls-once}
 use Rattle.promises.proofs.Arrivals.{all-steps, none-left, Ends, ends, after-none, after-some, Early, starts-early, starts-exact, starts-exactly, stays-early}

@@ -28,9 +28,12 @@ use Rattle.tables.proofs.RunningSums.{no-steps, up-bounds, size-real}
 use Rattle.tables.proofs.Spans.{span-total}
 use Rattle.tables.proofs.Sound.{Sound}
 use Rattle.walk.specs.Walk.{Item, item, subdivisionsOf, stepSizeOf, startsOf, cursorStartOf, cursorAt, stepsFrom, cursorAfter, splineItemsOf, walkFrom}
-use Rattle.promises.specs.Words.{isEnd, cutAfter}
+use Rattle.promises.specs.Words.{isEnd}
+use Rattle.contours.specs.Cutting.{cutAfter}
 use Rattle.promises.specs.Accepted.{stepsOf, pieceOf}
-use Rattle.promises.proofs.Cutting.{All, all-append, cut-piece}
+use Rattle.facts.specs.Every.{All}
+use Rattle.facts.proofs.Every.{all-append}
+use Rattle.contours.proofs.Cutting.{cut-piece}
 
 abbrev pub commandOf : Item → PointCommand
 commandOf i = i .command

@@ -13,7 +13,8 @@ use Rattle.point.specs.declared.Setting.{Setting}
 use Rattle.tables.specs.Tables.{quadRowAt}
 use Rattle.walk.specs.Walk.{Item, startsOf, stepSizeOf}
 use Rattle.flatten.specs.Flatten.{Flattening}
-use Rattle.promises.specs.Words.{isStep, isEnd, cutAfter, decoded, piecesIn, isFlagged}
+use Rattle.promises.specs.Words.{isStep, isEnd, decoded, piecesIn, isFlagged}
+use Rattle.contours.specs.Cutting.{cutAfter}
 use Rattle.promises.specs.Accepted.{Job, flatteningOf, Accepted, wordsIn, walkIn, ContourLast, Within, stepsOf, pieceOf}
 
 -- 3a. "the packed words alone tell every Start, step size and End": decoded, they are the walk's commands

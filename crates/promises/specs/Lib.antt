@@ -15,3 +15,4 @@ pub mod ListingAnswers
 pub mod QuarterRound
 pub mod SplineQuads
 pub mod Nests
+pub mod Plots

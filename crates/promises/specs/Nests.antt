@@ -6,6 +6,7 @@ use mathlib.Core.Logic.{_≢_, _↔_}
 use mathlib.Core.List.{List, [], _∷_, _++_, map, flatMap}
 use lib.Ieee.{Float}
 use lib.ListN.{length, take}
+use Rattle.facts.specs.Every.{All}
 use Rattle.answer.specs.declared.Answer.the-variants.{Unusable}
 use Rattle.point.specs.declared.Setting.{Setting}
 use Rattle.point.specs.declared.Setting.the-variants.{Screen}
@@ -39,11 +40,6 @@ alonesFrom setting lent i (d ∷ ds) = jobOf setting (lent i) d ∷ alonesFrom s
 
 abbrev pub alonesOf : Job → (ℕ → Lent) → List Job
 alonesOf job lent = alonesFrom (job .setting) lent 0 (contoursOf (job .state) (job .columns))
-
--- P holds of each
-abbrev pub All : {A : Type 0} → (A → Type 0) → List A → Type 0
-All P [] = Unit {0}
-All P (a ∷ rest) = P a × All P rest
 
 unfoldable pub total : {A : Type 0} → (A → ℕ) → List A → ℕ
 total f [] = 0

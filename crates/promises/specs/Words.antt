@@ -5,6 +5,7 @@ use mathlib.Core.List.{List, [], _∷_, map}
 use Rattle.command.specs.declared.PointCommand.{PointCommand}
 use Rattle.command.specs.declared.PointCommand.the-variants.{Start, Incr, End}
 use Rattle.command.specs.Packing.{unpackOf}
+use Rattle.contours.specs.Cutting.{cutAfter}
 
 abbrev pub isStep : PointCommand → Bool
 isStep (Start i) = false
@@ -15,16 +16,6 @@ abbrev pub isEnd : PointCommand → Bool
 isEnd (Start i) = false
 isEnd (Incr size) = false
 isEnd (End i flag) = true
-
--- a list cut after each entry that passes the test; what comes after the last cut is a piece too
-abbrev pub behind {ℓ} : {A : Type ℓ} → Bool → A → List (List A) → List (List A)
-behind true a pieces = (a ∷ []) ∷ pieces
-behind false a [] = (a ∷ []) ∷ []
-behind false a (piece ∷ pieces) = (a ∷ piece) ∷ pieces
-
-unfoldable pub cutAfter {ℓ} : {A : Type ℓ} → (A → Bool) → List A → List (List A)
-cutAfter test [] = []
-cutAfter test (a ∷ rest) = behind (test a) a (cutAfter test rest)
 
 -- the commands of a word list
 abbrev pub decoded : List ℕ → List PointCommand

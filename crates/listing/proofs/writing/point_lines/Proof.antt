@@ -9,7 +9,8 @@ use Rattle.leaves.specs.Bits.{bitsOf}
 use Rattle.text.specs.Bytes.{bytes}
 use Rattle.text.specs.Decimal.{decimalOf}
 use Rattle.listing.specs.Writing.{lineOf, pointLines}
-use Rattle.listing.proofs.WritingLaws.{flag-length, hex-line-length, line-length, written-then, written-same}
+use Rattle.text.proofs.Written.{written-then, written-same}
+use Rattle.listing.proofs.WritingLaws.{flag-length, hex-line-length, line-length}
 use borrow.Author.Needs.{needs}
 use Rattle.listing.proofs.writing.point_lines.Statement.{statement}
 use Rattle.listing.proofs.writing.point_lines.Tie as tie

@@ -3,7 +3,8 @@ use native.Mathlib.Omega.{arith}
 use Rattle.text.specs.Bytes.{bytes}
 use Rattle.text.specs.Decimal.{decimalOf}
 use Rattle.listing.specs.Writing.{headOf}
-use Rattle.listing.proofs.WritingLaws.{head-length-is, line-length, written-then}
+use Rattle.listing.proofs.WritingLaws.{head-length-is, line-length}
+use Rattle.text.proofs.Written.{written-then}
 use borrow.Author.Needs.{needs}
 use Rattle.listing.proofs.writing.put_head.Statement.{statement}
 use Rattle.listing.proofs.writing.put_head.Tie as tie

@@ -11,7 +11,8 @@ use Rattle.columns.specs.Flags.{isFlagOf}
 use Rattle.point.specs.Point.{pointAt}
 use Rattle.evaluate.specs.Evaluate.{finished}
 use Rattle.listing.specs.Writing.{allPointLines, columnPoints}
-use Rattle.listing.proofs.WritingLaws.{point-length, written-same, row-lines, point-on, points-end}
+use Rattle.text.proofs.Written.{written-same}
+use Rattle.listing.proofs.WritingLaws.{point-length, row-lines, point-on, points-end}
 use Rattle.listing.proofs.writing.put_points.Statement.{statement}
 use Rattle.listing.proofs.writing.put_points.Tie as tie
 
