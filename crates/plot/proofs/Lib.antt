@@ -1,6 +1,7 @@
 pub mod Moves
 pub mod Spots
 pub mod Measure
+pub mod Room
 pub mod Writes
 pub mod Counting
 pub mod Filling

@@ -1,4 +1,4 @@
--- Decimal digits: one digit below ten, otherwise those of the tenth and the last one; at most twenty. Assumes nothing.
+-- Decimal digits: one digit below ten, otherwise those of the tenth and the last one; at most twenty, and at most k below 10 ^ k. Assumes nothing.
 use mathlib.Core.Path.{_≡_, refl, sym, ap, _∙_}
 use mathlib.Core.Bool.{Bool, true, false}
 use mathlib.Core.List.{List, [], _∷_, _++_}
@@ -63,3 +63,17 @@ short (suc k) n false =
 pub decimal-short : (n : ℕ) → (1 ≤ length (decimalOf n)) × (length (decimalOf n) ≤ 20)
 unfolding decimalOf
 decimal-short n = short 19 n (ltb n 10)
+
+-- below a power of ten, whatever is allowed
+within : (j k n : ℕ) (b : Bool) → ltb n 10 ≡ b → n < 10 ^ suc k → length (digits j n) ≤ suc k
+within zero k n b e h = omega (arith, short zero n (ltb n 10))
+within (suc j) zero n b e h = let t : n < 10 = h in let one : length (digits (suc j) n) ≡ 1 = ap length (few (suc j) n t) in omega arith
+within (suc j) (suc k) n true e h = let one : length (digits (suc j) n) ≡ 1 = ap length (few (suc j) n (ltb-true n 10 e)) in omega arith
+within (suc j) (suc k) n false e h =
+    let last : length (digits (suc j) n) ≡ length (digits j (n / 10)) + 1 =
+        ap length (more j n (ltb-false n 10 e)) ∙ length-last (digits j (n / 10)) (0x30 + n % 10) in
+    omega (arith, within j k (n / 10) (ltb (n / 10) 10) refl (tenth k n h))
+
+pub decimal-within : (k n : ℕ) → n < 10 ^ suc k → length (decimalOf n) ≤ suc k
+unfolding decimalOf
+decimal-within k n h = within 19 k n (ltb n 10) refl h

@@ -9,7 +9,7 @@ use native.Mathlib.Omega.{arith}
 use borrow.Author.Tests.{eqb-true, eq-eqb}
 use lib.Dec.{eqb}
 use lib.ListN.{length, take, drop, getD, length-take, length-drop, take-append-drop, drop-of-length-le}
-use lib.Seq.{drop-cons, drop-drop, take-append-seam, drop-append-seam}
+use lib.Seq.{take-length, drop-cons, drop-drop, take-append-seam, drop-append-seam}
 use Rattle.text.specs.Bytes.{sameBytes, partAt, standsAt}
 
 -- ---- laws over the bytes from a place on
@@ -21,7 +21,7 @@ unfolding sameBytes
 begins-cons [] b ys = refl
 begins-cons (a ∷ rest) b ys = rw (and-true (eqb a b))
 
-same-length : (xs ys : List ℕ) → sameBytes xs ys ≡ true → length xs ≡ length ys
+pub same-length : (xs ys : List ℕ) → sameBytes xs ys ≡ true → length xs ≡ length ys
 unfolding sameBytes
 same-length [] [] h = refl
 same-length [] (b ∷ ys) h = absurd (let z : _≡_ {A = ℕ} 0 1 = cc in omega arith)
@@ -62,6 +62,11 @@ unfolding standsAt partAt
 stands-inside text at fixed some h =
     let e : length (take (length fixed) (drop at text)) ≡ length fixed = same-length (take (length fixed) (drop at text)) fixed h in
     omega (arith, simp (length-take, length-drop) at e)
+
+-- a fixed string that is as long as the text is all of it
+pub stands-whole : (text fixed : List ℕ) → length text ≡ length fixed → standsAt text 0 fixed ≡ sameBytes text fixed
+unfolding standsAt partAt
+stands-whole text fixed h = ap (λ (l : List ℕ). sameBytes l fixed) (ap (λ (n : ℕ). take n text) (sym h) ∙ take-length text)
 
 -- ---- the text has a fixed string at a place if the text from there on begins with it
 same-bytes : (xs ys : List ℕ) → sameBytes xs ys ≡ true → xs ≡ ys
