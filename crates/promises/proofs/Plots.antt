@@ -3,24 +3,30 @@ use Prim.Native.Nat.{ℕ, zero, suc, _+_, _*_, _^_, _≤_, _<_}
 use mathlib.Core.Path.{_≡_, refl, sym, ap, ap₂, _∙_, subst}
 use mathlib.Core.Logic.{_⊎_, inl, inr, _≢_, _↔_}
 use mathlib.Core.Bool.{Bool, true, false, _&&_, true≢false}
-use mathlib.Core.List.{List, [], _∷_, _++_, map}
+use mathlib.Core.List.{List, [], _∷_, _++_, map, flatMap}
+use native.Mathlib.Nat.{zero-add}
 use native.Mathlib.Omega.{arith}
 use borrow.Author.Tests.{leb-true, leb-false, le-leb, lt-leb}
 use lib.IntN.{ℤ, pos, negsuc}
 use lib.Signed.{mag}
 use lib.Dec.{leb}
-use lib.Ieee.{Float, nan, inf, fin}
+use lib.Ieee.{Float, nan, inf, fin, ofBits}
 use lib.ListN.{length, take}
 use lib.Seq.{sets}
 use Rattle.facts.specs.Every.{All}
-use Rattle.leaves.specs.Small.{isInf}
+use Rattle.columns.specs.Flags.{isFlagOf}
+use Rattle.leaves.specs.Small.{isInf, negativeOf}
 use Rattle.answer.specs.declared.Answer.{Answer}
 use Rattle.answer.specs.Number.{numberOf}
 use Rattle.answer.specs.declared.Answer.the-variants.{Done, NotPrintable, BufferShort}
+use Rattle.store.proofs.Written.{take-sets}
 use Rattle.contours.specs.Cutting.{behind, cutAfter}
-use Rattle.contours.specs.Finished.{Position, position, Vertex}
+use Rattle.text.specs.Decimal.{decimalIn, decimalOf}
+use Rattle.text.specs.Signed.{signedOf}
+use Rattle.contours.specs.Finished.{Position, Vertex, finishedOf}
 use Rattle.contours.specs.Contours.{contoursOf}
 use Rattle.units.specs.Whole.{wholeOf, inRange, printableOf}
+use Rattle.plot.specs.Text.{moveOf, contourText, textOf}
 use Rattle.plot.specs.Plot.{allPrintable, wholeVertex, wholeContours, plotText, Plot, plotIn, plotOf}
 use Rattle.units.proofs.Nearest.{whole-range}
 use Rattle.plot.proofs.Room.{text-most}
@@ -130,8 +136,9 @@ unfolding plotOf
 plots-answer points buffer = answers points buffer (allPrintable points) (fitting points buffer) refl refl
 
 -- ---- what was written
-take-stored : (i : ℕ) (s : List ℕ) (b : List ℕ) → length s ≤ length b → take (length s) (sets b 0 s) ≡ s
-take-stored i s b h = ?
+take-stored : (s b : List ℕ) → length s ≤ length b → take (length s) (sets b 0 s) ≡ s
+take-stored s b h =
+    ap (λ (n : ℕ). take n (sets b 0 s)) (sym (zero-add (length s))) ∙ take-sets s b 0 (let l : 0 + length s ≤ length b = omega (arith, h) in l)
 
 module _ (points : List (Vertex Float)) (buffer : List ℕ) where
   written : (a f : Bool) → allPrintable points ≡ a → fitting points buffer ≡ f → plotIn a f (plotText points) buffer .result .answer ≡ Done
@@ -139,7 +146,7 @@ module _ (points : List (Vertex Float)) (buffer : List ℕ) where
   unfolding plotIn
   written false f e k h = absurd (let z : 12 ≡ 0 = differ NotPrintable Done h in omega arith)
   written true false e k h = absurd (let z : 13 ≡ 0 = differ BufferShort Done h in omega arith)
-  written true true e k h = (e, take-stored 0 (plotText points) buffer (leb-true (length (plotText points)) (length buffer) k))
+  written true true e k h = (e, take-stored (plotText points) buffer (leb-true (length (plotText points)) (length buffer) k))
 
   done-so : plotOf points buffer .result .answer ≡ Done → (allPrintable points ≡ true) × (writtenIn (plotOf points buffer) ≡ plotText points)
   unfolding plotOf
@@ -196,14 +203,14 @@ pub plot-blanks : PlotBlanks
 plot-blanks points buffer h = ap (blanksRight 0 0) (done-so points buffer h .1) ∙ text-blanks (wholeContours points)
 
 pub plot-room : PlotRoom
-unfolding plotOf
+unfolding plotOf plotIn
 plot-room points buffer room = go (allPrintable points) (fitting points buffer) refl refl
   where
     go : (a f : Bool) → allPrintable points ≡ a → fitting points buffer ≡ f → plotIn a f (plotText points) buffer .result .answer ≢ BufferShort
-    unfolding plotIn
-    go false f e k h = let z : 12 ≡ 13 = differ NotPrintable BufferShort h in omega arith
-    go true true e k h = let z : 0 ≡ 13 = differ Done BufferShort h in omega arith
+    go false f e k h = let z : _≡_ {A = ℕ} 12 13 = differ NotPrintable BufferShort h in omega arith
+    go true true e k h = let z : _≡_ {A = ℕ} 0 13 = differ Done BufferShort h in omega arith
     go true false e k h = omega (arith, leb-false (length (plotText points)) (length buffer) k, text-most points e, room)
 
 pub plot-examples : PlotExamples
-plot-examples = ?
+unfolding ofBits wholeOf negativeOf finishedOf isFlagOf wholeVertex contoursOf cutAfter textOf contourText moveOf flatMap signedOf decimalOf decimalIn
+plot-examples = record { two-contours = refl; no-points = refl; below-half = refl; ends = refl }
