@@ -63,8 +63,9 @@ fn put_moves(x: &[f32], y: &[f32], end: &[u8], text: &mut [u8]) -> usize
             // This never happens: all points were tested.
             Spot::Beyond => return at,
             Spot::At(px, py) => {
+                let flag = is_flag(read_u8(end, i));
                 at = put_move(text, at, up, px, py);
-                up = is_flag(read_u8(end, i));
+                up = flag;
                 i += 1;
             }
         }

@@ -7,6 +7,7 @@ use mathlib.Core.Path.{_≡_}
 use mathlib.Core.Logic.{_⊎_}
 use mathlib.Core.Bool.{Bool}
 use mathlib.Core.List.{List, _++_}
+use lib.IntN.{ℤ}
 use lib.Ieee.{Float}
 use lib.ListN.{length, drop}
 use Rattle.answer.specs.declared.Answer.{Answer}
@@ -30,7 +31,11 @@ use Rattle.listing.specs.Reading.{pairFields, twoPointsFields, threePointsField
 use Rattle.listing.specs.Writing.{listed, listedAs}
 use Rattle.listing.specs.Program.{listingOf}
 use Rattle.listing.specs.Told.{telling}
-use Rattle.abi.specs.Reply.{reply, flatReply}
+use Rattle.abi.specs.Reply.{reply, flatReply, plotReply, wholeReply}
+use Rattle.units.specs.declared.Wholes.{Wholes}
+use Rattle.units.specs.Columns.{rounding}
+use Rattle.plot.specs.declared.Plotted.{Plotted}
+use Rattle.plot.specs.Plot.{plot}
 
 -- a form puts the parts of an outcome together, and a contract of that form says `form parts ≡ d`
 abbrev pub Settles : {A D : Type 0} → (A → D) → Type 0
@@ -80,6 +85,19 @@ ReplySettled = Settles (λ (o : ℕ × ℕ × ℕ × ℕ × Columns). reply (o .
 
 abbrev pub FlatReplySettled : Type 0
 FlatReplySettled = Settles (λ (f : ℕ × ℕ × ℕ × ℕ × QuadTable × SplineTable × Output). flatReply (f .0) (f .1) (f .2) (f .3) (f .4) (f .5) (f .6))
+
+abbrev pub PlotReplySettled : Type 0
+PlotReplySettled = Settles (λ (p : ℕ × ℕ × List ℕ). plotReply (p .0) (p .1) (p .2))
+
+abbrev pub WholeReplySettled : Type 0
+WholeReplySettled = Settles (λ (w : ℕ × ℕ × List ℤ × List ℤ). wholeReply (w .0) (w .1) (w .2) (w .3))
+
+-- ---- finished points: in whole units, and as a plot
+abbrev pub RoundingSettled : Type 0
+RoundingSettled = Settles (λ (w : Wholes × List ℤ × List ℤ). rounding (w .0) (w .1) (w .2))
+
+abbrev pub PlotSettled : Type 0
+PlotSettled = Settles (λ (p : Plotted × List ℕ). plot (p .0) (p .1))
 
 -- ---- the program's front half: the result, and words and points
 abbrev pub TellingSettled : Type 0

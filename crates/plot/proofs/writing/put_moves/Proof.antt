@@ -100,17 +100,17 @@ returns c =
 enum-known-px : tie.Need-enum-known-px Inv-loop μ-loop
 enum-known-px c = search needs
 
-put-move-requires : tie.Need-put-move-requires Inv-loop μ-loop
-put-move-requires c κs =
-    let k = c .before in
-    let w = k .before .before .before in
-    omega (arith, ap length (move-same k), filled-room _ _ _ _ _ _ _ (at-loop w .loop .inv) (vertexAt w) (here w) (at-start w .pre .1))
-
 read-u8-requires : tie.Need-read-u8-requires Inv-loop μ-loop
 read-u8-requires c κs = search needs
 
 is-flag-requires : tie.Need-is-flag-requires Inv-loop μ-loop
 is-flag-requires c κs = search needs
+
+put-move-requires : tie.Need-put-move-requires Inv-loop μ-loop
+put-move-requires c κs =
+    let k = c .before .before .before in
+    let w = k .before .before .before in
+    omega (arith, ap length (move-same k), filled-room _ _ _ _ _ _ _ (at-loop w .loop .inv) (vertexAt w) (here w) (at-start w .pre .1))
 
 add-i : tie.Need-add-i Inv-loop μ-loop
 add-i c = omega (arith, c .before .before .before .before .before .before .before .before .before .before .before .before .loop-test .taken)
@@ -120,10 +120,11 @@ loop-less c = omega (arith, c .before .before .before .before .before .before .b
 
 loop-again : tie.Need-loop-again Inv-loop μ-loop
 loop-again c =
-    let m = c .before .before .before .before in
-    let k = m .before .before in
+    let m = c .before .before in
+    let flag = m .before .before in
+    let k = flag .before .before in
     let w = k .before .before .before in
-    filled-on _ _ _ _ _ _ _ (at-loop w .loop .inv) (vertexAt w) (here w) _ _ _ (c .is-flag .ensures ∙ ap isFlagOf (c .before .read-u8 .ensures))
+    filled-on _ _ _ _ _ _ _ (at-loop w .loop .inv) (vertexAt w) (here w) _ _ _ (flag .is-flag .ensures ∙ ap isFlagOf (flag .before .read-u8 .ensures))
     (w .before .before .before .loop-test .taken) (m .put-move .kept .0) (written-same _ _ _ _ _ _ (move-same k) (m .put-move .ensures))
 
 same-length-2 : tie.Need-same-length-2 Inv-loop μ-loop
@@ -147,9 +148,9 @@ put-moves-spec =
     same-length
     returns
     enum-known-px
-    put-move-requires
     read-u8-requires
     is-flag-requires
+    put-move-requires
     add-i
     loop-less
     loop-again
