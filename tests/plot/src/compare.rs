@@ -89,7 +89,7 @@ impl Seen {
     /// Whole units in columns of these lengths.
     pub fn whole(&mut self, writer: &dyn Writer, x: &[f32], y: &[f32], rooms: (usize, usize)) -> Result<u32, String> {
         let (answer, points) = second::whole(x, y, rooms.0.min(rooms.1));
-        let lent = |room: usize, salt: i32| -> Vec<i32> { (0..room + 2 * AROUND).map(|i| 0x5a5a_0000 + i as i32 ^ salt).collect() };
+        let lent = |room: usize, salt: i32| -> Vec<i32> { (0..room + 2 * AROUND).map(|i| (0x5a5a_0000 + i as i32) ^ salt).collect() };
         let (mut ours_x, mut ours_y) = (lent(rooms.0, 0), lent(rooms.1, -1));
         let (mut theirs_x, mut theirs_y) = (ours_x.clone(), ours_y.clone());
         let got = writer.whole(x, y, &mut ours_x[AROUND..AROUND + rooms.0], &mut ours_y[AROUND..AROUND + rooms.1]);
@@ -98,7 +98,8 @@ impl Seen {
             theirs_y[AROUND + i] = *b;
         }
         let list = || Points { x: x.to_vec(), y: y.to_vec(), end: vec![] };
-        let told = |what: String| format!("{what}\n  for {} in columns of {} and {}, expected {answer} and {} points", list().told(), rooms.0, rooms.1, points.len());
+        let told =
+            |what: String| format!("{what}\n  for {} in columns of {} and {}, expected {answer} and {} points", list().told(), rooms.0, rooms.1, points.len());
         if got != (answer, points.len()) {
             return Err(told(format!("whole: the answer is {} and {} points are written", got.0, got.1)));
         }

@@ -19,30 +19,48 @@ fn tiny(bits: u32) -> f32 {
 }
 
 /// Name, points and text.
-fn texts() -> Vec<(&'static str, Vec<(f32, f32, u8)>, &'static str)> {
+type Case = (&'static str, Vec<(f32, f32, u8)>, &'static str);
+
+fn texts() -> Vec<Case> {
     vec![
         ("the request's example", vec![(0.5, -2.5, 0), (-0.4, 0.0, 1), (7.0, 7.0, 0)], "IN;PU 1,-3;PD 0,0;PU 7,7;"),
         ("no points", vec![], "IN;"),
         ("halves", vec![(0.5, -0.5, 0), (1.5, -1.5, 0), (2.5, -2.5, 0), (32766.5, -32767.5, 0)], "IN;PU 1,-1;PD 2,-2;PD 3,-3;PD 32767,-32768;"),
         ("beside a half", vec![(tiny(0x3eff_ffff), tiny(0xbeff_ffff), 0), (tiny(0x3f00_0001), tiny(0xbf00_0001), 0)], "IN;PU 0,0;PD 1,-1;"),
         ("beside larger halves", vec![(below(1.5), above(-1.5), 0), (below(1000.5), above(1000.5), 0)], "IN;PU 1,-1;PD 1000,1001;"),
-        ("zero has no sign", vec![(0.0, -0.0, 0), (0.4, -0.4, 0), (0.1, -0.1, 1), (-0.0, 0.0, 0), (-0.49999, -0.3, 0)], "IN;PU 0,0;PD 0,0;PD 0,0;PU 0,0;PD 0,0;"),
-        ("subnormals", vec![(tiny(1), tiny(0x8000_0001), 0), (tiny(0x007f_ffff), tiny(0x807f_ffff), 0), (f32::MIN_POSITIVE, -f32::MIN_POSITIVE, 0)], "IN;PU 0,0;PD 0,0;PD 0,0;"),
+        (
+            "zero has no sign",
+            vec![(0.0, -0.0, 0), (0.4, -0.4, 0), (0.1, -0.1, 1), (-0.0, 0.0, 0), (-0.49999, -0.3, 0)],
+            "IN;PU 0,0;PD 0,0;PD 0,0;PU 0,0;PD 0,0;",
+        ),
+        (
+            "subnormals",
+            vec![(tiny(1), tiny(0x8000_0001), 0), (tiny(0x007f_ffff), tiny(0x807f_ffff), 0), (f32::MIN_POSITIVE, -f32::MIN_POSITIVE, 0)],
+            "IN;PU 0,0;PD 0,0;PD 0,0;",
+        ),
         ("the ends of the range", vec![(32767.0, -32768.0, 0), (below(32767.5), above(-32768.5), 0)], "IN;PU 32767,-32768;PD 32767,-32768;"),
         ("no flag", vec![(1.0, 2.0, 0), (3.0, 4.0, 0), (5.0, 6.0, 0)], "IN;PU 1,2;PD 3,4;PD 5,6;"),
-        ("any byte but 0 is a flag", vec![(1.0, 1.0, 1), (2.0, 2.0, 2), (3.0, 3.0, 255), (4.0, 4.0, 128), (5.0, 5.0, 0), (6.0, 6.0, 16)], "IN;PU 1,1;PU 2,2;PU 3,3;PU 4,4;PU 5,5;PD 6,6;"),
+        (
+            "any byte but 0 is a flag",
+            vec![(1.0, 1.0, 1), (2.0, 2.0, 2), (3.0, 3.0, 255), (4.0, 4.0, 128), (5.0, 5.0, 0), (6.0, 6.0, 16)],
+            "IN;PU 1,1;PU 2,2;PU 3,3;PU 4,4;PU 5,5;PD 6,6;",
+        ),
         ("a contour of one point, alone", vec![(9.0, 9.0, 0)], "IN;PU 9,9;"),
         ("a contour of one point, flagged", vec![(9.0, 9.0, 1)], "IN;PU 9,9;"),
         ("the last point flagged", vec![(1.0, 2.0, 0), (3.0, 4.0, 1)], "IN;PU 1,2;PD 3,4;"),
         ("points are not merged", vec![(1.0, 1.0, 0), (1.0, 1.0, 0), (1.2, 0.8, 1), (1.0, 1.0, 0)], "IN;PU 1,1;PD 1,1;PD 1,1;PU 1,1;"),
-        ("digits", vec![(9.0, 10.0, 0), (99.0, 100.0, 0), (999.0, 1000.0, 0), (9999.0, 10000.0, 0), (-9.6, -99.5, 0), (-20000.0, 30303.0, 0)], "IN;PU 9,10;PD 99,100;PD 999,1000;PD 9999,10000;PD -10,-100;PD -20000,30303;"),
+        (
+            "digits",
+            vec![(9.0, 10.0, 0), (99.0, 100.0, 0), (999.0, 1000.0, 0), (9999.0, 10000.0, 0), (-9.6, -99.5, 0), (-20000.0, 30303.0, 0)],
+            "IN;PU 9,10;PD 99,100;PD 999,1000;PD 9999,10000;PD -10,-100;PD -20000,30303;",
+        ),
     ]
 }
 
 /// Each is refused with 12, in x and in y, and whichever point it is of.
 pub fn unprintable() -> Vec<f32> {
     let mut all = vec![32767.5, -32768.5, above(32767.5), below(-32768.5), 32768.0, -32769.0, 40000.0, -40000.0, 65536.0, -65536.0];
-    all.extend([2147483648.0, -2147483648.0, 4294967296.0, 9.2233720e18, -9.2233720e18, 1e30, -1e30, f32::MAX, f32::MIN, f32::INFINITY, f32::NEG_INFINITY]);
+    all.extend([2147483648.0, -2147483648.0, 4294967296.0, 9.223372e18, -9.223372e18, 1e30, -1e30, f32::MAX, f32::MIN, f32::INFINITY, f32::NEG_INFINITY]);
     all.extend([0x7fc0_0000, 0xffc0_0000, 0x7f80_0001, 0x7fff_ffff, 0xff80_0001, 0x7fc1_2345].map(f32::from_bits));
     all
 }
@@ -89,7 +107,8 @@ pub fn unequal(writer: &dyn Writer, seen: &mut Seen) -> Result<u64, String> {
         let n = *lengths.iter().min().unwrap();
         for past in [f32::NAN, f32::INFINITY, 40000.0, 3.0] {
             let column = |len: usize, v: f32| -> Vec<f32> { (0..len).map(|i| if i < n { v + i as f32 } else { past }).collect() };
-            let points = Points { x: column(lengths[0], 10.0), y: column(lengths[1], -20.0), end: (0..lengths[2]).map(|i| if i < n { 0 } else { 1 }).collect() };
+            let points =
+                Points { x: column(lengths[0], 10.0), y: column(lengths[1], -20.0), end: (0..lengths[2]).map(|i| if i < n { 0 } else { 1 }).collect() };
             let text = second::text(&points).ok_or("the second implementation looks past the shortest column")?;
             if text.matches('P').count() != n {
                 return Err("the second implementation prints other points than the shortest column has".to_string());

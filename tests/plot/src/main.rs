@@ -167,25 +167,30 @@ fn every() -> Result<usize, String> {
     Ok(1)
 }
 
-/// NAME.hpgl and NAME-100.hpgl for each example, the second a hundred times as large, or as large as the plotter allows.
+/// The text of a drawing in the knife setting, and a line of its bits for each point; none if it is too large to be drawn or plotted.
+fn plotted(calls: &[Call]) -> Option<(Vec<u8>, String)> {
+    let points = flattened(calls, Setting::Knife).ok()?.points;
+    let mut text = vec![0; kermezhul::plot_room(points.len())];
+    let (answer, written) = Library.plot(&points, &mut text);
+    text.truncate(written);
+    let rows = (0..points.len()).map(|i| format!("{:08x} {:08x} {}\n", points.x[i].to_bits(), points.y[i].to_bits(), points.end[i]));
+    (answer == 0).then(|| (text, rows.collect()))
+}
+
+/// NAME.hpgl for each example, and NAME-1000.hpgl, so many times as large, or -100 or -90 where that is too large; beside each its points, in a file .points.
 fn texts(folder: &Path) -> Result<usize, String> {
     let mut written = 0;
-    for (times, suffix) in [(1.0, ""), (100.0, "-100"), (90.0, "-90")] {
-        for (name, calls) in examples(times)? {
-            let points = flattened(&calls, Setting::Knife)?.points;
-            let mut text = vec![0; kermezhul::plot_room(points.len())];
-            let (answer, length) = Library.plot(&points, &mut text);
-            match answer {
-                0 => {}
-                12 => continue,
-                _ => return Err(format!("{name} is refused with {answer}")),
+    for (i, (name, _)) in examples(1.0)?.into_iter().enumerate() {
+        let put = |name: &str, (text, rows): (Vec<u8>, String)| {
+            fs::write(folder.join(format!("{name}.hpgl")), text).and(fs::write(folder.join(format!("{name}.points")), rows)).map_err(|e| e.to_string())
+        };
+        put(&name, plotted(&examples(1.0)?[i].1).ok_or(format!("{name} is refused"))?)?;
+        for times in [1000.0, 100.0, 90.0] {
+            if let Some(found) = plotted(&examples(times)?[i].1) {
+                put(&format!("{name}-{times}"), found)?;
+                written += 2;
+                break;
             }
-            // the smaller one only where the larger is refused
-            if times == 90.0 && fs::exists(folder.join(format!("{name}-100.hpgl"))).unwrap_or(false) {
-                continue;
-            }
-            fs::write(folder.join(format!("{name}{suffix}.hpgl")), &text[..length]).map_err(|e| e.to_string())?;
-            written += 1;
         }
     }
     Ok(written)

@@ -21,7 +21,15 @@ impl Points {
     /// A list as a failure names it: floats by their bits, since -0 and the neighbours of a half matter.
     pub fn told(&self) -> String {
         let bits = |v: &[f32]| v.iter().take(6).map(|v| format!("{v}={:08x}", v.to_bits())).collect::<Vec<_>>().join(" ");
-        format!("x ({}) {}, y ({}) {}, end ({}) {:?}", self.x.len(), bits(&self.x), self.y.len(), bits(&self.y), self.end.len(), &self.end[..self.end.len().min(6)])
+        format!(
+            "x ({}) {}, y ({}) {}, end ({}) {:?}",
+            self.x.len(),
+            bits(&self.x),
+            self.y.len(),
+            bits(&self.y),
+            self.end.len(),
+            &self.end[..self.end.len().min(6)]
+        )
     }
 }
 
