@@ -108,7 +108,7 @@ uint32_t kermezhul_flatten(
  *     x 0.5, -0.4, 7    y -2.5, 0, 7    end 0, 1, 0    gives    IN;PU 1,-3;PD 0,0;PU 7,7;
  *
  * Answers 0, 12 (a coordinate), then 13 (`text` is shorter than the text of all points). On every answer `written` is set, to how many bytes were written: all of
- * the text on 0, none on a refusal. Bytes past it stay as they were. `text` and `written` must not overlap each other or any column that is read.
+ * the text on 0, none on a refusal. Bytes past it stay as they were. `text` and `written` may overlap nothing else that is lent.
  * KERMEZHUL_PLOT_ROOM bytes are enough for any points that can be plotted. */
 #define KERMEZHUL_PLOT_ROOM(POINTS) (3 + 17 * (size_t)(POINTS))
 uint32_t kermezhul_plot(
@@ -117,7 +117,7 @@ uint32_t kermezhul_plot(
 /* The points in whole plotter units, the numbers that `kermezhul_plot` prints. There are as many as the shorter of x and y has entries.
  *
  * Answers 0, 12 as above, then 13 (whole_x or whole_y is shorter than that). On every answer `points` is set, to how many were written: all on 0, none on a
- * refusal. Entries past it stay as they were. whole_x, whole_y and `points` must not overlap each other or any column that is read. */
+ * refusal. Entries past it stay as they were. whole_x, whole_y and `points` may overlap nothing else that is lent. */
 uint32_t kermezhul_whole(
     const float *x, size_t x_len, const float *y, size_t y_len, int32_t *whole_x, size_t whole_x_len, int32_t *whole_y, size_t whole_y_len, size_t *points);
 

@@ -371,6 +371,14 @@ pub const fn plot_room(points: usize) -> usize {
 ///
 /// Answers 0, 12 (a coordinate of any point is NaN or infinite, or rounds outside -32,768..32,767), then 13 (`text` is shorter than the text of all points).
 /// Bytes past what was written never change.
+///
+/// ```no_run
+/// use kermezhul::{plot, plot_room, Finished};
+///
+/// let mut text = [0; plot_room(3)];
+/// let p = plot(Finished { x: &[0.5, -0.4, 7.0], y: &[-2.5, 0.0, 7.0], end: &[0, 1, 0] }, &mut text);
+/// assert_eq!(&text[..p.written], b"IN;PU 1,-3;PD 0,0;PU 7,7;");
+/// ```
 pub fn plot(points: Finished, text: &mut [u8]) -> Plotted {
     let mut p = Plotted::default();
     // SAFETY: the pointers and lengths are those of slices; `text` overlaps nothing, since it is borrowed mutably
