@@ -11,7 +11,13 @@ use Rattle.tables.specs.Tables.{QuadTable, SplineTable}
 use Rattle.evaluate.specs.Output.{Output}
 use Rattle.flatten.specs.declared.Flattened.{Flattened}
 use Rattle.flatten.specs.Flatten.{Flattening, flattening, flattenOf}
-use Rattle.abi.specs.Reply.{reply, replyOf, flatReply, flatReplyOf}
+use mathlib.Core.List.{List}
+use lib.IntN.{ℤ}
+use Rattle.units.specs.declared.Wholes.{Wholes}
+use Rattle.units.specs.Columns.{Rounding, rounding}
+use Rattle.plot.specs.declared.Plotted.{Plotted}
+use Rattle.plot.specs.Plot.{Plot, plot}
+use Rattle.abi.specs.Reply.{reply, replyOf, flatReply, flatReplyOf, plotReply, plotReplyOf, wholeReply, wholeReplyOf}
 
 pub told : {answer : Answer} {st : StoreState} {c : Columns} {o : Outcome} {r : ℕ} → r ≡ numberOf answer → outcome answer st c ≡ o
     → reply r (stateAt (st .points) (st .commands) (st .opening)) c ≡ replyOf o
@@ -27,3 +33,11 @@ flat-told {f} {q} {s} {o} n h = ap (λ (k : ℕ). flatReply k (f .splines) (f .q
 pub chosen : {g h : Setting} (st : StoreState) (c : Columns) (q : QuadTable) (s : SplineTable) (o : Output) → g ≡ h
     → flatReplyOf (flattenOf g st c q s o) ≡ flatReplyOf (flattenOf h st c q s o)
 chosen st c q s o e = ap (λ (k : Setting). flatReplyOf (flattenOf k st c q s o)) e
+
+pub plot-told : {p : Plotted} {text : List ℕ} {g : Plot} {r : ℕ} → r ≡ numberOf (p .answer) → plot p text ≡ g → plotReply r (p .written) text ≡ plotReplyOf g
+unfolding plotReplyOf
+plot-told {p} {text} n h = ap (λ (k : ℕ). plotReply k (p .written) text) n ∙ ap plotReplyOf h
+
+pub whole-told : {w : Wholes} {x y : List ℤ} {g : Rounding} {r : ℕ} → r ≡ numberOf (w .answer) → rounding w x y ≡ g → wholeReply r (w .points) x y ≡ wholeReplyOf g
+unfolding wholeReplyOf
+whole-told {w} {x} {y} n h = ap (λ (k : ℕ). wholeReply k (w .points) x y) n ∙ ap wholeReplyOf h

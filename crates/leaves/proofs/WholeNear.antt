@@ -41,8 +41,8 @@ near-none t w h = sym (div-eq-of-lt (last t w h))
     last : (t w : ℕ) → 2 * t < w → 2 * t + w < 2 * w
     last t w h = omega arith
 
-pub near-le : (t w : ℕ) → 0 < w → (2 * t + w) / (2 * w) < suc t
-near-le t w W = div-lt-iff-lt-mul (mul-pos (zero-lt-suc 1) W) .1 (last (t * w) (suc t * (2 * w)) many (all 2 t w))
+pub near-lt : (t w : ℕ) → 0 < w → (2 * t + w) / (2 * w) < suc t
+near-lt t w W = div-lt-iff-lt-mul (mul-pos (zero-lt-suc 1) W) .1 (last (t * w) (suc t * (2 * w)) many (all 2 t w))
   where
     many : t ≤ t * w
     many = le-trans (le-of-eq (sym (one-mul t))) (le-trans (mul-le-mul-right t W) (le-of-eq (mul-comm w t)))
@@ -112,7 +112,8 @@ inside-le (fin true m e) f h =
     some : (a d : ℕ) → 0 < d → 0 < a + 65536 * d
     some a d h = omega arith
 inside-le (fin false m e) f h =
-    ap₂ (λ (p q : Bool). (p || level true (65536 * down e) false (m * up e * 1)) && q) (lt-ltb 0 (65536 * down e + m * up e * 1) (some (m * up e * 1) (down e) (down-pos e)))
+    ap₂ (λ (p q : Bool). (p || level true (65536 * down e) false (m * up e * 1)) && q)
+    (lt-ltb 0 (65536 * down e + m * up e * 1) (some (m * up e * 1) (down e) (down-pos e)))
     (inside (m * up e) (65536 * down e) h .0)
   where
     some : (a d : ℕ) → 0 < d → 0 < 65536 * d + a

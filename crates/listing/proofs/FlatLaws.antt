@@ -1,6 +1,7 @@
--- Laws of the flattened drawing: what a finished flattening delivered, its points read back from their columns, and how many there are. Assumes nothing.
+-- Laws of the flattened drawing: what a finished flattening delivered, its points read back from their columns, and how many there are; a refused one has none.
+-- Assumes nothing.
 use mathlib.Core.Path.{_≡_, refl, sym, ap, _∙_}
-use mathlib.Core.Bool.{Bool, true, false, _&&_}
+use mathlib.Core.Bool.{Bool, true, false, _&&_, true≢false}
 use mathlib.Core.List.{List, [], _∷_, _++_, map}
 use Prim.Native.Nat.{ℕ, zero, suc, _+_, _≤_}
 use native.Mathlib.Nat.{add-zero}
@@ -62,6 +63,30 @@ pub flatten-done : (setting : Setting) (st : StoreState) (c : Columns) (q : Quad
 unfolding flattenOf
 flatten-done setting st c q s o h = drawable-done (drawableOf st c) setting st c q s o h
 
+-- ---- a refused flattening has no point
+walked-undone : (b : Bool) (w : World) (items : List Item) (o : Output) → isDone (walked b w items o .result .answer) ≡ false → walked b w items o .result .points ≡ 0
+unfolding walked
+walked-undone true w items o h = absurd (true≢false h)
+walked-undone false w items o h = refl
+
+tabled-undone : (setting : Setting) (b : Bool) (w : World) (o : Output) → isDone (tabled setting b w o .result .answer) ≡ false → tabled setting b w o .result .points ≡ 0
+unfolding tabled
+tabled-undone setting true w o h =
+    let items = walkOf setting (quadRowAt (w .quads)) (w .splines) (w .state .splines) in
+    walked-undone (fitsOutput (length items) o) w items o h
+tabled-undone setting false w o h = refl
+
+drawable-undone : (b : Bool) (setting : Setting) (st : StoreState) (c : Columns) (q : QuadTable) (s : SplineTable) (o : Output)
+    → isDone (flattenDrawable b setting st c q s o .result .answer) ≡ false → flattenDrawable b setting st c q s o .result .points ≡ 0
+unfolding flattenDrawable
+drawable-undone true setting st c q s o h = let w = tablesOf setting st c q s in tabled-undone setting (isDone (w .state .answer)) w o h
+drawable-undone false setting st c q s o h = refl
+
+pub flatten-undone : (setting : Setting) (st : StoreState) (c : Columns) (q : QuadTable) (s : SplineTable) (o : Output)
+    → isDone (flattenOf setting st c q s o .result .answer) ≡ false → flattenOf setting st c q s o .result .points ≡ 0
+unfolding flattenOf
+flatten-undone setting st c q s o h = drawable-undone (drawableOf st c) setting st c q s o h
+
 -- ---- the points from their columns
 
 module _ {A : Type 0} where
@@ -99,7 +124,7 @@ module _ (setting : Setting) (f : Flattening) (o : Output) (d : Delivered settin
   abbrev delivered : List Finished
   delivered = pointsOf (quadRowAt (f .quads)) (f .splines) (itemsOf setting f)
 
-  delivered-count : length delivered ≡ f .result .points
+  pub delivered-count : length delivered ≡ f .result .points
   unfolding pointsOf
   delivered-count = length-map (itemsOf setting f) (itemPointOf (quadRowAt (f .quads)) (f .splines)) ∙ sym (d .points)
 

@@ -4,6 +4,7 @@ pub mod CommandLaws
 pub mod StepLaws
 pub mod WritingLaws
 pub mod FlatLaws
+pub mod ToldLaws
 pub mod ProgramLaws
 pub mod ShapeLaws
 pub mod PrintingLaws

@@ -1,28 +1,28 @@
--- Laws of the whole program: what each way through it writes, and that 14,418 bytes hold every output. Assumes nothing.
+-- Laws of the whole program: what each way through it gives, and that 14,418 bytes hold every output. Assumes nothing.
 use mathlib.Core.Path.{_≡_, refl, sym, ap, _∙_, subst}
 use mathlib.Core.Bool.{Bool, true, false}
 use mathlib.Core.List.{List, []}
 use Prim.Native.Nat.{ℕ, _≤_, _<_}
 use native.Mathlib.Omega.{arith}
 use borrow.Author.Tests.{le-leb, lt-leb}
-use lib.Dec.{leb}
-use lib.ListN.{length, length-append, length-replicate}
+use lib.ListN.{length}
 use Rattle.text.proofs.Decimals.{decimal-short}
 use Rattle.answer.specs.declared.Answer.{Answer}
 use Rattle.answer.specs.declared.Answer.the-variants.{Done, InputTooLong}
 use Rattle.answer.specs.Number.{numberOf, isDone}
+use Rattle.answer.proofs.Laws.{done-is}
 use Rattle.point.specs.declared.Setting.the-variants.{Screen}
 use Rattle.store.specs.declared.StoreState.{StoreState}
 use Rattle.store.specs.declared.Call.the-variants.{Build}
 use Rattle.store.specs.Columns.{Columns, evenOf}
 use Rattle.store.specs.Drawing.{Outcome, outcome, drawOf, freshOf}
 use Rattle.evaluate.specs.Evaluate.{Finished}
-use Rattle.flatten.specs.Flatten.{Flattening, flattenOf}
 use Rattle.listing.specs.Reading.{Progress, going, finished, stopped, readOf}
-use Rattle.listing.specs.Writing.{allPointLines, reportOf, columnPoints, headOf}
-use Rattle.listing.specs.Program.{zeros, programColumns, programQuads, programSplines, programOutput, Said, said, inBytes, flatReport, flatOf, built, builtFrom, afterReading, listingIn, saidOf, listingOf}
-use Rattle.listing.proofs.WritingLaws.{refusal-report, points-report, head-length-is, points-length, column-points-length}
-use Rattle.listing.proofs.FlatLaws.{Delivered, flatten-done, delivered-points, delivered-fit}
+use Rattle.listing.specs.Writing.{reportOf, columnPoints}
+use Rattle.listing.specs.Program.{zeros, programColumns, programOutput, refused, ready, built, builtFrom, afterReading, drawnIn, drawnOf, saidOf, listingOf}
+use Rattle.listing.specs.Told.{Telling, toldOf}
+use Rattle.listing.proofs.WritingLaws.{report-length}
+use Rattle.listing.proofs.ToldLaws.{ToldSaid, told-said}
 
 -- ---- a fresh drawing is made
 pub fresh-done : freshOf programColumns .answer ≡ Done
@@ -35,121 +35,74 @@ fresh-drawn a s c h = ap (λ (b : Answer). outcome b s c) (sym (ap (λ (o : Outc
 pub read-fresh : (text : List ℕ) (p : Progress) (a : Answer) (s : StoreState) (c c₀ : Columns) → p ≡ readOf text (outcome Done s c) → outcome a s c ≡ freshOf c₀ → c₀ ≡ programColumns → p ≡ readOf text (freshOf programColumns)
 read-fresh text p a s c c₀ h e k = h ∙ ap (readOf text) (fresh-drawn a s c (e ∙ ap freshOf k))
 
--- ---- the flattening
-module _ (st : StoreState) (c : Columns) (f : Flattening) (e : f ≡ flattenOf Screen st c programQuads programSplines programOutput) where
-  reported : flatReport (isDone (f .result .answer)) f ≡ flatOf st c
-  unfolding flatOf
-  reported = ap (λ (g : Flattening). flatReport (isDone (g .result .answer)) g) e
-
-  pub flat-refused : isDone (f .result .answer) ≡ false → said (f .result .answer) 0 [] ≡ flatOf st c
-  unfolding flatReport
-  flat-refused h = sym (ap (λ (b : Bool). flatReport b f) h) ∙ reported
-
-  flat-delivered : isDone (f .result .answer) ≡ true → Delivered Screen f programOutput
-  flat-delivered h =
-      subst (λ (g : Flattening). Delivered Screen g programOutput) (sym e)
-      (flatten-done Screen st c programQuads programSplines programOutput (sym (ap (λ (g : Flattening). isDone (g .result .answer)) e) ∙ h))
-
-  pub flat-few : isDone (f .result .answer) ≡ true → f .result .points ≤ 512
-  unfolding programOutput
-  flat-few h = omega (arith, delivered-fit Screen f programOutput (flat-delivered h), length-replicate {A = ℕ} 512 0)
-
-  pub flat-reported : isDone (f .result .answer) ≡ true → said Done 0 (columnPoints 0 (f .result .points) (f .output .x) (f .output .y) (f .output .end)) ≡ flatOf st c
-  unfolding flatReport
-  flat-reported h =
-      ap (λ (ps : List Finished). said Done 0 ps) (delivered-points Screen f programOutput (flat-delivered h))
-      ∙ sym (ap (λ (b : Bool). flatReport b f) h)
-      ∙ reported
-
 -- ---- the final build
 module _ (st : StoreState) (c : Columns) (a : Answer) (s : StoreState) (c' : Columns) (e : outcome a s c' ≡ drawOf Build st c) where
-  build-reported : built (isDone a) (outcome a s c') ≡ builtFrom (outcome Done st c)
+  build-drawn : built (isDone a) (outcome a s c') ≡ builtFrom (outcome Done st c)
   unfolding builtFrom
-  build-reported = ap (λ (o : Outcome). built (isDone (o .answer)) o) e
+  build-drawn = ap (λ (o : Outcome). built (isDone (o .answer)) o) e
 
-  pub build-refused : isDone a ≡ false → said a 0 [] ≡ builtFrom (outcome Done st c)
+  pub build-refused : isDone a ≡ false → refused a 0 ≡ builtFrom (outcome Done st c)
   unfolding built
-  build-refused h = sym (ap (λ (b : Bool). built b (outcome a s c')) h) ∙ build-reported
+  build-refused h = sym (ap (λ (b : Bool). built b (outcome a s c')) h) ∙ build-drawn
 
-  pub build-done : isDone a ≡ true → flatOf s c' ≡ builtFrom (outcome Done st c)
+  pub build-done : isDone a ≡ true → ready s c' ≡ builtFrom (outcome Done st c)
   unfolding built
-  build-done h = sym (ap (λ (b : Bool). built b (outcome a s c')) h) ∙ build-reported
+  build-done h = sym (ap (λ (b : Bool). built b (outcome a s c')) h) ∙ build-drawn
 
--- ---- the whole
-pub too-long : (text : List ℕ) → 16384 < length text → said InputTooLong 0 [] ≡ saidOf text
-unfolding saidOf listingIn
+-- ---- the drawing of a text
+pub too-long : (text : List ℕ) → 16384 < length text → refused InputTooLong 0 ≡ drawnOf text
+unfolding drawnOf drawnIn
 too-long text h = rw (lt-leb (length text) 16384 h)
 
 module _ (text : List ℕ) (short : length text ≤ 16384) where
-  after-reading : (p : Progress) → p ≡ readOf text (freshOf programColumns) → afterReading p ≡ saidOf text
-  unfolding saidOf listingIn
+  after-reading : (p : Progress) → p ≡ readOf text (freshOf programColumns) → afterReading p ≡ drawnOf text
+  unfolding drawnOf drawnIn
   after-reading p h = ap afterReading h ∙ rw (le-leb (length text) 16384 short)
 
-  pub after-stopped : (a : Answer) (line : ℕ) → stopped a line ≡ readOf text (freshOf programColumns) → said a line [] ≡ saidOf text
+  pub after-stopped : (a : Answer) (line : ℕ) → stopped a line ≡ readOf text (freshOf programColumns) → refused a line ≡ drawnOf text
   unfolding afterReading
   after-stopped a line h = after-reading (stopped a line) h
 
-  pub after-finished : (o : Outcome) → finished o ≡ readOf text (freshOf programColumns) → builtFrom o ≡ saidOf text
+  pub after-finished : (o : Outcome) → finished o ≡ readOf text (freshOf programColumns) → builtFrom o ≡ drawnOf text
   unfolding afterReading
   after-finished o h = after-reading (finished o) h
 
-  pub after-going : (at line : ℕ) (o : Outcome) → going at line o ≡ readOf text (freshOf programColumns) → builtFrom o ≡ saidOf text
+  pub after-going : (at line : ℕ) (o : Outcome) → going at line o ≡ readOf text (freshOf programColumns) → builtFrom o ≡ drawnOf text
   unfolding afterReading
   after-going at line o h = after-reading (going at line o) h
 
+-- ---- what is told, as the program lists it
+module _ (text : List ℕ) (t : Telling) (e : t ≡ toldOf Screen text programOutput) where
+  listed-said : ToldSaid t (saidOf Screen text)
+  listed-said = subst (λ (u : Telling). ToldSaid u (saidOf Screen text)) (sym e) (told-said Screen text)
+
+  pub listed-few : t .result .points ≤ 512
+  listed-few = omega (arith, listed-said .points, listed-said .few)
+
+  pub listed-refusal : isDone (t .result .answer) ≡ false → reportOf (t .result .answer) (t .result .line) [] ≡ listingOf text
+  unfolding listingOf
+  listed-refusal h =
+      let s = saidOf Screen text in
+      ap (λ (a : Answer). reportOf a (t .result .line) []) (listed-said .answer)
+      ∙ ap (λ (l : ℕ). reportOf (s .answer) l []) (listed-said .line)
+      ∙ ap (λ (ps : List Finished). reportOf (s .answer) (s .line) ps) (sym (listed-said .no-points (sym (ap isDone (listed-said .answer)) ∙ h)))
+
+  pub listed-report : isDone (t .result .answer) ≡ true
+      → reportOf Done 0 (columnPoints 0 (t .result .points) (t .output .x) (t .output .y) (t .output .end)) ≡ listingOf text
+  unfolding listingOf
+  listed-report h =
+      let s = saidOf Screen text in
+      ap (reportOf Done 0) (listed-said .back)
+      ∙ ap (λ (l : ℕ). reportOf Done l (s .points)) (sym (listed-said .no-line (sym (ap isDone (listed-said .answer)) ∙ h)))
+      ∙ ap (λ (a : Answer). reportOf a (s .line) (s .points)) (sym (done-is (t .result .answer) h) ∙ listed-said .answer)
+
 -- ---- 14,418 bytes are enough: three numbers of at most 20 digits, and 28 bytes for each of at most 512 points
-refusal-fits : (a : Answer) (line : ℕ) → length (reportOf a line []) ≤ 14418
-refusal-fits a line =
-    omega
-    (arith, ap length (refusal-report (numberOf a) a line refl), head-length-is (numberOf a) line 0, decimal-short (numberOf a), decimal-short line, decimal-short 0)
-
-points-fit : (ps : List Finished) → length ps ≤ 512 → length (reportOf Done 0 ps) ≤ 14418
-points-fit ps h =
-    omega (
-      arith,
-      ap length (points-report ps),
-      length-append (headOf 0 0 (length ps)) (allPointLines ps),
-      points-length ps,
-      head-length-is 0 0 (length ps),
-      decimal-short 0,
-      decimal-short (length ps),
-    )
-
-flat-fits : (st : StoreState) (c : Columns) (b : Bool) → isDone (flattenOf Screen st c programQuads programSplines programOutput .result .answer) ≡ b → length (inBytes (flatOf st c)) ≤ 14418
-flat-fits st c true h =
-    let f = flattenOf Screen st c programQuads programSplines programOutput in
-    let ps = columnPoints 0 (f .result .points) (f .output .x) (f .output .y) (f .output .end) in
-    omega (
-      arith,
-      ap (λ (s : Said). length (inBytes s)) (flat-reported st c f refl h),
-      flat-few st c f refl h,
-      column-points-length 0 (f .result .points) (f .output .x) (f .output .y) (f .output .end),
-      points-fit ps (omega (arith, flat-few st c f refl h, column-points-length 0 (f .result .points) (f .output .x) (f .output .y) (f .output .end))),
-    )
-flat-fits st c false h =
-    let f = flattenOf Screen st c programQuads programSplines programOutput in
-    omega (arith, ap (λ (s : Said). length (inBytes s)) (flat-refused st c f refl h), refusal-fits (f .result .answer) 0)
-
-built-fits : (b : Bool) (o : Outcome) → length (inBytes (built b o)) ≤ 14418
-unfolding built
-built-fits false o = refusal-fits (o .answer) 0
-built-fits true o = flat-fits (o .state) (o .columns) (isDone (flattenOf Screen (o .state) (o .columns) programQuads programSplines programOutput .result .answer)) refl
-
-build-fits : (o : Outcome) → length (inBytes (builtFrom o)) ≤ 14418
-unfolding builtFrom
-build-fits o = built-fits (isDone (drawOf Build (o .state) (o .columns) .answer)) (drawOf Build (o .state) (o .columns))
-
-reading-fits : (p : Progress) → length (inBytes (afterReading p)) ≤ 14418
-unfolding afterReading
-reading-fits (going at line o) = build-fits o
-reading-fits (finished o) = build-fits o
-reading-fits (stopped a line) = refusal-fits a line
-
-listing-in-fits : (b : Bool) (text : List ℕ) → length (inBytes (listingIn b text)) ≤ 14418
-unfolding listingIn
-listing-in-fits false text = refusal-fits InputTooLong 0
-listing-in-fits true text = reading-fits (readOf text (freshOf programColumns))
+report-fits : (a : Answer) (line : ℕ) (ps : List Finished) → length ps ≤ 512 → length (reportOf a line ps) ≤ 14418
+report-fits a line ps h =
+    omega (arith, report-length a line ps, decimal-short (numberOf a), decimal-short line, decimal-short (length ps))
 
 pub listing-fits : (text : List ℕ) → length (listingOf text) ≤ 14418
-unfolding listingOf saidOf
-listing-fits text = listing-in-fits (leb (length text) 16384) text
+unfolding listingOf
+listing-fits text =
+    let s = saidOf Screen text in
+    report-fits (s .answer) (s .line) (s .points) (told-said Screen text .few)

@@ -1,4 +1,5 @@
--- Laws of reading: one step goes on after its command, or stops for good; as many steps as bytes are enough. Assumes nothing.
+-- Laws of reading: one step goes on after its command, or stops for good; as many steps as bytes are enough; only a refusal stops it.
+-- Assumes nothing.
 use mathlib.Core.Path.{_≡_, refl, sym, ap, _∙_}
 use mathlib.Core.Bool.{Bool, true, false, cond}
 use mathlib.Core.List.{List, [], _∷_}
@@ -23,7 +24,7 @@ use Rattle.listing.specs.declared.Command.{Command}
 use Rattle.listing.specs.declared.Command.the-variants.{Drawing, Fault, Finish}
 use Rattle.listing.specs.declared.Progress as Progresses
 use Rattle.listing.specs.Grammar.{opLineOf, keysOf, callOf}
-use Rattle.listing.specs.Reading.{Placed, Fields, read, wrong, fieldsFrom, withFields, commandFrom, tryOps, ops, commandAt, Progress, going, finished, stopped, afterCall, afterCommand, stepOf, stepsOf, progressOf}
+use Rattle.listing.specs.Reading.{Placed, Fields, read, wrong, fieldsFrom, withFields, commandFrom, tryOps, ops, commandAt, Progress, going, finished, stopped, afterCall, afterCommand, stepOf, stepsOf, readOf, progressOf}
 use Rattle.listing.proofs.FieldLaws.{Onward, fields-onward}
 use Rattle.listing.proofs.CommandLaws.{behind-op}
 
@@ -147,3 +148,35 @@ module _ (text : List ℕ) (p whole : Progress) (n : ℕ) (some : 0 < n) (left :
 
   pub steps-stop : (a : Answer) (line : ℕ) → stopped a line ≡ stepOf text p → stopped a line ≡ whole
   steps-stop a line h = sym (steps-stopped (n - 1) text a line) ∙ steps-again (stopped a line) h
+
+-- ---- the reading stops at a refusal alone
+abbrev pub StopsRefused : Progress → Type 0
+StopsRefused (going at line o) = Unit
+StopsRefused (finished o) = Unit
+StopsRefused (stopped a line) = isDone a ≡ false
+
+call-refused : (op-line at line : ℕ) (o : Outcome) (b : Bool) → isDone (o .answer) ≡ b → StopsRefused (cond b (going at line o) (stopped (o .answer) op-line))
+call-refused op-line at line o true e = tt
+call-refused op-line at line o false e = e
+
+command-refused : (op-line : ℕ) (o : Outcome) (k : Command) → StopsRefused (afterCommand op-line o k)
+unfolding afterCommand afterCall
+command-refused op-line o (Drawing call at line) =
+    let d = drawOf call (o .state) (o .columns) in call-refused op-line at line d (isDone (d .answer)) refl
+command-refused op-line o (Fault line) = refl
+command-refused op-line o Finish = tt
+
+stop-refused : (text : List ℕ) (p : Progress) → StopsRefused p → StopsRefused (stepOf text p)
+unfolding stepOf
+stop-refused text (going at line o) h = command-refused line o (commandAt text at line)
+stop-refused text (finished o) h = tt
+stop-refused text (stopped a line) h = h
+
+stops-refused : (n : ℕ) (text : List ℕ) (p : Progress) → StopsRefused p → StopsRefused (stepsOf n text p)
+unfolding stepsOf
+stops-refused zero text p h = h
+stops-refused (suc n) text p h = stops-refused n text (stepOf text p) (stop-refused text p h)
+
+pub read-refused : (text : List ℕ) (o : Outcome) → StopsRefused (readOf text o)
+unfolding readOf
+read-refused text o = stops-refused (length text + 1) text (going 0 1 o) tt

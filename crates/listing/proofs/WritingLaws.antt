@@ -1,4 +1,5 @@
--- Laws of writing: a line is written in four parts, texts one after another, and a point's lines are 28 bytes. Assumes nothing.
+-- Laws of writing: a line is written in four parts, texts one after another, and a point's lines are 28 bytes; a refusal's two lines are at most 36. Assumes
+-- nothing.
 use mathlib.Core.Path.{_≡_, refl, sym, ap, _∙_}
 use mathlib.Core.Bool.{Bool, true, false, cond}
 use mathlib.Core.List.{List, [], _∷_, _++_, append-nil, append-assoc}
@@ -6,27 +7,27 @@ use Prim.Native.Nat.{ℕ, zero, suc, _+_, _-_, _*_, _≤_, _<_}
 use native.Mathlib.Numerals.{add-one}
 use native.Mathlib.Omega.{arith}
 use borrow.Author.Tests.{le-leb, lt-leb}
-use lib.Dec.{leb}
+use lib.Dec.{leb, lit≤}
 use lib.Ieee.{Float, nan}
 use lib.ListN.{length, getD, set, length-append}
 use lib.Seq.{sets}
 use Rattle.columns.specs.Flags.{flagByteOf, isFlagOf}
 use Rattle.leaves.specs.Bits.{bitsOf}
 use Rattle.answer.specs.declared.Answer.{Answer}
-use Rattle.answer.specs.declared.Answer.the-variants.{Done}
+use Rattle.answer.specs.declared.Answer.the-variants.{Done, BadCoordinate, BadWeight, Unusable, StoreFull, TooManyPieces, QuadsFull, SplinesFull, SumTooLarge, OutputShort, BadText, InputTooLong, NotPrintable, BufferShort}
 use Rattle.answer.specs.Number.{numberOf}
 use Rattle.point.specs.declared.Point.{Point}
 use Rattle.point.specs.Point.{pointAt}
 use Rattle.evaluate.specs.Evaluate.{Finished, finished}
 use Rattle.text.specs.Bytes.{bytes}
 use Rattle.text.specs.Hex.{hexOf}
-use Rattle.text.specs.Decimal.{decimalOf}
+use Rattle.text.specs.Decimal.{decimalIn, decimalOf}
 use Rattle.text.proofs.Hexes.{hex-digits-length}
-use Rattle.text.proofs.Decimals.{one-digit}
+use Rattle.text.proofs.Decimals.{one-digit, decimal-short}
 use Rattle.text.proofs.Stores.{sets-append}
 use Rattle.listing.specs.declared.Listed.{Listed}
 use Rattle.listing.specs.declared.Listed.the-variants.{Bytes, Short}
-use Rattle.listing.specs.Writing.{WrittenAs, lineOf, pointLines, allPointLines, reportOf, headOf, columnPoints, Listing, listed, listedAs}
+use Rattle.listing.specs.Writing.{WrittenAs, lineOf, pointLines, allPointLines, reportOf, refusalOf, headOf, columnPoints, Listing, listed, listedAs}
 
 -- ---- lengths
 pub line-length : (key value : List ℕ) → length (lineOf key value) ≡ length key + length value + 2
@@ -88,6 +89,24 @@ head-length-is number line points =
       line-length (bytes "answer") (decimalOf number),
       line-length (bytes "line") (decimalOf line),
       line-length (bytes "points") (decimalOf points),
+    )
+
+pub report-length : (a : Answer) (line : ℕ) (ps : List Finished)
+    → length (reportOf a line ps) ≡ 22 + length (decimalOf (numberOf a)) + length (decimalOf line) + length (decimalOf (length ps)) + 28 * length ps
+unfolding reportOf
+report-length a line ps =
+    let n = lineOf (bytes "answer") (decimalOf (numberOf a)) in
+    let l = lineOf (bytes "line") (decimalOf line) in
+    let p = lineOf (bytes "points") (decimalOf (length ps)) in
+    omega (
+      arith,
+      length-append n (l ++ (p ++ allPointLines ps)),
+      length-append l (p ++ allPointLines ps),
+      length-append p (allPointLines ps),
+      line-length (bytes "answer") (decimalOf (numberOf a)),
+      line-length (bytes "line") (decimalOf line),
+      line-length (bytes "points") (decimalOf (length ps)),
+      points-length ps,
     )
 
 -- ---- a line in its four parts
@@ -210,3 +229,52 @@ module _ (points : ℕ) (x y : List Float) (end : List ℕ) where
       ∙ sym (sets-append out 0 (headOf 0 0 points) lines) in
       listed-seen columnText (reportOf Done 0 (columnPoints 0 points x y end)) out (listed (Bytes (head + 28 * points)) out')
       (listed-bytes columnText out out' (head + 28 * points) (omega arith) (omega arith) stored) column-report
+
+-- ---- a refusal's two lines
+refusal-length : (a : Answer) (line : ℕ) → length (refusalOf a line) ≡ 14 + length (decimalOf (numberOf a)) + length (decimalOf line)
+unfolding refusalOf
+refusal-length a line =
+    let n = lineOf (bytes "answer") (decimalOf (numberOf a)) in
+    let l = lineOf (bytes "line") (decimalOf line) in
+    omega (
+      arith,
+      length-append n l,
+      line-length (bytes "answer") (decimalOf (numberOf a)),
+      line-length (bytes "line") (decimalOf line),
+    )
+
+two-digits : (a : Answer) → length (decimalOf (numberOf a)) ≤ 2
+unfolding decimalOf decimalIn
+two-digits Done = lit≤ tt
+two-digits BadCoordinate = lit≤ tt
+two-digits BadWeight = lit≤ tt
+two-digits Unusable = lit≤ tt
+two-digits StoreFull = lit≤ tt
+two-digits TooManyPieces = lit≤ tt
+two-digits QuadsFull = lit≤ tt
+two-digits SplinesFull = lit≤ tt
+two-digits SumTooLarge = lit≤ tt
+two-digits OutputShort = lit≤ tt
+two-digits BadText = lit≤ tt
+two-digits InputTooLong = lit≤ tt
+two-digits NotPrintable = lit≤ tt
+two-digits BufferShort = lit≤ tt
+
+-- "answer=" with two digits, "line=" with twenty, and two line ends
+pub refusal-fits : (a : Answer) (line : ℕ) → length (refusalOf a line) ≤ 36
+refusal-fits a line = omega (arith, refusal-length a line, two-digits a, decimal-short line)
+
+module _ (n : ℕ) (a : Answer) (line d e : ℕ) (out : List ℕ) (same : n ≡ numberOf a) (hd : d ≡ length (decimalOf n)) (he : e ≡ length (decimalOf line)) where
+  refusal-needs : 14 + d + e ≡ length (refusalOf a line)
+  refusal-needs = omega (arith, refusal-length a line, hd ∙ ap (λ (m : ℕ). length (decimalOf m)) same, he)
+
+  pub refusal-short : length out < 14 + d + e → listed Short out ≡ listedAs (refusalOf a line) out
+  refusal-short h = listed-short (refusalOf a line) out (omega (arith, h, refusal-needs))
+
+  pub refusal-bytes : (b out' : List ℕ) (n1 n2 : ℕ) → 14 + d + e ≤ length out → WrittenAs (lineOf (bytes "answer") (decimalOf n)) out 0 b n1 → WrittenAs (lineOf (bytes "line") (decimalOf line)) b n1 out' n2 → listed (Bytes (14 + d + e)) out' ≡ listedAs (refusalOf a line) out
+  unfolding refusalOf
+  refusal-bytes b out' n1 n2 h w v =
+      let second = lineOf (bytes "line") (decimalOf line) in
+      listed-bytes (refusalOf a line) out out' (14 + d + e) (omega (arith, h, refusal-needs)) refusal-needs
+      (written-then (lineOf (bytes "answer") (decimalOf n)) second out b out' 0 n1 n2 w v .stored
+      ∙ ap (λ (m : ℕ). sets out 0 (lineOf (bytes "answer") (decimalOf m) ++ second)) same)

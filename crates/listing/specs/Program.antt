@@ -1,4 +1,5 @@
--- RULES, The program: "It reads standard input, builds, flattens in the screen setting." All of its output, from all of its input. Assumes nothing.
+-- RULES, The program: "It reads standard input, builds, flattens in the screen setting." All of its output, from all of its input. What it says of a text is
+-- defined for either setting, since other programs read the same texts. Assumes nothing.
 use Prim.Native.Nat.{ℕ}
 use mathlib.Core.Bool.{Bool, true, false}
 use mathlib.Core.List.{List, []}
@@ -9,6 +10,7 @@ use Rattle.leaves.specs.Single.{zero32}
 use Rattle.answer.specs.declared.Answer.{Answer}
 use Rattle.answer.specs.declared.Answer.the-variants.{Done, InputTooLong}
 use Rattle.answer.specs.Number.{isDone}
+use Rattle.point.specs.declared.Setting.{Setting}
 use Rattle.point.specs.declared.Setting.the-variants.{Screen}
 use Rattle.store.specs.declared.Call.the-variants.{Build}
 use Rattle.store.specs.declared.StoreState.{StoreState}
@@ -18,6 +20,8 @@ use Rattle.tables.specs.Tables.{QuadTable, quadTable, SplineTable, splineTable,
 use Rattle.walk.specs.Walk.{walkOf}
 use Rattle.evaluate.specs.Evaluate.{Finished, pointsOf}
 use Rattle.flatten.specs.Flatten.{Flattening, Output, output, flattenOf}
+use Rattle.listing.specs.declared.Drawn as Drawns
+use Rattle.listing.specs.declared.Drawn.the-variants as Drawing
 use Rattle.listing.specs.Reading.{Progress, going, finished, stopped, readOf}
 use Rattle.listing.specs.Writing.{reportOf}
 
@@ -38,7 +42,38 @@ programSplines =
 unfoldable pub programOutput : Output
 programOutput = output (replicate 512 0) (zeros 512) (zeros 512) (replicate 512 0)
 
--- what the program says, before it is written: the answer, the line, and the points
+-- ---- the drawing of a text: the answer of the refusal and its line, or the store as the final build left it
+pub data Drawn : Type 0 where
+  refused : Answer → ℕ → Drawn
+  ready : StoreState → Columns → Drawn
+
+-- the code's drawing, with what its columns hold
+abbrev pub drawnAs : Drawns.Drawn → Columns → Drawn
+drawnAs (Drawing.Refused answer line) c = refused answer line
+drawnAs (Drawing.Ready state) c = ready state c
+
+-- the final build, refused on line 0
+unfoldable pub built : Bool → Outcome → Drawn
+built false o = refused (o .answer) 0
+built true o = ready (o .state) (o .columns)
+
+unfoldable pub builtFrom : Outcome → Drawn
+builtFrom o = let b = drawOf Build (o .state) (o .columns) in built (isDone (b .answer)) b
+
+unfoldable pub afterReading : Progress → Drawn
+afterReading (going at line o) = builtFrom o
+afterReading (finished o) = builtFrom o
+afterReading (stopped answer line) = refused answer line
+
+-- "11 is tested first": input over 16,384 bytes
+unfoldable pub drawnIn : Bool → List ℕ → Drawn
+drawnIn false text = refused InputTooLong 0
+drawnIn true text = afterReading (readOf text (freshOf programColumns))
+
+unfoldable pub drawnOf : List ℕ → Drawn
+drawnOf text = drawnIn (leb (length text) 16384) text
+
+-- ---- what the program says, before it is written: the answer, the line, and the points
 pub record Said : Type 0 where
   pub answer : Answer
   pub line : ℕ
@@ -52,33 +87,23 @@ abbrev pub inBytes : Said → List ℕ
 inBytes s = reportOf (s .answer) (s .line) (s .points)
 
 -- "On a refusal points is 0 and no point follows."; line is 0 for 5 to 9 and for 0
-unfoldable pub flatReport : Bool → Flattening → Said
-flatReport false f = said (f .result .answer) 0 []
-flatReport true f = said Done 0 (pointsOf (quadRowAt (f .quads)) (f .splines) (walkOf Screen (quadRowAt (f .quads)) (f .splines) (f .result .splines)))
+unfoldable pub flatReport : Setting → Bool → Flattening → Said
+flatReport setting false f = said (f .result .answer) 0 []
+flatReport setting true f =
+    said Done 0 (pointsOf (quadRowAt (f .quads)) (f .splines) (walkOf setting (quadRowAt (f .quads)) (f .splines) (f .result .splines)))
 
-unfoldable pub flatOf : StoreState → Columns → Said
-flatOf st c = let f = flattenOf Screen st c programQuads programSplines programOutput in flatReport (isDone (f .result .answer)) f
+unfoldable pub flatOf : Setting → StoreState → Columns → Said
+flatOf setting st c =
+    let f = flattenOf setting st c programQuads programSplines programOutput in
+    flatReport setting (isDone (f .result .answer)) f
 
--- the final build, refused on line 0, and the flattening
-unfoldable pub built : Bool → Outcome → Said
-built false o = said (o .answer) 0 []
-built true o = flatOf (o .state) (o .columns)
+unfoldable pub saidFrom : Setting → Drawn → Said
+saidFrom setting (refused answer line) = said answer line []
+saidFrom setting (ready st c) = flatOf setting st c
 
-unfoldable pub builtFrom : Outcome → Said
-builtFrom o = let b = drawOf Build (o .state) (o .columns) in built (isDone (b .answer)) b
+unfoldable pub saidOf : Setting → List ℕ → Said
+saidOf setting text = saidFrom setting (drawnOf text)
 
-unfoldable pub afterReading : Progress → Said
-afterReading (going at line o) = builtFrom o
-afterReading (finished o) = builtFrom o
-afterReading (stopped answer line) = said answer line []
-
--- "11 is tested first": input over 16,384 bytes
-unfoldable pub listingIn : Bool → List ℕ → Said
-listingIn false text = said InputTooLong 0 []
-listingIn true text = afterReading (readOf text (freshOf programColumns))
-
-unfoldable pub saidOf : List ℕ → Said
-saidOf text = listingIn (leb (length text) 16384) text
-
+-- the program itself flattens in the screen setting
 unfoldable pub listingOf : List ℕ → List ℕ
-listingOf text = inBytes (saidOf text)
+listingOf text = inBytes (saidOf Screen text)

@@ -46,6 +46,10 @@ reportOf answer line points =
     ++ (lineOf (bytes "points") (decimalOf (length points))
     ++ allPointLines points))
 
+-- the two lines of a refusal alone, for a program that has another output than points
+unfoldable pub refusalOf : Answer → ℕ → List ℕ
+refusalOf answer line = lineOf (bytes "answer") (decimalOf (numberOf answer)) ++ lineOf (bytes "line") (decimalOf line)
+
 -- ---- as the code writes it: the three lines at the head, and the points from their columns
 unfoldable pub headOf : ℕ → ℕ → ℕ → List ℕ
 headOf number line points =

@@ -13,6 +13,8 @@ mod writing;
 
 pub use fields::field_at;
 pub use program::listing;
+pub use program::told;
+pub use writing::refusal;
 
 pub enum Op {
     Move,
@@ -63,6 +65,19 @@ pub enum Progress {
     Going(StoreState, usize, usize),
     Finished(StoreState),
     Stopped(Answer, usize),
+}
+
+// A listing read to its end and built: the store, ready to be flattened; or the answer of the refusal and its line.
+pub enum Drawn {
+    Refused(Answer, usize),
+    Ready(StoreState),
+}
+
+// The answer and its line, and how many points there are.
+pub struct Account {
+    pub answer: Answer,
+    pub line: usize,
+    pub points: usize,
 }
 
 // How many bytes were written; or that the output is too short for them, and nothing was written.

@@ -11,7 +11,7 @@ ghost use Rattle.point.specs.Point.{pointAt};
 ghost use Rattle.evaluate.specs.Evaluate.{finished};
 ghost use Rattle.text.specs.Hex.{hexOf};
 ghost use Rattle.text.specs.Decimal.{decimalOf};
-ghost use Rattle.listing.specs.Writing.{lineOf, pointLines, allPointLines, reportOf, WrittenAs, headOf, columnPoints, listed, listedAs};
+ghost use Rattle.listing.specs.Writing.{lineOf, pointLines, allPointLines, reportOf, refusalOf, WrittenAs, headOf, columnPoints, listed, listedAs};
 use crate::Listed;
 use answer::Answer;
 
@@ -96,6 +96,20 @@ pub fn refuse(output: &mut [u8], refusal: Answer, line: usize) -> Listed
         return Listed::Short;
     }
     put_head(output, number, line as u64, 0);
+    Listed::Bytes(needed)
+}
+
+// The two lines of a refusal alone, for a program that has another output than points.
+pub fn refusal(output: &mut [u8], answer: Answer, line: usize) -> Listed
+    ensures { λ r. ⌜ listed r (now (output .exit)) ≡ listedAs (refusalOf answer line) (now (output .entry)) ⌝ }
+{
+    let number = answer::number(answer) as u64;
+    let needed = 14 + text::decimal_length(number) + text::decimal_length(line as u64);
+    if output.len() < needed {
+        return Listed::Short;
+    }
+    let second = decimal_line(output, 0, b"answer", number);
+    decimal_line(output, second, b"line", line as u64);
     Listed::Bytes(needed)
 }
 

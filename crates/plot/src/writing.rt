@@ -5,12 +5,11 @@ ghost use mathlib.Core.Bool.{true};
 ghost use mathlib.Core.List.{[], _∷_, _++_, map};
 ghost use Prim.Native.Nat.{_+_, _≤_};
 ghost use lib.ListN.{length};
-ghost use lib.Seq.{sets};
 ghost use Rattle.text.specs.Signed.{signedOf};
 ghost use Rattle.text.specs.Written.{WrittenAs};
 ghost use Rattle.contours.specs.Finished.{position, finishedOf};
-ghost use Rattle.plot.specs.Text.{penOf, moveOf};
-ghost use Rattle.plot.specs.Plot.{allPrintable, plotText};
+ghost use Rattle.plot.specs.Text.{penOf, moveOf, movesOf};
+ghost use Rattle.plot.specs.Plot.{allPrintable, wholeVertex, plotText};
 use crate::Spot;
 use crate::measuring::spot;
 use columns::is_flag;
@@ -50,13 +49,12 @@ fn put_move(text: &mut [u8], at: usize, up: bool, x: i32, y: i32) -> usize
     put_number(text, second, y, 0x3b)
 }
 
-// A contour begins at the first point and after each flagged one.
-pub fn put_text(x: &[f32], y: &[f32], end: &[u8], text: &mut [u8]) -> usize
-    requires { ⌜ (allPrintable (finishedOf (now x) (now y) (now end)) ≡ true) × (length (plotText (finishedOf (now x) (now y) (now end))) ≤ length (now text)) ⌝ }
-    ensures { λ r. ⌜ WrittenAs (plotText (finishedOf (now (x .entry)) (now (y .entry)) (now (end .entry)))) (now (text .entry)) 0 (now (text .exit)) r ⌝ }
+// Writes the moves after the first three bytes. A contour begins at the first point and after each flagged one.
+fn put_moves(x: &[f32], y: &[f32], end: &[u8], text: &mut [u8]) -> usize
+    requires { ⌜ (allPrintable (finishedOf (now x) (now y) (now end)) ≡ true) × (3 + length (movesOf true (map wholeVertex (finishedOf (now x) (now y) (now end)))) ≤ length (now text)) ⌝ }
+    ensures { λ r. ⌜ WrittenAs (movesOf true (map wholeVertex (finishedOf (now (x .entry)) (now (y .entry)) (now (end .entry))))) (now (text .entry)) 3 (now (text .exit)) r ⌝ }
 {
     let n = contours::shortest(x.len(), y.len(), end.len());
-    text::put_bytes(text, 0, b"IN;");
     let mut at = 3;
     let mut up = true;
     let mut i = 0;
@@ -72,4 +70,12 @@ pub fn put_text(x: &[f32], y: &[f32], end: &[u8], text: &mut [u8]) -> usize
         }
     }
     at
+}
+
+pub fn put_text(x: &[f32], y: &[f32], end: &[u8], text: &mut [u8]) -> usize
+    requires { ⌜ (allPrintable (finishedOf (now x) (now y) (now end)) ≡ true) × (length (plotText (finishedOf (now x) (now y) (now end))) ≤ length (now text)) ⌝ }
+    ensures { λ r. ⌜ WrittenAs (plotText (finishedOf (now (x .entry)) (now (y .entry)) (now (end .entry)))) (now (text .entry)) 0 (now (text .exit)) r ⌝ }
+{
+    text::put_bytes(text, 0, b"IN;");
+    put_moves(x, y, end, text)
 }

@@ -11,16 +11,17 @@ use native.Mathlib.Omega.{arith}
 use lib.Dec.{lit<}
 use lib.ListN.{length}
 use Rattle.answer.specs.declared.Answer.{Answer}
-use Rattle.answer.specs.declared.Answer.the-variants.{Done, BadCoordinate, BadWeight, Unusable, StoreFull, TooManyPieces, QuadsFull, SplinesFull, SumTooLarge, OutputShort, BadText, InputTooLong}
+use Rattle.answer.specs.declared.Answer.the-variants.{Done, BadCoordinate, BadWeight, Unusable, StoreFull, TooManyPieces, QuadsFull, SplinesFull, SumTooLarge, OutputShort, BadText, InputTooLong, NotPrintable, BufferShort}
 use Rattle.answer.specs.Number.{numberOf, isDone}
 use Rattle.answer.proofs.Laws.{done-is}
+use Rattle.point.specs.declared.Setting.the-variants.{Screen}
 use Rattle.store.specs.Drawing.{Outcome, freshOf}
 use Rattle.evaluate.specs.Evaluate.{Finished}
 use Rattle.text.specs.Places.{LongestBeginning, newlines}
 use Rattle.text.proofs.Shapes.{newlines-append, newlines-longer}
 use Rattle.listing.specs.Printing.{TextCommand, commandLines, printed, Good, callIn}
 use Rattle.listing.specs.Reading.{Progress, going, finished, stopped, readOf}
-use Rattle.listing.specs.Program.{programColumns, Said, said, flatReport, flatOf, built, builtFrom, saidOf, listingOf}
+use Rattle.listing.specs.Program.{programColumns, Drawn, drawnOf, refused, Said, said, flatReport, flatOf, built, builtFrom, saidFrom, saidOf, listingOf}
 use Rattle.listing.proofs.ProgramLaws.{too-long, after-stopped, after-finished}
 use Rattle.listing.proofs.PrintingLaws.{printed-same, good-after, longest-after}
 use Rattle.promises.specs.Accepted.{flatteningOf}
@@ -39,17 +40,20 @@ module _ (cs : List TextCommand) where
   abbrev flatAnswer : Answer
   flatAnswer = flatteningOf (jobOf cs) .result .answer
 
-  build-said : isDone (builtOf cs .answer) ≡ false → builtFrom (drawingOf cs) ≡ said (builtOf cs .answer) 0 []
-  unfolding builtFrom built
-  build-said e = ap (λ (b : Bool). built b (builtOf cs)) e
+  abbrev buildSaid : Said
+  buildSaid = saidFrom Screen (builtFrom (drawingOf cs))
 
-  flat-said : isDone (builtOf cs .answer) ≡ true → isDone flatAnswer ≡ false → builtFrom (drawingOf cs) ≡ said flatAnswer 0 []
-  unfolding builtFrom built flatOf flatReport
-  flat-said e f = ap (λ (b : Bool). built b (builtOf cs)) e ∙ ap (λ (b : Bool). flatReport b (flatteningOf (jobOf cs))) f
+  build-said : isDone (builtOf cs .answer) ≡ false → buildSaid ≡ said (builtOf cs .answer) 0 []
+  unfolding builtFrom built saidFrom
+  build-said e = ap (λ (b : Bool). saidFrom Screen (built b (builtOf cs))) e
 
-  done-said : isDone (builtOf cs .answer) ≡ true → isDone flatAnswer ≡ true → builtFrom (drawingOf cs) ≡ said Done 0 (pointsIn (flatteningOf (jobOf cs)))
-  unfolding builtFrom built flatOf flatReport
-  done-said e f = ap (λ (b : Bool). built b (builtOf cs)) e ∙ ap (λ (b : Bool). flatReport b (flatteningOf (jobOf cs))) f
+  flat-said : isDone (builtOf cs .answer) ≡ true → isDone flatAnswer ≡ false → buildSaid ≡ said flatAnswer 0 []
+  unfolding builtFrom built saidFrom flatOf flatReport
+  flat-said e f = ap (λ (b : Bool). saidFrom Screen (built b (builtOf cs))) e ∙ ap (λ (b : Bool). flatReport Screen b (flatteningOf (jobOf cs))) f
+
+  done-said : isDone (builtOf cs .answer) ≡ true → isDone flatAnswer ≡ true → buildSaid ≡ said Done 0 (pointsIn (flatteningOf (jobOf cs)))
+  unfolding builtFrom built saidFrom flatOf flatReport
+  done-said e f = ap (λ (b : Bool). saidFrom Screen (built b (builtOf cs))) e ∙ ap (λ (b : Bool). flatReport Screen b (flatteningOf (jobOf cs))) f
 
 -- ---- two stops have the same answer, and two longest beginnings have equally many lines
 stopAnswer : Progress → Answer
@@ -139,34 +143,44 @@ module _ (text : List ℕ) where
           ap (stopped BadText) (G .due ∙ ap (λ (n : ℕ). 1 + n) (longest-lines text (G .beginning) (F .beginning) (G .longest) (F .longest)) ∙ sym (F .due))
 
   -- ---- what is said, from each cause
+  drawn-said : (d : Drawn) → d ≡ drawnOf text → saidOf Screen text ≡ saidFrom Screen d
+  unfolding saidOf
+  drawn-said d e = sym (ap (saidFrom Screen) e)
+
+  long-said : 16384 < length text → saidOf Screen text ≡ said InputTooLong 0 []
+  unfolding saidFrom
+  long-said h = drawn-said (refused InputTooLong 0) (too-long text h)
+
   module _ (s : Short text) where
-    stop-said : (a : Answer) (l : ℕ) → readOf text fresh ≡ stopped a l → saidOf text ≡ said a l []
-    stop-said a l e = sym (after-stopped text s a l (sym e))
+    stop-said : (a : Answer) (l : ℕ) → readOf text fresh ≡ stopped a l → saidOf Screen text ≡ said a l []
+    unfolding saidFrom
+    stop-said a l e = drawn-said (refused a l) (after-stopped text s a l (sym e))
 
-    whole-said : (R : ReadWhole text) → saidOf text ≡ builtFrom (drawingOf (R .good .commands))
-    whole-said R = sym (after-finished text s (drawingOf (R .good .commands)) (sym (whole-read R)))
+    whole-said : (R : ReadWhole text) → saidOf Screen text ≡ buildSaid (R .good .commands)
+    whole-said R =
+        let o = drawingOf (R .good .commands) in drawn-said (builtFrom o) (after-finished text s o (sym (whole-read R)))
 
-    builds-said : (a : Answer) → isDone a ≡ false → Builds text a → saidOf text ≡ said a 0 []
+    builds-said : (a : Answer) → isDone a ≡ false → Builds text a → saidOf Screen text ≡ said a 0 []
     builds-said a n B =
         let cs = B .read .good .commands in
         whole-said (B .read) ∙ build-said cs (ap isDone (B .answer) ∙ n) ∙ ap (λ (b : Answer). said b 0 []) (B .answer)
 
-    flattens-said : (a : Answer) → isDone a ≡ false → Flattens text a → saidOf text ≡ said a 0 []
+    flattens-said : (a : Answer) → isDone a ≡ false → Flattens text a → saidOf Screen text ≡ said a 0 []
     flattens-said a n F =
         let cs = F .read .good .commands in
         whole-said (F .read) ∙ flat-said cs (ap isDone (F .built)) (ap isDone (F .answer) ∙ n) ∙ ap (λ (b : Answer). said b 0 []) (F .answer)
 
-    finishes-said : (F : Flattens text Done) → saidOf text ≡ said Done 0 (pointsIn (flatteningOf (jobOf (F .read .good .commands))))
+    finishes-said : (F : Flattens text Done) → saidOf Screen text ≡ said Done 0 (pointsIn (flatteningOf (jobOf (F .read .good .commands))))
     finishes-said F = whole-said (F .read) ∙ done-said (F .read .good .commands) (ap isDone (F .built)) (ap isDone (F .answer))
 
   -- ---- from the table to what is said
   abbrev SaidSo : Answer → ℕ → Type 0
-  SaidSo a line = (saidOf text .answer ≡ a) × (saidOf text .line ≡ line)
+  SaidSo a line = (saidOf Screen text .answer ≡ a) × (saidOf Screen text .line ≡ line)
 
-  so : (a : Answer) (line : ℕ) (ps : List Finished) → saidOf text ≡ said a line ps → SaidSo a line
+  so : (a : Answer) (line : ℕ) (ps : List Finished) → saidOf Screen text ≡ said a line ps → SaidSo a line
   so a line ps e = (ap (λ (s : Said). s .answer) e, ap (λ (s : Said). s .line) e)
 
-  so-zero : (a : Answer) (line : ℕ) (ps : List Finished) → line ≡ 0 → saidOf text ≡ said a 0 ps → SaidSo a line
+  so-zero : (a : Answer) (line : ℕ) (ps : List Finished) → line ≡ 0 → saidOf Screen text ≡ said a 0 ps → SaidSo a line
   so-zero a line ps z e = so a line ps (e ∙ ap (λ (l : ℕ). said a l ps) (sym z))
 
   refused-so : (a : Answer) (line : ℕ) → Short text × RefusedCall text a line → SaidSo a line
@@ -191,7 +205,9 @@ module _ (text : List ℕ) where
   given-so SumTooLarge line z = flattens-so SumTooLarge line refl z
   given-so OutputShort line z = flattens-so OutputShort line refl z
   given-so BadText line z = so BadText line [] (stop-said (z .0) BadText line (faulty-read line (z .1)))
-  given-so InputTooLong line z = so-zero InputTooLong line [] (z .1) (sym (too-long text (z .0)))
+  given-so InputTooLong line z = so-zero InputTooLong line [] (z .1) (long-said (z .0))
+  given-so NotPrintable line z = absurd z
+  given-so BufferShort line z = absurd z
 
   -- ---- from what is said to the table: a refused call is 1, 2 or 4
   refused-given : Short text → (a : Answer) (l : ℕ) → RefusedCall text a l → numberOf a ≤ 4 → GivenWhen text a l
@@ -208,6 +224,8 @@ module _ (text : List ℕ) where
   refused-given s OutputShort l R h = absurd (not-le-of-lt (lit< tt) h)
   refused-given s BadText l R h = absurd (not-le-of-lt (lit< tt) h)
   refused-given s InputTooLong l R h = absurd (not-le-of-lt (lit< tt) h)
+  refused-given s NotPrintable l R h = absurd (not-le-of-lt (lit< tt) h)
+  refused-given s BufferShort l R h = absurd (not-le-of-lt (lit< tt) h)
 
   -- a refused flattening is 5 to 9
   flat-given : Short text → (a : Answer) → Flattens text a → FiveToNine a → GivenWhen text a 0
@@ -223,12 +241,14 @@ module _ (text : List ℕ) where
   flat-given s OutputShort F h = (s, F, refl)
   flat-given s BadText F h = absurd (not-le-of-lt (lit< tt) (h .1))
   flat-given s InputTooLong F h = absurd (not-le-of-lt (lit< tt) (h .1))
+  flat-given s NotPrintable F h = absurd (not-le-of-lt (lit< tt) (h .1))
+  flat-given s BufferShort F h = absurd (not-le-of-lt (lit< tt) (h .1))
 
   record Told (s : Said) : Type 0 where
     given : GivenWhen text (s .answer) (s .line)
     no-points : s .answer ≢ Done → s .points ≡ []
 
-  whole-told : Short text → (R : ReadWhole text) → Told (builtFrom (drawingOf (R .good .commands)))
+  whole-told : Short text → (R : ReadWhole text) → Told (buildSaid (R .good .commands))
   whole-told s R = by-build (isDone (b .answer)) refl
     where
       cs : List TextCommand
@@ -237,7 +257,7 @@ module _ (text : List ℕ) where
       b : Outcome
       b = builtOf cs
 
-      by-flat : (k : Bool) → isDone (b .answer) ≡ true → isDone (flatAnswer cs) ≡ k → Told (builtFrom (drawingOf cs))
+      by-flat : (k : Bool) → isDone (b .answer) ≡ true → isDone (flatAnswer cs) ≡ k → Told (buildSaid cs)
       by-flat true e h =
           let F : Flattens text Done = record { read = R; built = done-is (b .answer) e; answer = done-is (flatAnswer cs) h } in
           subst Told (sym (done-said cs e h)) (record { given = (s, F, refl); no-points = λ n. absurd (n refl) })
@@ -246,28 +266,28 @@ module _ (text : List ℕ) where
           subst Told (sym (flat-said cs e h))
           (record { given = flat-given s (flatAnswer cs) F (flat-number (jobOf cs) (drawable-built cs) h); no-points = λ n. refl })
 
-      by-build : (k : Bool) → isDone (b .answer) ≡ k → Told (builtFrom (drawingOf cs))
+      by-build : (k : Bool) → isDone (b .answer) ≡ k → Told (buildSaid cs)
       by-build true e = by-flat (isDone (flatAnswer cs)) e refl
       by-build false e =
           let q : b .answer ≡ StoreFull = build-four (drawingOf cs .state) (drawingOf cs .columns) (usable-drawing cs) e in
           subst Told (sym (build-said cs e ∙ ap (λ (a : Answer). said a 0 []) q))
           (record { given = (s, inr (record { read = R; answer = q }, refl)); no-points = λ n. refl })
 
-  told : Told (saidOf text)
+  told : Told (saidOf Screen text)
   told = by-length (decLe (length text) 16384)
     where
       over : (n : ℕ) → (n ≤ 16384 → ⊥) → 16384 < n
       over n h = omega arith
 
-      by-cause : Short text → (r : Progress) → readOf text fresh ≡ r → Cause r → Told (saidOf text)
+      by-cause : Short text → (r : Progress) → readOf text fresh ≡ r → Cause r → Told (saidOf Screen text)
       by-cause s r h (by-whole R) = subst Told (sym (whole-said s R)) (whole-told s R)
       by-cause s r h (by-refusal a l R) =
           subst Told (sym (stop-said s a l h)) (record { given = refused-given s a l R (refused-number a l R); no-points = λ n. refl })
       by-cause s r h (by-fault l F) = subst Told (sym (stop-said s BadText l h)) (record { given = (s, F); no-points = λ n. refl })
 
-      by-length : Dec (length text ≤ 16384) → Told (saidOf text)
+      by-length : Dec (length text ≤ 16384) → Told (saidOf Screen text)
       by-length (yes s) = by-cause s (readOf text fresh) refl cause
-      by-length (no h) = subst Told (too-long text (over (length text) h)) (record { given = (over (length text) h, refl); no-points = λ n. refl })
+      by-length (no h) = subst Told (sym (long-said (over (length text) h))) (record { given = (over (length text) h, refl); no-points = λ n. refl })
 
 pub listing-exact : ListingExact
 unfolding listingOf

@@ -36,7 +36,7 @@ use Rattle.text.specs.Bytes.{sameBytes, partAt, standsAt}
 use Rattle.text.specs.Decimal.{decimalIn, decimalOf}
 use Rattle.text.specs.Hex.{hexDigitOf, hexValueOf, allHex, hexNumber, hexStandsAt, hexNumberAt, hexDigits, hexOf}
 use Rattle.listing.specs.Grammar.{opLineOf, quadKeys, cubicKeys, keysOf, callOf}
-use Rattle.listing.specs.Program.{zeros, programColumns, programQuads, programSplines, programOutput, flatReport, flatOf, built, builtFrom, afterReading, listingIn, saidOf, listingOf}
+use Rattle.listing.specs.Program.{zeros, programColumns, programQuads, programSplines, programOutput, built, builtFrom, afterReading, drawnIn, drawnOf, flatReport, flatOf, saidFrom, saidOf, listingOf}
 use Rattle.listing.specs.Reading.{fieldStandsAt, fieldValueAt, fieldsFrom, withFields, commandFrom, tryOps, commandAt, afterCall, afterCommand, stepOf, stepsOf, readOf}
 use Rattle.listing.specs.Writing.{lineOf, pointLines, allPointLines, reportOf}
 use Rattle.promises.specs.Examples.{Example}
@@ -55,7 +55,7 @@ unfolding rootIn root rooted bitsOf floatOf fmaOf piecesOf cutTo sixthRootOf neg
     cursorFrom cursorAfter splineItemsOf walkFrom walkOf wordOf wordsOf previousSumOf parameterOf stepPointOf commandPointOf itemPointOf pointsOf over
     fitsOutput writeOutput walked tabled flattenDrawable flattenOf sameBytes partAt standsAt decimalIn decimalOf hexDigitOf hexValueOf allHex
     hexNumber hexStandsAt hexNumberAt hexDigits hexOf opLineOf quadKeys cubicKeys keysOf callOf zeros programColumns programQuads programSplines
-    programOutput flatReport flatOf built builtFrom afterReading listingIn saidOf listingOf fieldStandsAt fieldValueAt fieldsFrom withFields
+    programOutput built builtFrom afterReading drawnIn drawnOf flatReport flatOf saidFrom saidOf listingOf fieldStandsAt fieldValueAt fieldsFrom withFields
     commandFrom tryOps commandAt afterCall afterCommand stepOf stepsOf readOf lineOf pointLines allPointLines reportOf trailingZeros size span climb
     odd units round neg sum add sub mul div lt eq le ofInt isNan ofFields ofBits toBits
 listings-hold = refl

@@ -28,7 +28,7 @@ use Rattle.listing.specs.Writing.{Listing, listed, listedAs}
 use Rattle.listing.specs.Program.{listingOf}
 use Rattle.promises.specs.Settled.{Settles, ValueSettled, ResultAndKeptSettled, ColumnsSettled, QuadsSettled, SplinesSettled, OutputSettled}
 use Rattle.promises.specs.Settled.{DrawnSettled, TablesSettled, DeliveredSettled, FlattenSettled, ReplySettled, FlatReplySettled}
-use Rattle.promises.specs.Settled.{ListingSettled, Lists, ListingLists, PairSettled, TwoPointsSettled, ThreePointsSettled, HasStopped}
+use Rattle.promises.specs.Settled.{TellingSettled, ListingSettled, Lists, ListingLists, PairSettled, TwoPointsSettled, ThreePointsSettled, HasStopped}
 use Rattle.promises.specs.Settled.{has-stopped, ReadSettled}
 
 -- a form settles an outcome if the outcome's parts can be found again in what the form puts together
@@ -71,7 +71,10 @@ reply-settled = told _ (λ o. (o .answer, o .state .points, o .state .commands, 
 pub flat-reply-settled : FlatReplySettled
 flat-reply-settled = told _ (λ f. (f .answer, f .splines, f .quads, f .points, f .quadTable, f .splineTable, f .output)) (λ a. refl)
 
--- ---- the program's listing
+-- ---- the program's front half, and its listing
+pub telling-settled : TellingSettled
+telling-settled = told _ (λ t. (t .result, t .output)) (λ a. refl)
+
 pub listing-settled : ListingSettled
 listing-settled = told _ (λ l. (l .result, l .output)) (λ a. refl)
 

@@ -9,7 +9,7 @@ use mathlib.Core.Bool.{cond}
 use mathlib.Core.List.{List, [], _∷_, _++_}
 use lib.ListN.{length}
 use Rattle.answer.specs.declared.Answer.{Answer}
-use Rattle.answer.specs.declared.Answer.the-variants.{Done, BadCoordinate, BadWeight, Unusable, StoreFull, TooManyPieces, QuadsFull, SplinesFull, SumTooLarge, OutputShort, BadText, InputTooLong}
+use Rattle.answer.specs.declared.Answer.the-variants.{Done, BadCoordinate, BadWeight, Unusable, StoreFull, TooManyPieces, QuadsFull, SplinesFull, SumTooLarge, OutputShort, BadText, InputTooLong, NotPrintable, BufferShort}
 use Rattle.answer.specs.Number.{isDone}
 use Rattle.point.specs.declared.Setting.the-variants.{Screen}
 use Rattle.store.specs.declared.Call.{Call}
@@ -115,15 +115,18 @@ GivenWhen text OutputShort line = Short text × Flattens text OutputShort × (li
 GivenWhen text BadText line = Short text × Faulty text line
 -- "input over 16,384 bytes"
 GivenWhen text InputTooLong line = (16384 < length text) × (line ≡ 0)
+-- the program rounds no coordinate, and its buffers hold every output
+GivenWhen text NotPrintable line = ⊥
+GivenWhen text BufferShort line = ⊥
 
 pub record ListingAnswers (text : List ℕ) : Type 0 where
-  pub answers : (a : Answer) (line : ℕ) → ((saidOf text .answer ≡ a) × (saidOf text .line ≡ line)) ↔ GivenWhen text a line
+  pub answers : (a : Answer) (line : ℕ) → ((saidOf Screen text .answer ≡ a) × (saidOf Screen text .line ≡ line)) ↔ GivenWhen text a line
   -- on 0 the points are those of the drawing that the calls make
-  pub points : Short text → (F : Flattens text Done) → saidOf text .points ≡ pointsIn (flatteningOf (jobOf (F .read .good .commands)))
+  pub points : Short text → (F : Flattens text Done) → saidOf Screen text .points ≡ pointsIn (flatteningOf (jobOf (F .read .good .commands)))
   -- "On a refusal points is 0 and no point follows."
-  pub no-points : saidOf text .answer ≢ Done → saidOf text .points ≡ []
+  pub no-points : saidOf Screen text .answer ≢ Done → saidOf Screen text .points ≡ []
   -- the output is the bytes of what the program says
-  pub output : listingOf text ≡ reportOf (saidOf text .answer) (saidOf text .line) (saidOf text .points)
+  pub output : listingOf text ≡ reportOf (saidOf Screen text .answer) (saidOf Screen text .line) (saidOf Screen text .points)
 
 abbrev pub ListingExact : Type 0
 ListingExact = (text : List ℕ) → ListingAnswers text

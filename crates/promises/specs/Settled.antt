@@ -23,11 +23,13 @@ use Rattle.listing.specs.declared.Pair as Pairs
 use Rattle.listing.specs.declared.TwoPoints.{TwoPoints}
 use Rattle.listing.specs.declared.ThreePoints.{ThreePoints}
 use Rattle.listing.specs.declared.Progress as Progresses
+use Rattle.listing.specs.declared.Account.{Account}
 use Rattle.listing.specs.declared.Listed.{Listed}
 use Rattle.listing.specs.declared.Listed.the-variants.{Bytes, Short}
 use Rattle.listing.specs.Reading.{pairFields, twoPointsFields, threePointsFields, Progress, stopped, progressOf}
 use Rattle.listing.specs.Writing.{listed, listedAs}
 use Rattle.listing.specs.Program.{listingOf}
+use Rattle.listing.specs.Told.{telling}
 use Rattle.abi.specs.Reply.{reply, flatReply}
 
 -- a form puts the parts of an outcome together, and a contract of that form says `form parts ≡ d`
@@ -78,6 +80,10 @@ ReplySettled = Settles (λ (o : ℕ × ℕ × ℕ × ℕ × Columns). reply (o .
 
 abbrev pub FlatReplySettled : Type 0
 FlatReplySettled = Settles (λ (f : ℕ × ℕ × ℕ × ℕ × QuadTable × SplineTable × Output). flatReply (f .0) (f .1) (f .2) (f .3) (f .4) (f .5) (f .6))
+
+-- ---- the program's front half: the result, and words and points
+abbrev pub TellingSettled : Type 0
+TellingSettled = Settles (λ (t : Account × Output). telling (t .0) (t .1))
 
 -- ---- the program's listing: the result, and the whole output
 abbrev pub ListingSettled : Type 0

@@ -5,3 +5,4 @@ pub mod Decimals
 pub mod Stores
 pub mod Minus
 pub mod ReadDecimal
+pub mod Written

@@ -1,1 +1,4 @@
+pub mod Nearest
 pub mod Units
+pub mod Points
+pub mod Examples

@@ -1,17 +1,15 @@
 -- Laws of one coordinate: what the code makes of its size and its sign is what `unitOf` says. Assumes nothing.
 use mathlib.Core.Path.{_≡_, refl, sym, ap, ap₂, _∙_, subst}
-use mathlib.Core.Bool.{Bool, true, false, _&&_, cond, true≢false}
+use mathlib.Core.Bool.{Bool, true, false, _&&_, cond}
 use Prim.Native.Nat.{ℕ, zero, suc, _+_, _*_, _/_, _<_, _≤_}
-use native.Mathlib.Nat.{mul-pos, zero-lt-suc, le-refl, lt-of-le-of-lt, lt-of-lt-of-le, le-div-iff-mul-le}
+use native.Mathlib.Nat.{mul-pos, zero-lt-suc, le-div-iff-mul-le}
 use native.Mathlib.Omega.{arith}
 use lib.IntN.{ℤ, pos, negsuc, negℤ, _-ℤ_, +ℤ-idl}
 use lib.Dec.{leb, leb·suc-suc, lit<}
 use lib.Signed.{mag}
 use lib.Ieee.{Float, nan, inf, fin, up, down, le, lt, eq, neg, ofBits}
 use lib.Ieee.Fits.{down-pos}
-use lib.Ieee.Scale.{finite}
-use lib.Ieee.Positive.{num, den}
-use borrow.Author.Tests.{le-leb, lt-leb}
+use borrow.Author.Tests.{leb-true, lt-leb}
 use mir.Syntax.{w32}
 use mir.Val.{SFits, ofZ, toZ}
 use mir.Facts.{toZ-ofZ, toZ-pos}
@@ -90,6 +88,9 @@ unit-is x s n h k = ap₂ of-size h k ∙ of-both x
 small : (n : ℕ) → n ≤ 32768 → n < 2147483648
 small n h = omega arith
 
+less : (n : ℕ) → n ≤ 32767 → n ≤ 32768
+less n h = omega arith
+
 pub negated : (n : ℕ) → n ≤ 32768 → toZ w32 0 -ℤ toZ w32 n ≡ negℤ (pos n)
 negated n h = ap (λ (z : ℤ). pos 0 -ℤ z) (toZ-pos w32 (small n h)) ∙ +ℤ-idl (negℤ (pos n))
 
@@ -108,6 +109,9 @@ negative-is n h = toZ-ofZ (negated-fits n h) ∙ negated n h
 
 pub positive-is : (n : ℕ) → n ≤ 32767 → toZ w32 n ≡ signed false n
 positive-is n h = toZ-pos w32 (small n (less n h))
-  where
-    less : (n : ℕ) → n ≤ 32767 → n ≤ 32768
-    less n h = omega arith
+
+-- what is in range fits
+pub range-fits : (z : ℤ) → inRange z ≡ true → SFits w32 z
+unfolding inRange
+range-fits (pos n) h = record { sfits = small n (less n (leb-true n 32767 h)) }
+range-fits (negsuc n) h = record { sfits = small n (less n (leb-true n 32767 h)) }

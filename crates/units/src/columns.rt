@@ -6,11 +6,11 @@ ghost use Prim.Native.Nat.{_≤_};
 ghost use lib.ListN.{length, take};
 ghost use lib.Seq.{sets};
 ghost use mathlib.Core.List.{map};
-ghost use Rattle.units.specs.Whole.{printableOf, wholeOf};
+ghost use Rattle.units.specs.Whole.{wholeOf};
 ghost use Rattle.units.specs.Columns.{allPrintable, rounding, roundingOf};
 use crate::Unit;
 use crate::Wholes;
-use crate::nearest::whole;
+use crate::coordinate::whole;
 use answer::Answer;
 
 // Whether the first n entries round into the plotter's range.

@@ -3,10 +3,10 @@
 use answer::Answer;
 
 mod columns;
-mod nearest;
+mod coordinate;
 
 pub use columns::whole_points;
-pub use nearest::whole;
+pub use coordinate::whole;
 
 // A coordinate in plotter units, or that it is NaN or rounds outside -32,768..32,767.
 pub enum Unit {

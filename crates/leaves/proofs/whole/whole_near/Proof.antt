@@ -1,7 +1,7 @@
 -- `leaves::whole::whole_near` meets its contract. Assumes nothing.
 use mathlib.Core.Path.{_≡_, refl, sym, _∙_}
 use mathlib.Core.Bool.{true, false}
-use Prim.Native.Nat.{ℕ, suc, _+_, _-_, _*_, _/_, _^_, _≤_}
+use Prim.Native.Nat.{ℕ, _+_, _-_, _*_, _/_, _^_, _≤_}
 use native.Mathlib.Omega.{arith}
 use borrow.Author.Needs.{needs}
 use native.Mathlib.Nat.{lt-of-le-of-lt, lt-of-lt-of-le, le-of-eq}
@@ -13,7 +13,7 @@ use Rattle.rounding.proofs.Parts.{sig-lt, leads, decode}
 use Rattle.leaves.specs.Whole.{limit32, wholeNearOf}
 use Rattle.leaves.proofs.Comparisons.{held}
 use Rattle.leaves.proofs.WholeUp.{no-nan-of, place-small, pattern-value}
-use Rattle.leaves.proofs.WholeNear.{within, digits-near, whole-near-is, near-le}
+use Rattle.leaves.proofs.WholeNear.{within, digits-near, whole-near-is, near-lt}
 use Rattle.leaves.proofs.whole.whole_near.Statement.{statement}
 use Rattle.leaves.proofs.whole.whole_near.Tie as tie
 
@@ -62,7 +62,7 @@ cast-result c =
     record {
       fits =
           lt-of-le-of-lt (le-of-eq (c .whole-nearest .ensures))
-          (lt-of-lt-of-le (near-le (t .result) (2 ^ d) (pow-pos d))
+          (lt-of-lt-of-le (near-lt (t .result) (2 ^ d) (pow-pos d))
           (lt-of-lt-of-le (lt-of-le-of-lt (le-of-eq (t .ensures)) (sig-lt binary32 (toBits binary32 (c .before .before .before .before .before .args .x))))
           (lit≤ tt)));
     }

@@ -1,38 +1,48 @@
+-- `plot::writing::put_number` meets its contract. Assumes nothing.
+use mathlib.Core.Path.{_≡_, ap, _∙_}
+use Prim.Native.Nat.{ℕ, _+_, _≤_}
+use native.Mathlib.Omega.{arith}
+use lib.IntN.{ℤ}
+use lib.ListN.{length}
+use Rattle.text.specs.Signed.{signedOf}
+use Rattle.plot.proofs.Spots.{wide-fits, wide-back}
+use Rattle.plot.proofs.Writes.{number-written}
 use borrow.Author.Needs.{needs}
 use Rattle.plot.proofs.writing.put_number.Statement.{statement}
 use Rattle.plot.proofs.writing.put_number.Tie as tie
-use Rattle.plot.proofs.writing.put_number.Reads as reads
-use Rattle.plot.proofs.writing.put_number.Lts as lts
-use Rattle.text.proofs.put_byte.Reads as put-byte-reads
-use Rattle.text.proofs.put_signed.Reads as put-signed-reads
 
--- src/writing.rt:38:45
 cast-put-signed : tie.Need-cast-put-signed
-cast-put-signed c = ?
+cast-put-signed c = let st = c .before .before in wide-fits (st .args .n) (st .fits .n)
 
--- src/writing.rt:38:9
+-- the count of the number's bytes
+digits : (c : tie.After-put-signed) → c .put-signed .result ≡ length (signedOf (c .before .before .before .args .n))
+digits c =
+    let st = c .before .before .before in
+    c .put-signed .ensures .0 ∙ ap (λ (z : ℤ). length (signedOf z)) (wide-back (st .args .n) (st .fits .n))
+
 put-signed-requires : tie.Need-put-signed-requires
 put-signed-requires c κs = search needs
 
--- src/writing.rt:39:18
 add-behind : tie.Need-add-behind
-add-behind c = ?
+add-behind c = let w = c .before .before in omega (arith, digits w, w .before .before .before .pre)
 
--- src/writing.rt:40:5
 put-byte-requires : tie.Need-put-byte-requires
 put-byte-requires c κs = search needs
 
--- src/writing.rt:41:5
 add-result : tie.Need-add-result
-add-result c = ?
+add-result c =
+    let w = c .before .before .before .before .before .before in
+    omega (arith, digits w, w .before .before .before .pre)
 
--- src/writing.rt:34:1
 same-length : tie.Need-same-length
 same-length c = search needs
 
--- src/writing.rt:34:1
 returns : tie.Need-returns
-returns c = ?
+returns c =
+    let w = c .before .before .before .before .before .before in
+    let st = w .before .before .before in
+    number-written (st .args .n) _ _ _ _ (st .args .at) _ (st .args .after) (wide-back (st .args .n) (st .fits .n)) (w .put-signed .ensures .0)
+    (w .put-signed .ensures .1) (c .before .before .put-byte .ensures)
 
 pub put-number-spec : {M : Type 1} → statement M
 put-number-spec =

@@ -7,6 +7,7 @@ use crate::Unit;
 pub fn whole(x: f32) -> Unit
     ensures { λ r. ⌜ r ≡ unitOf x ⌝ }
 {
+    // 65,537 for a NaN and for what is far beyond, so that the tests below refuse both
     let size = leaves::whole_near(x);
     if leaves::negative(x) {
         if size > 32768 {

@@ -1,13 +1,12 @@
--- `units::nearest::whole` meets its contract. Assumes nothing.
-use mathlib.Core.Path.{_≡_, sym, ap, _∙_}
-use mathlib.Core.Bool.{Bool, true, false}
+-- `units::coordinate::whole` meets its contract. Assumes nothing.
+use mathlib.Core.Path.{sym, ap, _∙_}
+use mathlib.Core.Bool.{true, false}
 use borrow.Author.Needs.{needs}
 use borrow.Author.Tests.{le-leb, lt-leb}
 use Rattle.units.specs.declared.Unit.the-variants.{Whole}
-use Rattle.units.specs.Whole.{unitOf}
-use Rattle.units.proofs.Units.{of-size, range-above, range-below, size-yes, size-no, unit-is, negated-fits, negative-is, positive-is}
-use Rattle.units.proofs.nearest.whole.Statement.{statement}
-use Rattle.units.proofs.nearest.whole.Tie as tie
+use Rattle.units.proofs.Units.{range-above, range-below, size-yes, size-no, unit-is, negated-fits, negative-is, positive-is}
+use Rattle.units.proofs.coordinate.whole.Statement.{statement}
+use Rattle.units.proofs.coordinate.whole.Tie as tie
 
 whole-near-requires : tie.Need-whole-near-requires
 whole-near-requires c κs = search needs
@@ -15,15 +14,12 @@ whole-near-requires c κs = search needs
 negative-requires : tie.Need-negative-requires
 negative-requires c κs = search needs
 
--- from the size and the sign that the calls gave
-unit : (c : tie.After-negative) (s : Bool) → c .negative .result ≡ s → of-size s (c .before .whole-near .result) ≡ unitOf (c .before .before .args .x)
-unit c s h =
-    unit-is (c .before .before .args .x) s (c .before .whole-near .result) (sym h ∙ c .negative .ensures) (c .before .whole-near .ensures)
-
 returns : tie.Need-returns
 returns c =
     let n = c .before .before .before .whole-near .result in
-    size-no true n (range-below n ∙ lt-leb n 32768 (c .if2 .taken)) ∙ unit (c .before .before) true (c .before .if1 .taken)
+    size-no true n (range-below n ∙ lt-leb n 32768 (c .if2 .taken))
+    ∙ unit-is (c .before .before .before .before .args .x) true n (sym (c .before .if1 .taken) ∙ c .before .before .negative .ensures)
+    (c .before .before .before .whole-near .ensures)
 
 cast-n : tie.Need-cast-n
 cast-n c = search needs
@@ -36,12 +32,15 @@ returns-2 c =
     let n = c .before .before .before .whole-near .result in
     ap Whole (negative-is n (c .if2 .left))
     ∙ size-yes true n (range-below n ∙ le-leb n 32768 (c .if2 .left))
-    ∙ unit (c .before .before) true (c .before .if1 .taken)
+    ∙ unit-is (c .before .before .before .before .args .x) true n (sym (c .before .if1 .taken) ∙ c .before .before .negative .ensures)
+    (c .before .before .before .whole-near .ensures)
 
 returns-3 : tie.Need-returns-3
 returns-3 c =
     let n = c .before .before .before .whole-near .result in
-    size-no false n (range-above n ∙ lt-leb n 32767 (c .if3 .taken)) ∙ unit (c .before .before) false (c .before .if1 .left)
+    size-no false n (range-above n ∙ lt-leb n 32767 (c .if3 .taken))
+    ∙ unit-is (c .before .before .before .before .args .x) false n (sym (c .before .if1 .left) ∙ c .before .before .negative .ensures)
+    (c .before .before .before .whole-near .ensures)
 
 cast-above : tie.Need-cast-above
 cast-above c = search needs
@@ -51,7 +50,8 @@ returns-4 c =
     let n = c .before .before .before .whole-near .result in
     ap Whole (positive-is n (c .if3 .left))
     ∙ size-yes false n (range-above n ∙ le-leb n 32767 (c .if3 .left))
-    ∙ unit (c .before .before) false (c .before .if1 .left)
+    ∙ unit-is (c .before .before .before .before .args .x) false n (sym (c .before .if1 .left) ∙ c .before .before .negative .ensures)
+    (c .before .before .before .whole-near .ensures)
 
 pub whole-spec : {M : Type 1} → statement M
 whole-spec =
