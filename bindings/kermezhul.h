@@ -12,6 +12,11 @@
  *   2 a weight is NaN or outside 1/64..64             7 the spline table is full, or holds 4,194,304
  *   3 the store is unusable                           8 a spline's running sum would pass 65,536
  *   4 the store is full                               9 words or outputs are shorter than the walk
+ *
+ *  12 a coordinate is NaN or infinite, or rounds      13 the text, or a column of whole numbers, is
+ *     outside -32,768..32,767                            too short
+ *
+ * 10 and 11 are the program's alone.
  */
 #ifndef KERMEZHUL_H
 #define KERMEZHUL_H
@@ -89,6 +94,32 @@ uint32_t kermezhul_flatten(
     uint8_t *contour, size_t contour_len, size_t *first_quad, size_t first_quad_len, uint32_t *quad_count, size_t quad_count_len,
     uint32_t *words, size_t words_len, float *out_x, size_t out_x_len, float *out_y, size_t out_y_len, uint8_t *out_end, size_t out_end_len,
     size_t *splines, size_t *quads, size_t *length);
+
+/* Finished points, flattened or made by hand: x, y and end, as many as the shortest of the three has entries. What a longer one holds past that is neither
+ * tested nor written. Any byte of `end` but 0 is a flag. A contour ends at a flagged point or with the list. A Start inside a contour is a point like any other.
+ *
+ * One drawing unit is one plotter unit. A coordinate becomes the whole number nearest to its exact value, halves away from zero: 0.5 is 1, -2.5 is -3, -0.4 is
+ * 0. One that is NaN or infinite, or becomes a number outside -32,768..32,767, is refused with 12, whichever point it is of; 32767.5 and -32768.5 are refused. */
+
+/* Writes the points as HP-GL: `IN;`, then for each contour `PU x,y;` for its first point and `PD x,y;` for each later one. There is one blank, after each PU and
+ * PD, and no other, no line end, and no zero byte at the end. Numbers are plain decimal, and zero has no sign. A contour of one point is one PU. Without points
+ * the text is `IN;`.
+ *
+ *     x 0.5, -0.4, 7    y -2.5, 0, 7    end 0, 1, 0    gives    IN;PU 1,-3;PD 0,0;PU 7,7;
+ *
+ * Answers 0, 12 (a coordinate), then 13 (`text` is shorter than the text of all points). On every answer `written` is set, to how many bytes were written: all of
+ * the text on 0, none on a refusal. Bytes past it stay as they were. `text` and `written` may overlap nothing else that is lent.
+ * KERMEZHUL_PLOT_ROOM bytes are enough for any points that can be plotted. */
+#define KERMEZHUL_PLOT_ROOM(POINTS) (3 + 17 * (size_t)(POINTS))
+uint32_t kermezhul_plot(
+    const float *x, size_t x_len, const float *y, size_t y_len, const uint8_t *end, size_t end_len, uint8_t *text, size_t text_len, size_t *written);
+
+/* The points in whole plotter units, the numbers that `kermezhul_plot` prints. There are as many as the shorter of x and y has entries.
+ *
+ * Answers 0, 12 as above, then 13 (whole_x or whole_y is shorter than that). On every answer `points` is set, to how many were written: all on 0, none on a
+ * refusal. Entries past it stay as they were. whole_x, whole_y and `points` may overlap nothing else that is lent. */
+uint32_t kermezhul_whole(
+    const float *x, size_t x_len, const float *y, size_t y_len, int32_t *whole_x, size_t whole_x_len, int32_t *whole_y, size_t whole_y_len, size_t *points);
 
 /* The float leaves, for tests and measuring; docs/RULES.md, Numbers, says what each gives. All NaNs count as one. */
 float kermezhul_fma(float a, float b, float c);

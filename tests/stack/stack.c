@@ -1,6 +1,7 @@
-/* Prints how many bytes of stack the library's calls touch, a line `BYTES CALL` for each. Its status is 1 if one of them touches LIMIT bytes or more.
+/* Prints how many bytes of stack the library's calls touch, a line `BYTES KIND CALL` for each. The kind is `cut` for drawing and flattening and `tool` for what is
+ * made of finished points. The status is 1 if a call of the one kind touches CUT bytes or more, or one of the other TOOL bytes or more.
  *
- *     stack LIMIT
+ *     stack CUT TOOL
  *
  * Each call is made on a stack that was filled with one byte before. What it touches is counted from the stack pointer at the call, the return address
  * included, down to the lowest byte that has changed. */
@@ -148,13 +149,50 @@ static void call_flatten(void) {
         first_quad, SPLINES, quad_count, SPLINES, words, LENGTH, out_x, LENGTH, out_y, LENGTH, out_end, LENGTH, &splines, &quads, &length);
 }
 
+/* ---- what is made of finished points */
+
+static int32_t whole_x[LENGTH], whole_y[LENGTH];
+static uint8_t text[KERMEZHUL_PLOT_ROOM(LENGTH)];
+static size_t listed, room, written;
+static void call_plot(void) { answer = CALL(kermezhul_plot)(out_x, listed, out_y, listed, out_end, listed, text, room, &written); }
+static void call_whole(void) { answer = CALL(kermezhul_whole)(out_x, listed, out_y, listed, whole_x, room, whole_y, room, &written); }
+
+/* The plotter's whole range, numbers of all lengths, halves, and contours of any length. */
+static void fill_points(void) {
+    for (size_t i = 0; i < LENGTH; i++) {
+        float span = 32767;
+        for (size_t k = 0; k < i % 24; k++) span /= 2;
+        out_x[i] = i % 3 == 0 ? (float)(int)(span * number()) + 0.5f : span * number();
+        out_y[i] = span * number();
+        out_end[i] = number() > 0.8f;
+    }
+}
+
 /* ---- the figures */
 
-static size_t limit, too_much;
+static size_t cut_limit, tool_limit, too_much;
 
 static void figure(const char *name, size_t bytes) {
-    printf("%zu %s\n", bytes, name);
-    too_much += bytes >= limit;
+    printf("%zu cut %s\n", bytes, name);
+    too_much += bytes >= cut_limit;
+}
+
+/* A call on LENGTH points in enough room, in too little, with a NaN last, and on none; the most of these. */
+static void tool(const char *name, void (*calls)(void), void *function, size_t enough, size_t at_least) {
+    size_t most = 0;
+    for (int i = 0; i < 4; i++) {
+        static const uint32_t answers[] = {0, 13, 12, 0};
+        fill_points();
+        listed = i == 3 ? 0 : LENGTH;
+        room = i == 1 ? LENGTH - 1 : enough;
+        if (i == 2) out_y[LENGTH - 1] = __builtin_nanf("");
+        size_t bytes = touched(calls, function);
+        if (answer != answers[i]) stop(name, "it has another answer");
+        if (i == 0 && written < at_least) stop(name, "too little is written");
+        if (bytes > most) most = bytes;
+    }
+    printf("%zu tool %s\n", most, name);
+    too_much += most >= tool_limit;
 }
 
 static void flattenings(const char *names[2], void (*calls)(void), void *function, size_t at_least) {
@@ -172,8 +210,9 @@ static void flattenings(const char *names[2], void (*calls)(void), void *functio
     flattenings((const char *[]){"flatten, " KIND ", screen", "flatten, " KIND ", knife"}, call_##NAME, (void *)kermezhul_##NAME, AT_LEAST)
 
 int main(int count, char **argument) {
-    limit = count == 2 ? strtoul(argument[1], NULL, 10) : 0;
-    if (limit == 0) stop("usage", "stack LIMIT");
+    cut_limit = count == 3 ? strtoul(argument[1], NULL, 10) : 0;
+    tool_limit = count == 3 ? strtoul(argument[2], NULL, 10) : 0;
+    if (cut_limit == 0 || tool_limit == 0) stop("usage", "stack CUT TOOL");
     try_counting();
     FLATTENED("lines", line_to, COMMANDS / 2);
     FLATTENED("quads", quad_to, 4 * COMMANDS);
@@ -186,5 +225,7 @@ int main(int count, char **argument) {
     DRAWN(rat_quad_to, COMMANDS - 2);
     DRAWN(rat_cubic_to, COMMANDS - 2);
     DRAWN(build, 1);
+    tool("plot", call_plot, (void *)kermezhul_plot, sizeof text, 8 * LENGTH);
+    tool("whole", call_whole, (void *)kermezhul_whole, LENGTH, LENGTH);
     return too_much > 0;
 }

@@ -16,7 +16,7 @@
 //! assert_eq!((answer, state), (0, State { points: 2, commands: 2, opening: 0 }));
 //! ```
 //!
-//! `examples/draw.rs` flattens such a drawing.
+//! `examples/draw.rs` flattens such a drawing, `examples/plot.rs` plots one.
 
 /// The state beside a drawing's columns: how many points and commands are in use, and which point opened the contour.
 #[derive(Clone, Copy, Debug, Default, PartialEq, Eq)]
@@ -115,6 +115,31 @@ mod raw {
             splines: &mut usize,
             quads: &mut usize,
             length: &mut usize,
+        ) -> u32;
+    }
+
+    extern "C" {
+        pub fn kermezhul_plot(
+            x: *const f32,
+            x_len: usize,
+            y: *const f32,
+            y_len: usize,
+            end: *const u8,
+            end_len: usize,
+            text: *mut u8,
+            text_len: usize,
+            written: &mut usize,
+        ) -> u32;
+        pub fn kermezhul_whole(
+            x: *const f32,
+            x_len: usize,
+            y: *const f32,
+            y_len: usize,
+            whole_x: *mut i32,
+            whole_x_len: usize,
+            whole_y: *mut i32,
+            whole_y_len: usize,
+            points: &mut usize,
         ) -> u32;
     }
 
@@ -314,6 +339,92 @@ pub fn flatten(setting: Setting, st: State, drawn: Drawn, q: &mut Quads, s: &mut
         )
     };
     f
+}
+
+/// Finished points, flattened or made by hand, as many as the shortest column has entries. What a longer one holds past that is neither tested nor written.
+///
+/// Any byte of `end` but 0 is a flag. A contour ends at a flagged point or with the list. A Start inside a contour is a point like any other.
+#[derive(Clone, Copy)]
+pub struct Finished<'a> {
+    pub x: &'a [f32],
+    pub y: &'a [f32],
+    pub end: &'a [u8],
+}
+
+/// The answer, and how many bytes were written. On a refusal that is 0.
+#[derive(Clone, Copy, Debug, Default, PartialEq, Eq)]
+pub struct Plotted {
+    pub answer: u32,
+    pub written: usize,
+}
+
+/// How many bytes are enough for the text of any points that can be plotted: `IN;`, and `PU -32768,-32768;` for each.
+pub const fn plot_room(points: usize) -> usize {
+    points.saturating_mul(17).saturating_add(3)
+}
+
+/// Writes finished points as HP-GL: `IN;`, then for each contour `PU x,y;` for its first point and `PD x,y;` for each later one. There is one blank, after each
+/// PU and PD, and no other, no line end, and no zero byte at the end. A contour of one point is one PU.
+///
+/// One drawing unit is one plotter unit. A coordinate becomes the whole number nearest to its exact value, halves away from zero, in plain decimal; zero has no
+/// sign.
+///
+/// Answers 0, 12 (a coordinate of any point is NaN or infinite, or rounds outside -32,768..32,767), then 13 (`text` is shorter than the text of all points).
+/// Bytes past what was written never change.
+///
+/// ```no_run
+/// use kermezhul::{plot, plot_room, Finished};
+///
+/// let mut text = [0; plot_room(3)];
+/// let p = plot(Finished { x: &[0.5, -0.4, 7.0], y: &[-2.5, 0.0, 7.0], end: &[0, 1, 0] }, &mut text);
+/// assert_eq!(&text[..p.written], b"IN;PU 1,-3;PD 0,0;PU 7,7;");
+/// ```
+pub fn plot(points: Finished, text: &mut [u8]) -> Plotted {
+    let mut p = Plotted::default();
+    // SAFETY: the pointers and lengths are those of slices; `text` overlaps nothing, since it is borrowed mutably
+    p.answer = unsafe {
+        raw::kermezhul_plot(
+            points.x.as_ptr(),
+            points.x.len(),
+            points.y.as_ptr(),
+            points.y.len(),
+            points.end.as_ptr(),
+            points.end.len(),
+            text.as_mut_ptr(),
+            text.len(),
+            &mut p.written,
+        )
+    };
+    p
+}
+
+/// The answer, and how many points were written. On a refusal that is 0.
+#[derive(Clone, Copy, Debug, Default, PartialEq, Eq)]
+pub struct Rounded {
+    pub answer: u32,
+    pub points: usize,
+}
+
+/// Finished points in whole plotter units, the numbers that [`plot`] prints. There are as many as the shorter of x and y has entries.
+///
+/// Answers 0, 12 as [`plot`] does, then 13 (`whole_x` or `whole_y` is shorter than that). Entries past what was written never change.
+pub fn whole(x: &[f32], y: &[f32], whole_x: &mut [i32], whole_y: &mut [i32]) -> Rounded {
+    let mut r = Rounded::default();
+    // SAFETY: the pointers and lengths are those of slices; the mutable ones overlap nothing, since each is borrowed mutably
+    r.answer = unsafe {
+        raw::kermezhul_whole(
+            x.as_ptr(),
+            x.len(),
+            y.as_ptr(),
+            y.len(),
+            whole_x.as_mut_ptr(),
+            whole_x.len(),
+            whole_y.as_mut_ptr(),
+            whole_y.len(),
+            &mut r.points,
+        )
+    };
+    r
 }
 
 /// The float leaves, for tests.
