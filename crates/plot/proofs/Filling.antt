@@ -17,6 +17,7 @@ use Rattle.contours.specs.Finished.{Vertex}
 use Rattle.plot.specs.Text.{moveOf, penOf, movesOf}
 use Rattle.plot.specs.Plot.{allPrintable, wholeVertex, plotText}
 use Rattle.plot.proofs.Moves.{text-moves}
+use Rattle.plot.proofs.Measure.{move-length-is}
 use Rattle.plot.proofs.Counting.{printableAt}
 
 -- the moves from point i on
@@ -57,8 +58,9 @@ module _ (points : List (Vertex Float)) (text₀ : List ℕ) (n : ℕ) where
         and-left true b h = refl
         and-left false b h = h
 
-    pub filled-room : 3 + length (movesFrom points true 0) ≤ length text₀ → at + length (moveOf (penOf up) (wholeVertex v .position)) ≤ length text
-    filled-room h = omega (arith, inv .total, left, inv .kept, h)
+    pub filled-room : 3 + length (movesFrom points true 0) ≤ length text₀ → at + length (moveOf (penOf true) (wholeVertex v .position)) ≤ length text
+    filled-room h =
+        omega (arith, inv .total, left, inv .kept, h, move-length-is up (wholeVertex v .position), move-length-is true (wholeVertex v .position))
 
     pub filled-on : (text' : List ℕ) (at' : ℕ) (up' : Bool) → up' ≡ v .end → i < n → length text' ≡ length text → WrittenAs (moveOf (penOf up) (wholeVertex v .position)) text at text' at'
         → Filled points text₀ n text' at' up' (i + 1)

@@ -41,7 +41,7 @@ fn put_number(text: &mut [u8], at: usize, n: i32, after: u8) -> usize
 }
 
 fn put_move(text: &mut [u8], at: usize, up: bool, x: i32, y: i32) -> usize
-    requires { ⌜ at + length (moveOf (penOf up) (position x y)) ≤ length (now text) ⌝ }
+    requires { ⌜ at + length (moveOf (penOf true) (position x y)) ≤ length (now text) ⌝ }
     ensures { λ r. ⌜ WrittenAs (moveOf (penOf up) (position x y)) (now (text .entry)) at (now (text .exit)) r ⌝ }
 {
     let first = put_pen(text, at, up);

@@ -1,6 +1,7 @@
 -- `plot::writing::put_move` meets its contract: the pen, x, y. Assumes nothing.
 use mathlib.Core.Path.{_≡_, ap}
 use mathlib.Core.List.{[], _∷_}
+use mathlib.Core.Bool.{true}
 use Prim.Native.Nat.{ℕ, _+_, _≤_}
 use native.Mathlib.Omega.{arith}
 use lib.IntN.{ℤ}
@@ -30,13 +31,13 @@ y-held : (c : tie.After-put-pen) → length (signedOf (toZ w32 (ofZ w32 (c .befo
 y-held c = let st = c .before .before .before in ap (λ (z : ℤ). length (signedOf z)) (narrow-back (st .args .y) (st .fits .y))
 
 put-pen-requires : tie.Need-put-pen-requires
-put-pen-requires c κs = let a = c .before .before .args in omega (arith, move-length-is (a .up) (position (a .x) (a .y)), c .before .before .pre)
+put-pen-requires c κs = let a = c .before .before .args in omega (arith, move-length-is true (position (a .x) (a .y)), c .before .before .pre)
 
 put-number-requires : tie.Need-put-number-requires
 put-number-requires c κs =
     let w = c .before .before .before in
     let st = w .before .before .before in
-    omega (arith, after-pen w, x-held w, w .put-pen .kept .0, move-length-is (st .args .up) (position (st .args .x) (st .args .y)), st .pre)
+    omega (arith, after-pen w, x-held w, w .put-pen .kept .0, move-length-is true (position (st .args .x) (st .args .y)), st .pre)
 
 put-number-requires-2 : tie.Need-put-number-requires-2
 put-number-requires-2 c κs =
@@ -52,7 +53,7 @@ put-number-requires-2 c κs =
       y-held w,
       w .put-pen .kept .0,
       v .put-number .kept .0,
-      move-length-is (st .args .up) (position (st .args .x) (st .args .y)),
+      move-length-is true (position (st .args .x) (st .args .y)),
       st .pre,
     )
 

@@ -1,6 +1,6 @@
 -- `plot::writing::put_moves` meets its contract: the moves that are left, written after those already written. Assumes nothing.
 use mathlib.Core.Path.{_≡_, refl, sym, ap, ap₂, _∙_, subst}
-use mathlib.Core.Bool.{true≢false}
+use mathlib.Core.Bool.{Bool, true, true≢false}
 use mathlib.Core.List.{List, _∷_}
 use Prim.Native.Nat.{ℕ, suc, _+_, _-_, _≤_, _<_}
 use native.Mathlib.Omega.{arith}
@@ -57,14 +57,14 @@ spot-here : (c : tie.After-spot Inv-loop μ-loop) → c .spot .result ≡ spotOf
 spot-here c = spot-read _ _ _ (xAt c) (yAt c) (c .spot .ensures) (c .before .before .read-f32 .ensures) (c .before .read-f322 .ensures)
 
 -- the move as the code has it is that of the point
-move-same : (c : tie.After-known-told Inv-loop μ-loop)
-    → moveOf (penOf (at-loop (c .before .before .before) .loop .up)) (position (toZ w32 (ofZ w32 (c .before .px .given .0 .0))) (toZ w32 (ofZ w32 (c .before .px .given .0 .1 .0))))
-    ≡ moveOf (penOf (at-loop (c .before .before .before) .loop .up)) (wholeVertex (vertexAt (c .before .before .before)) .position)
+move-same : (c : tie.After-known-told Inv-loop μ-loop) (up : Bool)
+    → moveOf (penOf up) (position (toZ w32 (ofZ w32 (c .before .px .given .0 .0))) (toZ w32 (ofZ w32 (c .before .px .given .0 .1 .0))))
+    ≡ moveOf (penOf up) (wholeVertex (vertexAt (c .before .before .before)) .position)
 unfolding wholeVertex
-move-same c =
+move-same c up =
     let w = c .before .before .before in
     let yes = spot-yes (xAt w) (yAt w) _ _ (sym (c .before .px .given .1) ∙ spot-here w) in
-    ap₂ (λ (a b : ℤ). moveOf (penOf (at-loop w .loop .up)) (position a b)) (narrow-back _ (record { sfits = c .known-told .given .0 .1 }) ∙ yes .1)
+    ap₂ (λ (a b : ℤ). moveOf (penOf up) (position a b)) (narrow-back _ (record { sfits = c .known-told .given .0 .1 }) ∙ yes .1)
     (narrow-back _ (record { sfits = c .known-told .given .1 .0 .1 }) ∙ yes .2)
 
 -- ---- the needs
@@ -110,7 +110,7 @@ put-move-requires : tie.Need-put-move-requires Inv-loop μ-loop
 put-move-requires c κs =
     let k = c .before .before .before in
     let w = k .before .before .before in
-    omega (arith, ap length (move-same k), filled-room _ _ _ _ _ _ _ (at-loop w .loop .inv) (vertexAt w) (here w) (at-start w .pre .1))
+    omega (arith, ap length (move-same k true), filled-room _ _ _ _ _ _ _ (at-loop w .loop .inv) (vertexAt w) (here w) (at-start w .pre .1))
 
 add-i : tie.Need-add-i Inv-loop μ-loop
 add-i c = omega (arith, c .before .before .before .before .before .before .before .before .before .before .before .before .loop-test .taken)
@@ -125,7 +125,7 @@ loop-again c =
     let k = flag .before .before in
     let w = k .before .before .before in
     filled-on _ _ _ _ _ _ _ (at-loop w .loop .inv) (vertexAt w) (here w) _ _ _ (flag .is-flag .ensures ∙ ap isFlagOf (flag .before .read-u8 .ensures))
-    (w .before .before .before .loop-test .taken) (m .put-move .kept .0) (written-same _ _ _ _ _ _ (move-same k) (m .put-move .ensures))
+    (w .before .before .before .loop-test .taken) (m .put-move .kept .0) (written-same _ _ _ _ _ _ (move-same k (at-loop w .loop .up)) (m .put-move .ensures))
 
 same-length-2 : tie.Need-same-length-2 Inv-loop μ-loop
 same-length-2 c = c .before .loop .inv .kept
