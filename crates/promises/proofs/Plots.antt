@@ -116,17 +116,19 @@ module _ (points : List (Vertex Float)) (buffer : List ℕ) where
       record {
         not-printable = (λ h. absurd (let z : 13 ≡ 12 = differ BufferShort NotPrintable h in omega arith), λ s. absurd (printable e s));
         too-short = (λ _. (printable e, leb-false (length text) (length buffer) k), λ _. refl);
-        done =
-            (λ h. absurd (let z : 13 ≡ 0 = differ BufferShort Done h in omega arith),
-            λ z. absurd (let l : length text ≤ length buffer = z .1 in omega (arith, l, leb-false (length text) (length buffer) k)));
+        done = (
+          λ h. absurd (let z : 13 ≡ 0 = differ BufferShort Done h in omega arith),
+          λ z. absurd (let l : length text ≤ length buffer = z .1 in omega (arith, l, leb-false (length text) (length buffer) k)),
+        );
         nothing-written = λ _. (refl, refl);
       }
   answers true true e k =
       record {
         not-printable = (λ h. absurd (let z : 0 ≡ 12 = differ Done NotPrintable h in omega arith), λ s. absurd (printable e s));
-        too-short =
-            (λ h. absurd (let z : 0 ≡ 13 = differ Done BufferShort h in omega arith),
-            λ z. absurd (let l : length buffer < length text = z .1 in omega (arith, l, leb-true (length text) (length buffer) k)));
+        too-short = (
+          λ h. absurd (let z : 0 ≡ 13 = differ Done BufferShort h in omega arith),
+          λ z. absurd (let l : length buffer < length text = z .1 in omega (arith, l, leb-true (length text) (length buffer) k)),
+        );
         done = (λ _. (printable e, leb-true (length text) (length buffer) k), λ _. refl);
         nothing-written = λ n. absurd (n refl);
       }
