@@ -71,7 +71,7 @@ within (suc j) zero n b e h = let t : n < 10 = h in let one : length (digits (su
 within (suc j) (suc k) n true e h = let one : length (digits (suc j) n) ≡ 1 = ap length (few (suc j) n (ltb-true n 10 e)) in omega arith
 within (suc j) (suc k) n false e h =
     let last : length (digits (suc j) n) ≡ length (digits j (n / 10)) + 1 =
-        ap length (more j n (ltb-false n 10 e)) ∙ length-last (digits j (n / 10)) (0x30 + n % 10) in
+    ap length (more j n (ltb-false n 10 e)) ∙ length-last (digits j (n / 10)) (0x30 + n % 10) in
     omega (arith, within j k (n / 10) (ltb (n / 10) 10) refl (tenth k n h))
 
 pub decimal-within : (k n : ℕ) → n < 10 ^ suc k → length (decimalOf n) ≤ suc k
