@@ -3,6 +3,7 @@ pub mod PointLaws
 pub mod CommandLaws
 pub mod StepLaws
 pub mod WritingLaws
+pub mod Outputs
 pub mod FlatLaws
 pub mod ToldLaws
 pub mod ProgramLaws

@@ -5,7 +5,7 @@ use lib.ListN.{length, replicate, length-replicate}
 use lib.Seq.{length-take-le}
 use Rattle.listing.specs.Program.{listingOf}
 use Rattle.listing.proofs.ProgramLaws.{listing-fits}
-use Rattle.flattener.proofs.Outputs.{count-fits, not-short}
+use Rattle.listing.proofs.Outputs.{count-fits, not-short}
 use borrow.Author.Needs.{needs}
 use Rattle.flattener.proofs.main.Statement.{statement}
 use Rattle.flattener.proofs.main.Tie as tie

@@ -1,0 +1,4 @@
+pub mod ChoiceLaws
+pub mod PlotLaws
+pub mod LowAnswers
+pub mod NeverShort
