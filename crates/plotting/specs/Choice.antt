@@ -1,4 +1,4 @@
--- 02, One: `--knife` and `--screen`, which choose the setting of a program. Assumes nothing.
+-- RULES, The plotter 1: `--knife` and `--screen` choose the setting. Assumes nothing.
 use Prim.Native.Nat.{ℕ}
 use mathlib.Core.Bool.{cond}
 use mathlib.Core.List.{List}

@@ -1,4 +1,4 @@
--- 02, One: `./flatten --plot`, a listing to HP-GL. What the program says of a text is plotted; a refusal writes nothing. Assumes nothing.
+-- RULES, The plotter: a listing to HP-GL. What the program says of a text is plotted; a refusal writes nothing. Assumes nothing.
 use Prim.Native.Nat.{ℕ}
 use mathlib.Core.Bool.{Bool, true, false}
 use mathlib.Core.List.{List, map}

@@ -26,7 +26,7 @@ use Rattle.listing.specs.declared.Listed.the-variants.{Bytes, Short}
 use Rattle.listing.specs.Reading.{Fields, read, wrong, pairFields, twoPointsFields, threePointsFields, Progress, going, finished, stopped, progressOf}
 use Rattle.listing.specs.Writing.{Listing, listed, listedAs}
 use Rattle.listing.specs.Program.{listingOf}
-use Rattle.promises.specs.Settled.{Settles, ValueSettled, ResultAndKeptSettled, ColumnsSettled, QuadsSettled, SplinesSettled, OutputSettled, PlotReplySettled, WholeReplySettled, RoundingSettled, PlotSettled}
+use Rattle.promises.specs.Settled.{Settles, ValueSettled, ResultAndKeptSettled, ColumnsSettled, QuadsSettled, SplinesSettled, OutputSettled, PlotReplySettled, WholeReplySettled, RoundingSettled, PlotSettled, PlottingSettled}
 use Rattle.promises.specs.Settled.{DrawnSettled, TablesSettled, DeliveredSettled, FlattenSettled, ReplySettled, FlatReplySettled}
 use Rattle.promises.specs.Settled.{TellingSettled, ListingSettled, Lists, ListingLists, PairSettled, TwoPointsSettled, ThreePointsSettled, HasStopped}
 use Rattle.promises.specs.Settled.{has-stopped, ReadSettled}
@@ -82,6 +82,9 @@ rounding-settled = told _ (λ w. (w .result, w .x, w .y)) (λ a. refl)
 
 pub plot-settled : PlotSettled
 plot-settled = told _ (λ p. (p .result, p .text)) (λ a. refl)
+
+pub plotting-settled : PlottingSettled
+plotting-settled = told _ (λ p. (p .result, p .text)) (λ a. refl)
 
 -- ---- the program's front half, and its listing
 pub telling-settled : TellingSettled

@@ -36,6 +36,8 @@ use Rattle.units.specs.declared.Wholes.{Wholes}
 use Rattle.units.specs.Columns.{rounding}
 use Rattle.plot.specs.declared.Plotted.{Plotted}
 use Rattle.plot.specs.Plot.{plot}
+use Rattle.plotting.specs.declared.PlotAccount.{PlotAccount}
+use Rattle.plotting.specs.PlotListing.{plotting}
 
 -- a form puts the parts of an outcome together, and a contract of that form says `form parts ≡ d`
 abbrev pub Settles : {A D : Type 0} → (A → D) → Type 0
@@ -92,12 +94,15 @@ PlotReplySettled = Settles (λ (p : ℕ × ℕ × List ℕ). plotReply (p .0) (p
 abbrev pub WholeReplySettled : Type 0
 WholeReplySettled = Settles (λ (w : ℕ × ℕ × List ℤ × List ℤ). wholeReply (w .0) (w .1) (w .2) (w .3))
 
--- ---- finished points: in whole units, and as a plot
+-- ---- finished points: in whole units, and as a plot; a listing as a plot
 abbrev pub RoundingSettled : Type 0
 RoundingSettled = Settles (λ (w : Wholes × List ℤ × List ℤ). rounding (w .0) (w .1) (w .2))
 
 abbrev pub PlotSettled : Type 0
 PlotSettled = Settles (λ (p : Plotted × List ℕ). plot (p .0) (p .1))
+
+abbrev pub PlottingSettled : Type 0
+PlottingSettled = Settles (λ (p : PlotAccount × List ℕ). plotting (p .0) (p .1))
 
 -- ---- the program's front half: the result, and words and points
 abbrev pub TellingSettled : Type 0
