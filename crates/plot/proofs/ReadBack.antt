@@ -1,6 +1,6 @@
 -- The text read back: its instructions are cut at their semicolons, and each gives its stroke; and its blanks are those after PU and PD. Assumes nothing.
 use mathlib.Core.Path.{_≡_, refl, sym, ap, ap₂, _∙_, subst}
-use mathlib.Core.Bool.{Bool, true, false, _&&_, _||_, not}
+use mathlib.Core.Bool.{Bool, true, false, _&&_, _||_, not, and-false}
 use mathlib.Core.List.{List, [], _∷_, _++_, map, flatMap, append-nil, append-assoc}
 use Prim.Native.Nat.{ℕ, suc, _+_, _^_, _≤_, _<_}
 use native.Mathlib.Nat.{not-suc-le-zero}
@@ -188,11 +188,7 @@ digit-plain : (d : ℕ) → d < 10 → isSpace (0x30 + d) ≡ false
 unfolding isSpace
 digit-plain d h =
     ap₂ (λ (s t : Bool). s || (leb 0x09 (0x30 + d) && t)) (ne-eqb (0x30 + d) 0x20 (λ e. omega arith)) (lt-leb (0x30 + d) 0x0d (omega arith))
-    ∙ and-no (leb 0x09 (0x30 + d))
-  where
-    and-no : (t : Bool) → t && false ≡ false
-    and-no true = refl
-    and-no false = refl
+    ∙ and-false (leb 0x09 (0x30 + d))
 
 signed-plain : (z : ℤ) → All (λ (c : ℕ). isSpace c ≡ false) (signedOf z)
 unfolding isSpace

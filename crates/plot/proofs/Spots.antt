@@ -1,6 +1,6 @@
 -- A point in plotter units, from its two coordinates; and signed numbers as the machine holds them. Assumes nothing.
 use mathlib.Core.Path.{_≡_, refl, sym, ap, ap₂, _∙_, subst}
-use mathlib.Core.Bool.{Bool, true, false, _&&_, cond}
+use mathlib.Core.Bool.{Bool, true, false, _&&_, cond, and-false}
 use Prim.Native.Nat.{ℕ, _≤_}
 use native.Mathlib.Omega.{arith}
 use lib.IntN.{ℤ}
@@ -39,10 +39,6 @@ whole-no : (b : Bool) (n : ℤ) → Beyond ≡ cond b (Whole n) Beyond → b ≡
 whole-no true n h = absurd (let z : _≡_ {A = ℕ} 0 1 = cc in omega arith)
 whole-no false n h = refl
 
-and-no : (a : Bool) → a && false ≡ false
-and-no true = refl
-and-no false = refl
-
 module _ (x y : Float) where
   abbrev chosen : Bool → Spot
   chosen b = cond b (found.At (wholeOf x) (wholeOf y)) found.Beyond
@@ -53,7 +49,7 @@ module _ (x y : Float) where
 
   pub no-y : Beyond ≡ unitOf y → found.Beyond ≡ spotOf x y
   unfolding unitOf spotOf
-  no-y h = sym (ap (λ (b : Bool). chosen (printableOf x && b)) (whole-no (printableOf y) (wholeOf y) h) ∙ ap chosen (and-no (printableOf x)))
+  no-y h = sym (ap (λ (b : Bool). chosen (printableOf x && b)) (whole-no (printableOf y) (wholeOf y) h) ∙ ap chosen (and-false (printableOf x)))
 
   pub both : (a b : ℤ) → Whole a ≡ unitOf x → Whole b ≡ unitOf y → found.At a b ≡ spotOf x y
   unfolding unitOf spotOf

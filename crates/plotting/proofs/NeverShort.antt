@@ -1,5 +1,5 @@
 -- A buffer of 8,707 bytes holds every text that the program writes: 3 bytes, and 17 for each of at most 512 points. So 13 never occurs. Assumes nothing.
-use mathlib.Core.Path.{_≡_, refl, sym, ap, _∙_, subst}
+use mathlib.Core.Path.{_≡_, refl, ap}
 use mathlib.Core.Logic.{_≢_}
 use mathlib.Core.Bool.{Bool, true, false}
 use mathlib.Core.List.{List}

@@ -1,7 +1,7 @@
 -- Laws of the plot of a listing: the first entries of the three columns are the program's points, and what is told is plotted. Assumes nothing.
 use mathlib.Core.Path.{_≡_, refl, sym, ap, _∙_, subst}
 use mathlib.Core.Bool.{Bool, true, false}
-use mathlib.Core.List.{List, [], _∷_, map}
+use mathlib.Core.List.{List, _∷_, map}
 use Prim.Native.Nat.{ℕ, zero, suc, _+_, _-_, _≤_}
 use native.Mathlib.Omega.{arith}
 use borrow.Author.Tests.{leb-true}
@@ -13,7 +13,6 @@ use Rattle.columns.specs.Flags.{isFlagOf}
 use Rattle.answer.specs.Number.{isDone}
 use Rattle.point.specs.declared.Setting.{Setting}
 use Rattle.contours.specs.Finished.{position, Vertex, vertex, finishedOf}
-use Rattle.evaluate.specs.Evaluate.{Finished}
 use Rattle.plot.specs.declared.Plotted.{Plotted}
 use Rattle.plot.specs.Plot.{Plot, plot, allPrintable, plotText, plotIn, plotOf}
 use Rattle.listing.specs.Writing.{columnPoints}

@@ -2,7 +2,7 @@
 use Prim.Native.Nat.{ℕ, zero, suc, _+_, _*_, _^_, _≤_, _<_}
 use mathlib.Core.Path.{_≡_, refl, sym, ap, ap₂, _∙_, subst}
 use mathlib.Core.Logic.{_⊎_, inl, inr, _≢_, _↔_}
-use mathlib.Core.Bool.{Bool, true, false, _&&_, true≢false}
+use mathlib.Core.Bool.{Bool, true, false, _&&_, and-false, true≢false}
 use mathlib.Core.List.{List, [], _∷_, _++_, map, flatMap}
 use native.Mathlib.Nat.{zero-add}
 use native.Mathlib.Omega.{arith}
@@ -61,13 +61,9 @@ coordinate-of v h = go (printableOf (v .position .x)) refl
     go true e = inr (unprintable (v .position .y) (sym (ap (λ (b : Bool). b && printableOf (v .position .y)) e) ∙ h))
     go false e = inl (unprintable (v .position .x) e)
 
-and-no : (b : Bool) → b && false ≡ false
-and-no true = refl
-and-no false = refl
-
 at-false : (v : Vertex Float) → NotInUnits (v .position .x) ⊎ NotInUnits (v .position .y) → at v ≡ false
 at-false v (inl h) = ap (λ (b : Bool). b && printableOf (v .position .y)) (not-in-units (v .position .x) h)
-at-false v (inr h) = ap (λ (b : Bool). printableOf (v .position .x) && b) (not-in-units (v .position .y) h) ∙ and-no (printableOf (v .position .x))
+at-false v (inr h) = ap (λ (b : Bool). printableOf (v .position .x) && b) (not-in-units (v .position .y) h) ∙ and-false (printableOf (v .position .x))
 
 found-on : (v : Vertex Float) (vs : List (Vertex Float)) (b : Bool) → at v ≡ b → at v && allPrintable vs ≡ false → (allPrintable vs ≡ false → SomeUnprintable vs)
     → SomeUnprintable (v ∷ vs)
@@ -84,7 +80,7 @@ found (v ∷ vs) h = found-on v vs (at v) refl h (found vs)
 prefix-false : (before after : List (Vertex Float)) (v : Vertex Float) → at v ≡ false → allPrintable (before ++ (v ∷ after)) ≡ false
 unfolding allPrintable
 prefix-false [] after v h = ap (λ (b : Bool). b && allPrintable after) h
-prefix-false (u ∷ before) after v h = ap (λ (b : Bool). at u && b) (prefix-false before after v h) ∙ and-no (at u)
+prefix-false (u ∷ before) after v h = ap (λ (b : Bool). at u && b) (prefix-false before after v h) ∙ and-false (at u)
 
 not-all : (points : List (Vertex Float)) → SomeUnprintable points → allPrintable points ≡ false
 not-all points s = ap allPrintable (s .split) ∙ prefix-false (s .before) (s .after) (s .point) (at-false (s .point) (s .coordinate))

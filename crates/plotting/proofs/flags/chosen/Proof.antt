@@ -1,5 +1,5 @@
 -- `plotting::flags::chosen` meets its contract: the flag is compared with each name in turn. Assumes nothing.
-use mathlib.Core.Path.{_≡_, sym, _∙_}
+use mathlib.Core.Path.{sym, _∙_}
 use borrow.Author.Needs.{needs}
 use Rattle.plotting.proofs.ChoiceLaws.{is-knife, is-screen, is-unknown}
 use Rattle.plotting.proofs.flags.chosen.Statement.{statement}
