@@ -16,7 +16,7 @@
  *  12 a coordinate is NaN or infinite, or rounds      13 the text, or a column of whole numbers, is
  *     outside -32,768..32,767                            too short
  *
- * 10 and 11 are the program's alone.
+ * 10 and 11 are the programs' alone.
  */
 #ifndef KERMEZHUL_H
 #define KERMEZHUL_H

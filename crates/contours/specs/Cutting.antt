@@ -14,7 +14,7 @@ unfoldable pub cutAfter {ℓ} : {A : Type ℓ} → (A → Bool) → List A → L
 cutAfter test [] = []
 cutAfter test (a ∷ rest) = behind (test a) a (cutAfter test rest)
 
--- ---- what the pieces are; proved in proofs/Cuts
+-- ---- what the pieces are; proved in proofs/Cutting
 -- "none is empty", and no entry before its last one passes
 pub record Piece {A : Type 0} (test : A → Bool) (piece : List A) : Type 0 where
   pub start : List A

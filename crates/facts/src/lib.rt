@@ -1,1 +1,1 @@
-// Facts on tests and small whole numbers that several crates cite: proofs/ has them. There is no code here.
+// Facts on tests, lists and small whole numbers that several crates cite: specs/ and proofs/ have them. There is no code here.

@@ -112,7 +112,9 @@ report-length a line ps =
     )
 
 -- ---- a line in its four parts
-pub line-written : (b0 b1 b2 b3 b4 key value : List ℕ) (at d : ℕ) → d ≡ length value → b1 ≡ sets b0 at key → b2 ≡ sets b1 (at + length key) (0x3d ∷ []) → b3 ≡ sets b2 (at + length key + 1) value → b4 ≡ sets b3 (at + length key + 1 + d) (0x0a ∷ []) → WrittenAs (lineOf key value) b0 at b4 (at + length key + 1 + d + 1)
+pub line-written : (b0 b1 b2 b3 b4 key value : List ℕ) (at d : ℕ) → d ≡ length value → b1 ≡ sets b0 at key
+    → b2 ≡ sets b1 (at + length key) (0x3d ∷ []) → b3 ≡ sets b2 (at + length key + 1) value → b4 ≡ sets b3 (at + length key + 1 + d) (0x0a ∷ [])
+    → WrittenAs (lineOf key value) b0 at b4 (at + length key + 1 + d + 1)
 unfolding lineOf
 line-written b0 b1 b2 b3 b4 key value at d e e1 e2 e3 e4 =
     let k = at + length key in
@@ -143,7 +145,10 @@ module _ (x y : List Float) (end : List ℕ) where
       ∙ ap (λ (v : Float). pointLines (finished (pointAt (getD x i nan) v) (isFlagOf flag))) ey
       ∙ ap (λ (f : ℕ). pointLines (finished (pointAt (getD x i nan) (getD y i nan)) (isFlagOf f))) ef
 
-  pub point-on : (points i : ℕ) (b0 b1 b2 : List ℕ) (at n1 n2 : ℕ) → i < points → sets b0 at (allPointLines (columnPoints 0 points x y end)) ≡ sets b1 n1 (allPointLines (columnPoints i (points - i) x y end)) → WrittenAs (pointLines (pointAtRow i)) b1 n1 b2 n2 → sets b0 at (allPointLines (columnPoints 0 points x y end)) ≡ sets b2 n2 (allPointLines (columnPoints (i + 1) (points - (i + 1)) x y end))
+  pub point-on : (points i : ℕ) (b0 b1 b2 : List ℕ) (at n1 n2 : ℕ) → i < points
+      → sets b0 at (allPointLines (columnPoints 0 points x y end)) ≡ sets b1 n1 (allPointLines (columnPoints i (points - i) x y end))
+      → WrittenAs (pointLines (pointAtRow i)) b1 n1 b2 n2
+      → sets b0 at (allPointLines (columnPoints 0 points x y end)) ≡ sets b2 n2 (allPointLines (columnPoints (i + 1) (points - (i + 1)) x y end))
   unfolding columnPoints allPointLines
   point-on points i b0 b1 b2 at n1 n2 h whole w =
       let k : points - i ≡ suc (points - (i + 1)) = omega arith in
@@ -154,7 +159,9 @@ module _ (x y : List Float) (end : List ℕ) where
       ∙ ap (λ (b : List ℕ). sets b (n1 + length (pointLines (pointAtRow i))) rest) (sym (w .stored))
       ∙ ap (λ (m : ℕ). sets b2 m rest) (sym (w .next))
 
-  pub points-end : (points i : ℕ) (b0 b1 : List ℕ) (at n1 : ℕ) → points ≤ i → sets b0 at (allPointLines (columnPoints 0 points x y end)) ≡ sets b1 n1 (allPointLines (columnPoints i (points - i) x y end)) → b1 ≡ sets b0 at (allPointLines (columnPoints 0 points x y end))
+  pub points-end : (points i : ℕ) (b0 b1 : List ℕ) (at n1 : ℕ) → points ≤ i
+      → sets b0 at (allPointLines (columnPoints 0 points x y end)) ≡ sets b1 n1 (allPointLines (columnPoints i (points - i) x y end))
+      → b1 ≡ sets b0 at (allPointLines (columnPoints 0 points x y end))
   unfolding columnPoints allPointLines
   points-end points i b0 b1 at n1 h whole =
       let k : points - i ≡ 0 = omega arith in
@@ -205,7 +212,9 @@ module _ (points : ℕ) (x y : List Float) (end : List ℕ) where
       let l : length columnText ≡ length (headOf 0 0 points) + 28 * points = column-length in
       listed-seen columnText (reportOf Done 0 (columnPoints 0 points x y end)) out (listed Short out) (listed-short columnText out (omega arith)) column-report
 
-  pub report-bytes : (out b out' : List ℕ) (head at : ℕ) → head ≡ length (headOf 0 0 points) → head + 28 * points ≤ length out → WrittenAs (headOf 0 0 points) out 0 b at → out' ≡ sets b at (allPointLines (columnPoints 0 points x y end)) → listed (Bytes (head + 28 * points)) out' ≡ listedAs (reportOf Done 0 (columnPoints 0 points x y end)) out
+  pub report-bytes : (out b out' : List ℕ) (head at : ℕ) → head ≡ length (headOf 0 0 points) → head + 28 * points ≤ length out
+      → WrittenAs (headOf 0 0 points) out 0 b at → out' ≡ sets b at (allPointLines (columnPoints 0 points x y end))
+      → listed (Bytes (head + 28 * points)) out' ≡ listedAs (reportOf Done 0 (columnPoints 0 points x y end)) out
   report-bytes out b out' head at e h w v =
       let l : length columnText ≡ length (headOf 0 0 points) + 28 * points = column-length in
       let lines = allPointLines (columnPoints 0 points x y end) in
@@ -258,7 +267,8 @@ module _ (n : ℕ) (a : Answer) (line d e : ℕ) (out : List ℕ) (same : n ≡ 
   pub refusal-short : length out < 14 + d + e → listed Short out ≡ listedAs (refusalOf a line) out
   refusal-short h = listed-short (refusalOf a line) out (omega (arith, h, refusal-needs))
 
-  pub refusal-bytes : (b out' : List ℕ) (n1 n2 : ℕ) → 14 + d + e ≤ length out → WrittenAs (lineOf (bytes "answer") (decimalOf n)) out 0 b n1 → WrittenAs (lineOf (bytes "line") (decimalOf line)) b n1 out' n2 → listed (Bytes (14 + d + e)) out' ≡ listedAs (refusalOf a line) out
+  pub refusal-bytes : (b out' : List ℕ) (n1 n2 : ℕ) → 14 + d + e ≤ length out → WrittenAs (lineOf (bytes "answer") (decimalOf n)) out 0 b n1
+      → WrittenAs (lineOf (bytes "line") (decimalOf line)) b n1 out' n2 → listed (Bytes (14 + d + e)) out' ≡ listedAs (refusalOf a line) out
   unfolding refusalOf
   refusal-bytes b out' n1 n2 h w v =
       let second = lineOf (bytes "line") (decimalOf line) in

@@ -1,6 +1,6 @@
 -- The pass that writes: what is written so far, and what is left. Assumes nothing.
 use mathlib.Core.Path.{_≡_, refl, sym, ap, ap₂, _∙_, subst₂}
-use mathlib.Core.Bool.{Bool, true, false, _&&_, true≢false}
+use mathlib.Core.Bool.{Bool, true, false, _&&_, and-eq-true-iff}
 use mathlib.Core.List.{List, [], _∷_, _++_, map}
 use Prim.Native.Nat.{ℕ, suc, _+_, _≤_, _<_}
 use native.Mathlib.Numerals.{add-one}
@@ -52,11 +52,7 @@ module _ (points : List (Vertex Float)) (text₀ : List ℕ) (n : ℕ) where
 
     -- the point is printable, and its move fits
     pub filled-printable : printableAt v ≡ true
-    filled-printable = and-left (printableAt v) (allPrintable (drop (suc i) points)) tested
-      where
-        and-left : (a b : Bool) → a && b ≡ true → a ≡ true
-        and-left true b h = refl
-        and-left false b h = h
+    filled-printable = and-eq-true-iff (printableAt v) (allPrintable (drop (suc i) points)) .0 tested .0
 
     pub filled-room : 3 + length (movesFrom points true 0) ≤ length text₀ → at + length (moveOf (penOf true) (wholeVertex v .position)) ≤ length text
     filled-room h =
@@ -69,7 +65,7 @@ module _ (points : List (Vertex Float)) (text₀ : List ℕ) (n : ℕ) where
         record {
           within = omega arith;
           count = inv .count;
-          printable = and-right (printableAt v) (allPrintable (drop (suc i) points)) tested;
+          printable = and-eq-true-iff (printableAt v) (allPrintable (drop (suc i) points)) .0 tested .1;
           kept = k ∙ inv .kept;
           total = omega (arith, inv .total, left, w .next);
           stored =
@@ -78,10 +74,6 @@ module _ (points : List (Vertex Float)) (text₀ : List ℕ) (n : ℕ) where
               ∙ sets-append text at (moveOf (penOf up) (wholeVertex v .position)) (movesFrom points (v .end) (suc i))
               ∙ ap₂ (λ (b : List ℕ) (m : ℕ). sets b m (movesFrom points (v .end) (suc i))) (sym (w .stored)) (sym (w .next));
         }
-      where
-        and-right : (a b : Bool) → a && b ≡ true → b ≡ true
-        and-right true b h = h
-        and-right false b h = absurd (true≢false (sym h))
 
   pub filled-end : (text : List ℕ) (at : ℕ) (up : Bool) (i : ℕ) → Filled points text₀ n text at up i → n ≤ i → WrittenAs (movesFrom points true 0) text₀ 3 text at
   unfolding movesOf

@@ -2,7 +2,7 @@
 use Prim.Native.Nat.{ℕ, zero, suc, _+_, _*_, _^_, _≤_, _<_}
 use mathlib.Core.Path.{_≡_, refl, sym, ap, ap₂, _∙_, subst}
 use mathlib.Core.Logic.{_⊎_, inl, inr, _≢_, _↔_}
-use mathlib.Core.Bool.{Bool, true, false, _&&_, and-false, true≢false}
+use mathlib.Core.Bool.{Bool, true, false, _&&_, and-false, and-eq-true-iff, true≢false}
 use mathlib.Core.List.{List, [], _∷_, _++_, map, flatMap}
 use native.Mathlib.Nat.{zero-add}
 use native.Mathlib.Omega.{arith}
@@ -156,14 +156,10 @@ unfolding inRange
 small (pos n) h = omega (arith, leb-true n 32767 h)
 small (negsuc n) h = omega (arith, leb-true n 32767 h)
 
-and-both : (a b : Bool) → a && b ≡ true → (a ≡ true) × (b ≡ true)
-and-both true b h = (refl, h)
-and-both false b h = absurd (true≢false (sym h))
-
 held : (v : Vertex Float) → at v ≡ true → Held (wholeVertex v .position)
 unfolding wholeVertex
 held v h =
-    let a = and-both (printableOf (v .position .x)) (printableOf (v .position .y)) h in
+    let a = and-eq-true-iff (printableOf (v .position .x)) (printableOf (v .position .y)) .0 h in
     record { x = small (wholeOf (v .position .x)) (whole-range (v .position .x) (a .0)); y = small (wholeOf (v .position .y)) (whole-range (v .position .y) (a .1)) }
 
 abbrev places : List (List (Vertex ℤ)) → List (List (Position ℤ))
@@ -182,7 +178,7 @@ contours-filled : (points : List (Vertex Float)) → allPrintable points ≡ tru
 unfolding allPrintable cutAfter
 contours-filled [] h = tt
 contours-filled (v ∷ vs) h =
-    let a = and-both (at v) (allPrintable vs) h in
+    let a = and-eq-true-iff (at v) (allPrintable vs) .0 h in
     behind-filled (wholeVertex v .end) (wholeVertex v) (cutAfter (λ (v : Vertex ℤ). v .end) (map wholeVertex vs)) (held v (a .0)) (contours-filled vs (a .1))
 
 filled : (points : List (Vertex Float)) → allPrintable points ≡ true → All Filled (wholeContours points)
