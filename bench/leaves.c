@@ -1,17 +1,10 @@
-/* Times each leaf against the processor's own instruction, both by a call, in one run: processor time on random values, the best of many rounds.
+/* Times each leaf, fma and sqrt beside the processor's own instruction, all by a call, in one run: processor time on random values, the best of many rounds.
    bench/leaves.sh builds and runs this. */
+#include "../bindings/kermezhul.h"
 #include <math.h>
-#include <stdint.h>
 #include <stdio.h>
 #include <stdlib.h>
 #include <time.h>
-
-float leaf_fma(float, float, float);
-float leaf_sqrt(float);
-float leaf_sixth_root(float);
-float leaf_ceil(float);
-float leaf_min(float, float);
-uint32_t leaf_whole_up(float);
 
 enum { COUNT = 4096, ROUNDS = 60 };
 static float a[COUNT], b[COUNT], c[COUNT], out[COUNT];
@@ -49,18 +42,18 @@ int main(void)
         c[i] = (float)rand() / RAND_MAX * 20000 - 10000;
     }
     TIME(fma_own, 30, own_fma(a[i], b[i], c[i]))
-    TIME(fma_leaf, 30, leaf_fma(a[i], b[i], c[i]))
+    TIME(fma_leaf, 30, kermezhul_fma(a[i], b[i], c[i]))
     TIME(sqrt_own, 30, own_sqrt(fabsf(a[i])))
-    TIME(sqrt_leaf, 30, leaf_sqrt(fabsf(a[i])))
-    TIME(sixth_leaf, 3, leaf_sixth_root(fabsf(c[i])))
-    TIME(ceil_leaf, 30, leaf_ceil(a[i]))
-    TIME(min_leaf, 30, leaf_min(a[i], b[i]))
-    TIME(whole_leaf, 30, (float)leaf_whole_up(fabsf(c[i])))
+    TIME(sqrt_leaf, 30, kermezhul_sqrt(fabsf(a[i])))
+    TIME(sixth_leaf, 3, kermezhul_sixth_root(fabsf(c[i])))
+    TIME(ceil_leaf, 30, kermezhul_ceil(a[i]))
+    TIME(min_leaf, 30, kermezhul_min(a[i], b[i]))
+    TIME(pieces_leaf, 3, (float)kermezhul_pieces(fabsf(c[i]), 1, 1))
     printf("fma         %7.2f ns, %5.1f times the processor's %.2f ns\n", fma_leaf, fma_leaf / fma_own, fma_own);
     printf("sqrt        %7.2f ns, %5.1f times the processor's %.2f ns\n", sqrt_leaf, sqrt_leaf / sqrt_own, sqrt_own);
     printf("sixth_root  %7.2f ns\n", sixth_leaf);
     printf("ceil        %7.2f ns\n", ceil_leaf);
     printf("min         %7.2f ns\n", min_leaf);
-    printf("whole_up    %7.2f ns\n", whole_leaf);
+    printf("pieces      %7.2f ns\n", pieces_leaf);
     return 0;
 }

@@ -1,11 +1,12 @@
-/* Prints how many bytes of stack the library's calls touch, a line `BYTES KIND CALL` for each. The kind is `cut` for drawing and flattening and `tool` for what is
- * made of finished points. The status is 1 if a call of the one kind touches CUT bytes or more, or one of the other TOOL bytes or more.
+/* Prints how many bytes of stack the library's calls touch, a line `BYTES KIND CALL` for each. The kind is `flatten`, `draw`, `leaf`, or `tool` for what is made of
+ * finished points. The status is 1 if a call touches more bytes than are given for its kind.
  *
- *     stack CUT TOOL
+ *     stack FLATTEN DRAW LEAF TOOL
  *
  * Each call is made on a stack that was filled with one byte before. What it touches is counted from the stack pointer at the call, the return address
  * included, down to the lowest byte that has changed. */
 #include "../../bindings/kermezhul.h"
+#include <math.h>
 #include <stdio.h>
 #include <stdlib.h>
 #include <string.h>
@@ -168,13 +169,46 @@ static void fill_points(void) {
     }
 }
 
+/* ---- the float leaves */
+
+static float v[3];
+static float leaf_result;
+static void call_fma(void) { leaf_result = CALL(kermezhul_fma)(v[0], v[1], v[2]); }
+static void call_sqrt(void) { leaf_result = CALL(kermezhul_sqrt)(v[0]); }
+static void call_sixth_root(void) { leaf_result = CALL(kermezhul_sixth_root)(v[0]); }
+static void call_pieces(void) { answer = CALL(kermezhul_pieces)(v[0], v[1], v[2]); }
+static void call_min(void) { leaf_result = CALL(kermezhul_min)(v[0], v[1]); }
+static void call_max(void) { leaf_result = CALL(kermezhul_max)(v[0], v[1]); }
+static void call_clamp(void) { leaf_result = CALL(kermezhul_clamp)(v[0], v[1], v[2]); }
+static void call_ceil(void) { leaf_result = CALL(kermezhul_ceil)(v[0]); }
+
+/* A float of any kind: one of the list, or a number of every size and either sign, subnormals too. */
+static float any_float(int i) {
+    static const float ends[] = {0.0f, -0.0f, 0x1p-149f, 0x1.fffffcp-127f, 0x1p-126f, 1.0f, -1.0f, 0x1.fffffep127f, 1.0f / 0.0f, -1.0f / 0.0f, 0.0f / 0.0f};
+    if (i % 4 == 0) return ends[i / 4 % (int)(sizeof ends / sizeof *ends)];
+    float size = i % 4 == 1 ? number() : fabsf(number());
+    return ldexpf(size, (int)(150 * number()));
+}
+
 /* ---- the figures */
 
-static size_t cut_limit, tool_limit, too_much;
+enum kind { FLATTEN, DRAW, LEAF, TOOL, KINDS };
+static const char *const kinds[KINDS] = {"flatten", "draw", "leaf", "tool"};
+static size_t limits[KINDS], too_much;
 
-static void figure(const char *name, size_t bytes) {
-    printf("%zu cut %s\n", bytes, name);
-    too_much += bytes >= cut_limit;
+static void figure(enum kind kind, const char *name, size_t bytes) {
+    printf("%zu %s %s\n", bytes, kinds[kind], name);
+    too_much += bytes > limits[kind];
+}
+
+static void leaf(const char *name, void (*calls)(void), void *function) {
+    size_t most = 0;
+    for (int i = 0; i < 400; i++) {
+        v[0] = any_float(i), v[1] = any_float(i / 3), v[2] = any_float(i / 7);
+        size_t bytes = touched(calls, function);
+        if (bytes > most) most = bytes;
+    }
+    figure(LEAF, name, most);
 }
 
 /* A call on LENGTH points in enough room, in too little, with a NaN last, and on none; the most of these. */
@@ -191,8 +225,7 @@ static void tool(const char *name, void (*calls)(void), void *function, size_t e
         if (i == 0 && written < at_least) stop(name, "too little is written");
         if (bytes > most) most = bytes;
     }
-    printf("%zu tool %s\n", most, name);
-    too_much += most >= tool_limit;
+    figure(TOOL, name, most);
 }
 
 static void flattenings(const char *names[2], void (*calls)(void), void *function, size_t at_least) {
@@ -201,18 +234,18 @@ static void flattenings(const char *names[2], void (*calls)(void), void *functio
         size_t bytes = touched(call_flatten, (void *)kermezhul_flatten);
         if (answer != 0) stop(names[setting], "it is refused");
         if (length < at_least) stop(names[setting], "it has too few points to count");
-        figure(names[setting], bytes);
+        figure(FLATTEN, names[setting], bytes);
     }
 }
 
-#define DRAWN(NAME, TIMES) figure(#NAME, most_of(call_##NAME, (void *)kermezhul_##NAME, TIMES, #NAME))
+#define DRAWN(NAME, TIMES) figure(DRAW, #NAME, most_of(call_##NAME, (void *)kermezhul_##NAME, TIMES, #NAME))
+#define LEAF_OF(NAME) leaf(#NAME, call_##NAME, (void *)kermezhul_##NAME)
 #define FLATTENED(KIND, NAME, AT_LEAST) \
     flattenings((const char *[]){"flatten, " KIND ", screen", "flatten, " KIND ", knife"}, call_##NAME, (void *)kermezhul_##NAME, AT_LEAST)
 
 int main(int count, char **argument) {
-    cut_limit = count == 3 ? strtoul(argument[1], NULL, 10) : 0;
-    tool_limit = count == 3 ? strtoul(argument[2], NULL, 10) : 0;
-    if (cut_limit == 0 || tool_limit == 0) stop("usage", "stack CUT TOOL");
+    if (count != KINDS + 1) stop("usage", "stack FLATTEN DRAW LEAF TOOL");
+    for (int k = 0; k < KINDS; k++) limits[k] = strtoul(argument[k + 1], NULL, 10);
     try_counting();
     FLATTENED("lines", line_to, COMMANDS / 2);
     FLATTENED("quads", quad_to, 4 * COMMANDS);
@@ -225,6 +258,14 @@ int main(int count, char **argument) {
     DRAWN(rat_quad_to, COMMANDS - 2);
     DRAWN(rat_cubic_to, COMMANDS - 2);
     DRAWN(build, 1);
+    LEAF_OF(fma);
+    LEAF_OF(sqrt);
+    LEAF_OF(sixth_root);
+    LEAF_OF(pieces);
+    LEAF_OF(min);
+    LEAF_OF(max);
+    LEAF_OF(clamp);
+    LEAF_OF(ceil);
     tool("plot", call_plot, (void *)kermezhul_plot, sizeof text, 8 * LENGTH);
     tool("whole", call_whole, (void *)kermezhul_whole, LENGTH, LENGTH);
     return too_much > 0;

@@ -8,7 +8,6 @@ pub mod FmaNearest
 pub mod RootParts
 pub mod RootNearest
 pub mod LimbLaws
-pub mod Halving
 pub mod SixthParts
 pub mod SixthLargest
 pub mod Fits

@@ -1,13 +1,15 @@
--- The limb law: a product's limbs, with the carries. Assumes nothing.
-use mathlib.Core.Path.{_≡_, refl, sym, ap, _∙_}
+-- The limb law: a product's limbs, with the carries, and the scratch that holds them. Assumes nothing.
+use mathlib.Core.Path.{_≡_, refl, sym, ap, _∙_, subst}
+use mathlib.Core.List.{List, [], _∷_}
 use Prim.Native.Nat.{ℕ, suc, _+_, _-_, _*_, _/_, _%_, _^_, _≤_, _<_}
 use native.Mathlib.Nat.{add-mul, mul-right-comm, mul-le-mul, le-of-eq, lt-of-le-of-lt, lt-of-lt-of-le, le-trans, lt-of-mul-lt-mul-right, one-mul, pow-zero}
 use native.Mathlib.Nat.{add-zero, pow-suc, pow-le-pow-left, pow-le-pow-right}
 use native.Mathlib.Omega.{arith}
 use lib.Dec.{leb, eqb, lit≤, lit<}
+use lib.ListN.{getD, set, length}
 use borrow.Author.Tests.{le-leb, lt-leb, eqb-true, eqb-false}
 use mathlib.Core.Bool.{Bool, true, false}
-use Rattle.leaves.specs.Power.{Limbs, whole}
+use Rattle.leaves.specs.Power.{Limbs, whole, number}
 
 -- a limb times a number of 24 digits
 product-le : (a s : ℕ) → a < 2 ^ 36 → s < 2 ^ 24 → a * s ≤ (2 ^ 36 - 1) * (2 ^ 24 - 1)
@@ -20,18 +22,20 @@ sum-fits : (x y : ℕ) → x ≤ (2 ^ 36 - 1) * (2 ^ 24 - 1) → y < 2 ^ 64 → 
 sum-fits x y h k = omega arith
 
 -- the four limbs, as the code makes them
-module _ (a b c d s : ℕ) (l : Limbs a b c d) (k : s < 2 ^ 24) where
+module _ (p : List ℕ) (s : ℕ) (l : Limbs p) (k : s < 2 ^ 24) where
   pub fits : (x : ℕ) → x < 2 ^ 36 → x * s < 2 ^ 64
   fits x h = lt-of-le-of-lt (product-le x s h k) (lit< tt)
 
-  pub second : b * s + a * s / 2 ^ 36 < 2 ^ 64
-  second = sum-fits (b * s) (a * s) (product-le b s (l .b-lt) k) (fits a (l .a-lt))
+  pub second : getD p 1 0 * s + getD p 0 0 * s / 2 ^ 36 < 2 ^ 64
+  second = sum-fits (getD p 1 0 * s) (getD p 0 0 * s) (product-le (getD p 1 0) s (l .b-lt) k) (fits (getD p 0 0) (l .a-lt))
 
-  pub third : c * s + (b * s + a * s / 2 ^ 36) / 2 ^ 36 < 2 ^ 64
-  third = sum-fits (c * s) (b * s + a * s / 2 ^ 36) (product-le c s (l .c-lt) k) second
+  pub third : getD p 2 0 * s + (getD p 1 0 * s + getD p 0 0 * s / 2 ^ 36) / 2 ^ 36 < 2 ^ 64
+  third = sum-fits (getD p 2 0 * s) (getD p 1 0 * s + getD p 0 0 * s / 2 ^ 36) (product-le (getD p 2 0) s (l .c-lt) k) second
 
-  pub fourth : d * s + (c * s + (b * s + a * s / 2 ^ 36) / 2 ^ 36) / 2 ^ 36 < 2 ^ 64
-  fourth = sum-fits (d * s) (c * s + (b * s + a * s / 2 ^ 36) / 2 ^ 36) (product-le d s (l .d-lt) k) third
+  pub fourth : getD p 3 0 * s + (getD p 2 0 * s + (getD p 1 0 * s + getD p 0 0 * s / 2 ^ 36) / 2 ^ 36) / 2 ^ 36 < 2 ^ 64
+  fourth =
+      sum-fits (getD p 3 0 * s) (getD p 2 0 * s + (getD p 1 0 * s + getD p 0 0 * s / 2 ^ 36) / 2 ^ 36) (product-le (getD p 3 0) s (l .d-lt) k)
+      third
 
 -- times s, before the carries
 spread : (a b c d s : ℕ) → whole a b c d * s ≡ whole (a * s) (b * s) (c * s) (d * s)
@@ -60,28 +64,72 @@ top-lt a b c d h = lt-of-mul-lt-mul-right (2 ^ 108) (lt-of-le-of-lt (top-le a b 
 limb-lt : (x : ℕ) → x % 2 ^ 36 < 2 ^ 36
 limb-lt x = omega arith
 
-pub times-is : (a b c d s : ℕ) → whole a b c d * s < 2 ^ 144
-    → Limbs (a * s % 2 ^ 36) ((b * s + a * s / 2 ^ 36) % 2 ^ 36) ((c * s + (b * s + a * s / 2 ^ 36) / 2 ^ 36) % 2 ^ 36)
-    (d * s + (c * s + (b * s + a * s / 2 ^ 36) / 2 ^ 36) / 2 ^ 36)
-    × (whole (a * s % 2 ^ 36) ((b * s + a * s / 2 ^ 36) % 2 ^ 36) ((c * s + (b * s + a * s / 2 ^ 36) / 2 ^ 36) % 2 ^ 36)
-    (d * s + (c * s + (b * s + a * s / 2 ^ 36) / 2 ^ 36) / 2 ^ 36) ≡ whole a b c d * s)
-times-is a b c d s h =
+-- ---- the scratch, whatever it held, after four stores
+abbrev pub filled : List ℕ → ℕ → ℕ → ℕ → ℕ → List ℕ
+filled p a b c d = set (set (set (set p 0 a) 1 b) 2 c) 3 d
+
+four : (p : List ℕ) (a b c d : ℕ) → length p ≡ 4 → filled p a b c d ≡ a ∷ b ∷ c ∷ d ∷ []
+four (w ∷ x ∷ y ∷ z ∷ []) a b c d e = refl
+four [] a b c d e = absurd (no e)
+  where
+    no : _≡_ {A = ℕ} 0 4 → ⊥
+    no e = omega arith
+four (w ∷ []) a b c d e = absurd (no e)
+  where
+    no : _≡_ {A = ℕ} 1 4 → ⊥
+    no e = omega arith
+four (w ∷ x ∷ []) a b c d e = absurd (no e)
+  where
+    no : _≡_ {A = ℕ} 2 4 → ⊥
+    no e = omega arith
+four (w ∷ x ∷ y ∷ []) a b c d e = absurd (no e)
+  where
+    no : _≡_ {A = ℕ} 3 4 → ⊥
+    no e = omega arith
+four (w ∷ x ∷ y ∷ z ∷ v ∷ l) a b c d e = absurd (no (length l) e)
+  where
+    no : (n : ℕ) → suc (suc (suc (suc (suc n)))) ≡ 4 → ⊥
+    no n e = omega arith
+
+stored : (p : List ℕ) (a b c d n : ℕ) → length p ≡ 4 → Limbs (a ∷ b ∷ c ∷ d ∷ []) × (whole a b c d ≡ n)
+    → Limbs (filled p a b c d) × (number (filled p a b c d) ≡ n)
+stored p a b c d n e h = subst (λ (q : List ℕ). Limbs q × (number q ≡ n)) (sym (four p a b c d e)) h
+
+pub times-is : (p : List ℕ) (s : ℕ) → Limbs p → number p * s < 2 ^ 144
+    → let x = getD p 0 0 * s in
+    let y = getD p 1 0 * s + x / 2 ^ 36 in
+    let z = getD p 2 0 * s + y / 2 ^ 36 in
+    let w = getD p 3 0 * s + z / 2 ^ 36 in
+    Limbs (filled p (x % 2 ^ 36) (y % 2 ^ 36) (z % 2 ^ 36) w) × (number (filled p (x % 2 ^ 36) (y % 2 ^ 36) (z % 2 ^ 36) w) ≡ number p * s)
+times-is p s l h =
+    let a = getD p 0 0 in
+    let b = getD p 1 0 in
+    let c = getD p 2 0 in
+    let d = getD p 3 0 in
     let x = a * s in
     let y = b * s + x / 2 ^ 36 in
     let z = c * s + y / 2 ^ 36 in
     let w = d * s + z / 2 ^ 36 in
-    let e : whole (x % 2 ^ 36) (y % 2 ^ 36) (z % 2 ^ 36) w ≡ whole a b c d * s = carried (a * s) (b * s) (c * s) (d * s) ∙ sym (spread a b c d s) in (
-      record { a-lt = limb-lt x; b-lt = limb-lt y; c-lt = limb-lt z; d-lt = top-lt (x % 2 ^ 36) (y % 2 ^ 36) (z % 2 ^ 36) w (lt-of-le-of-lt (le-of-eq e) h) },
+    let e : whole (x % 2 ^ 36) (y % 2 ^ 36) (z % 2 ^ 36) w ≡ number p * s = carried (a * s) (b * s) (c * s) (d * s) ∙ sym (spread a b c d s) in
+    stored p (x % 2 ^ 36) (y % 2 ^ 36) (z % 2 ^ 36) w (number p * s) (l .size) (
+      record {
+        size = refl;
+        a-lt = limb-lt x;
+        b-lt = limb-lt y;
+        c-lt = limb-lt z;
+        d-lt = top-lt (x % 2 ^ 36) (y % 2 ^ 36) (z % 2 ^ 36) w (lt-of-le-of-lt (le-of-eq e) h);
+      },
       e,
     )
 
 -- ---- the powers of s
-pub first : (s : ℕ) → whole s 0 0 0 ≡ s ^ 1
+first : (s : ℕ) → whole s 0 0 0 ≡ s ^ 1
 unfolding whole
 first s = add-zero s ∙ sym (pow-suc s 0 ∙ ap (λ (x : ℕ). x * s) (pow-zero s) ∙ one-mul s)
 
-pub first-limbs : (s : ℕ) → s < 2 ^ 24 → Limbs s 0 0 0
-first-limbs s h = record { a-lt = lt-of-lt-of-le h (lit≤ tt); b-lt = lit< tt; c-lt = lit< tt; d-lt = lit< tt }
+pub start-is : (p : List ℕ) (s : ℕ) → length p ≡ 4 → s < 2 ^ 24 → Limbs (filled p s 0 0 0) × (number (filled p s 0 0 0) ≡ s ^ 1)
+start-is p s e h =
+    stored p s 0 0 0 (s ^ 1) e (record { size = refl; a-lt = lt-of-lt-of-le h (lit≤ tt); b-lt = lit< tt; c-lt = lit< tt; d-lt = lit< tt }, first s)
 
 pub next : (p s k : ℕ) → p ≡ s ^ k → p * s ≡ s ^ suc k
 next p s k e = ap (λ (x : ℕ). x * s) e ∙ sym (pow-suc s k)
@@ -95,25 +143,41 @@ room p s k h l e =
     less a b h = omega arith
 
 -- ---- the comparison with t * 2 ^ 108
-pub under-top : (a b c d t : ℕ) → Limbs a b c d → d < t → whole a b c d ≤ t * 2 ^ 108
+below-top : (a b c d t : ℕ) → a < 2 ^ 36 → b < 2 ^ 36 → c < 2 ^ 36 → d < t → whole a b c d ≤ t * 2 ^ 108
 unfolding whole
-under-top a b c d t l h = omega (arith, l .a-lt, l .b-lt, l .c-lt)
+below-top a b c d t A B C h = omega arith
 
-pub over-top : (a b c d t : ℕ) → t < d → t * 2 ^ 108 < whole a b c d
+past-top : (a b c d t : ℕ) → t < d → t * 2 ^ 108 < whole a b c d
 unfolding whole
-over-top a b c d t h = omega arith
+past-top a b c d t h = omega arith
 
-at-top : (a b c d t : ℕ) → d ≤ t → t ≤ d → a + b + c ≡ 0 → whole a b c d ≤ t * 2 ^ 108
+just-top : (a b c d t : ℕ) → d ≤ t → t ≤ d → a + b + c ≡ 0 → whole a b c d ≤ t * 2 ^ 108
 unfolding whole
-at-top a b c d t h k e = omega arith
+just-top a b c d t h k e = omega arith
 
-past-top : (a b c d t : ℕ) → d ≤ t → t ≤ d → (a + b + c ≡ 0 → ⊥) → t * 2 ^ 108 < whole a b c d
+over-top : (a b c d t : ℕ) → d ≤ t → t ≤ d → (a + b + c ≡ 0 → ⊥) → t * 2 ^ 108 < whole a b c d
 unfolding whole
-past-top a b c d t h k e = omega arith
+over-top a b c d t h k e = omega arith
 
-pub level : (a b c d t : ℕ) → d ≤ t → t ≤ d → eqb (a + b + c) 0 ≡ leb (whole a b c d) (t * 2 ^ 108)
-level a b c d t h k = go (eqb (a + b + c) 0) (eqb-true (a + b + c) 0) (eqb-false (a + b + c) 0)
-  where
-    go : (x : Bool) → (x ≡ true → a + b + c ≡ 0) → (x ≡ false → a + b + c ≡ 0 → ⊥) → x ≡ leb (whole a b c d) (t * 2 ^ 108)
-    go true y n = sym (le-leb (whole a b c d) (t * 2 ^ 108) (at-top a b c d t h k (y refl)))
-    go false y n = sym (lt-leb (whole a b c d) (t * 2 ^ 108) (past-top a b c d t h k (n refl)))
+module _ (p : List ℕ) (t : ℕ) where
+  pub low : Limbs p → getD p 3 0 < t → true ≡ leb (number p) (t * 2 ^ 108)
+  low l h = sym (le-leb (number p) (t * 2 ^ 108) (below-top (getD p 0 0) (getD p 1 0) (getD p 2 0) (getD p 3 0) t (l .a-lt) (l .b-lt) (l .c-lt) h))
+
+  pub high : t < getD p 3 0 → false ≡ leb (number p) (t * 2 ^ 108)
+  high h = sym (lt-leb (number p) (t * 2 ^ 108) (past-top (getD p 0 0) (getD p 1 0) (getD p 2 0) (getD p 3 0) t h))
+
+  pub level : getD p 3 0 ≤ t → t ≤ getD p 3 0 → eqb (getD p 0 0 + getD p 1 0 + getD p 2 0) 0 ≡ leb (number p) (t * 2 ^ 108)
+  level h k = go (eqb (a + b + c) 0) (eqb-true (a + b + c) 0) (eqb-false (a + b + c) 0)
+    where
+      a : ℕ
+      a = getD p 0 0
+
+      b : ℕ
+      b = getD p 1 0
+
+      c : ℕ
+      c = getD p 2 0
+
+      go : (x : Bool) → (x ≡ true → a + b + c ≡ 0) → (x ≡ false → a + b + c ≡ 0 → ⊥) → x ≡ leb (number p) (t * 2 ^ 108)
+      go true y n = sym (le-leb (number p) (t * 2 ^ 108) (just-top a b c (getD p 3 0) t h k (y refl)))
+      go false y n = sym (lt-leb (number p) (t * 2 ^ 108) (over-top a b c (getD p 3 0) t h k (n refl)))

@@ -1,71 +1,89 @@
-// Sixth powers of numbers of 24 binary digits, whole: 144 digits in four limbs of 36.
+// Sixth powers of numbers of 24 binary digits, whole: 144 digits in four limbs of 36, a scratch that is lent and used again for each power.
 ghost use mathlib.Core.Path.{_≡_};
 ghost use Prim.Native.Nat.{_+_, _*_, _^_, _<_, _≤_};
 ghost use lib.Dec.{leb};
-ghost use Rattle.leaves.specs.Power.{Limbs, whole};
+ghost use lib.ListN.{length};
+ghost use Rattle.leaves.specs.Power.{Limbs, number};
 
-pub struct Power {
-    pub a: u64,
-    pub b: u64,
-    pub c: u64,
-    pub d: u64,
+// p * s in the place of p, limb by limb, with the carry passed on to the next.
+fn times(p: &mut [u64; 4], s: u64)
+    requires { ⌜ Limbs (now p) ⌝ }
+    requires { ⌜ s < 2 ^ 24 ⌝ }
+    requires { ⌜ number (now p) * s < 2 ^ 144 ⌝ }
+    ensures { λ _. ⌜ Limbs (now (p .exit)) × (number (now (p .exit)) ≡ number (now (p .entry)) * s) ⌝ }
+{
+    let a = p[0] * s;
+    let b = p[1] * s + a / 0x10_0000_0000;
+    let c = p[2] * s + b / 0x10_0000_0000;
+    let d = p[3] * s + c / 0x10_0000_0000;
+    p[0] = a % 0x10_0000_0000;
+    p[1] = b % 0x10_0000_0000;
+    p[2] = c % 0x10_0000_0000;
+    p[3] = d;
 }
 
-// p * s, limb by limb, with the carry passed on to the next.
-fn times(p: Power, s: u64) -> Power
-    requires { ⌜ Limbs (p .a) (p .b) (p .c) (p .d) ⌝ }
+// s alone, whatever the scratch held.
+fn start(p: &mut [u64; 4], s: u64)
+    requires { ⌜ length (now p) ≡ 4 ⌝ }
     requires { ⌜ s < 2 ^ 24 ⌝ }
-    requires { ⌜ whole (p .a) (p .b) (p .c) (p .d) * s < 2 ^ 144 ⌝ }
-    ensures { λ r. ⌜ Limbs (r .a) (r .b) (r .c) (r .d) × (whole (r .a) (r .b) (r .c) (r .d) ≡ whole (p .a) (p .b) (p .c) (p .d) * s) ⌝ }
+    ensures { λ _. ⌜ Limbs (now (p .exit)) × (number (now (p .exit)) ≡ s ^ 1) ⌝ }
 {
-    let a = p.a * s;
-    let b = p.b * s + a / 0x10_0000_0000;
-    let c = p.c * s + b / 0x10_0000_0000;
-    let d = p.d * s + c / 0x10_0000_0000;
-    Power {
-        a: a % 0x10_0000_0000,
-        b: b % 0x10_0000_0000,
-        c: c % 0x10_0000_0000,
-        d: d,
+    p[0] = s;
+    p[1] = 0;
+    p[2] = 0;
+    p[3] = 0;
+}
+
+// s ^ 6.
+fn sixth_power(p: &mut [u64; 4], s: u64)
+    requires { ⌜ length (now p) ≡ 4 ⌝ }
+    requires { ⌜ s < 2 ^ 24 ⌝ }
+    ensures { λ _. ⌜ Limbs (now (p .exit)) × (number (now (p .exit)) ≡ s ^ 6) ⌝ }
+{
+    start(p, s);
+    let mut i = 1u64;
+    while i < 6 {
+        times(p, s);
+        i += 1;
     }
-}
-
-// s ^ 6, with each power before it.
-fn sixth_power(s: u64) -> Power
-    requires { ⌜ s < 2 ^ 24 ⌝ }
-    ensures { λ r. ⌜ Limbs (r .a) (r .b) (r .c) (r .d) × (whole (r .a) (r .b) (r .c) (r .d) ≡ s ^ 6) ⌝ }
-{
-    let one = Power {
-        a: s,
-        b: 0,
-        c: 0,
-        d: 0,
-    };
-    let two = times(one, s);
-    let three = times(two, s);
-    let four = times(three, s);
-    let five = times(four, s);
-    times(five, s)
 }
 
 // Whether p is at most t * 2 ^ 108, which has nothing below the top limb.
-fn at_most(p: Power, t: u64) -> bool
-    requires { ⌜ Limbs (p .a) (p .b) (p .c) (p .d) ⌝ }
-    ensures { λ r. ⌜ r ≡ leb (whole (p .a) (p .b) (p .c) (p .d)) (t * 2 ^ 108) ⌝ }
+fn at_most(p: &[u64; 4], t: u64) -> bool
+    requires { ⌜ Limbs (now p) ⌝ }
+    ensures { λ r. ⌜ r ≡ leb (number (now (p .entry))) (t * 2 ^ 108) ⌝ }
 {
-    if p.d < t {
+    if p[3] < t {
         return true;
     }
-    if p.d > t {
+    if p[3] > t {
         return false;
     }
-    p.a + p.b + p.c == 0
+    p[0] + p[1] + p[2] == 0
 }
 
-// Whether s ^ 6 is at most t * 2 ^ 108.
-pub fn under(s: u64, t: u64) -> bool
-    requires { ⌜ s < 2 ^ 24 ⌝ }
-    ensures { λ r. ⌜ r ≡ leb (s ^ 6) (t * 2 ^ 108) ⌝ }
+// Whether h ^ 6 is at most t * 2 ^ 24, for an h of ten digits: the power fits the lowest limb's 64 bits.
+fn short_under(p: &mut [u64; 4], h: u64, t: u64) -> bool
+    requires { ⌜ length (now p) ≡ 4 ⌝ }
+    requires { ⌜ h < 1024 ⌝ }
+    requires { ⌜ t < 2 ^ 36 ⌝ }
+    ensures { λ r. ⌜ (length (now (p .exit)) ≡ 4) × (r ≡ leb (h ^ 6) (t * 2 ^ 24)) ⌝ }
 {
-    at_most(sixth_power(s), t)
+    let c = h * h * h;
+    p[0] = c * c;
+    p[0] <= t * 0x100_0000
+}
+
+// Whether s ^ 6 is at most t * 2 ^ 108. An s with nothing below its ten leading digits is tried by these alone.
+pub fn under(p: &mut [u64; 4], s: u64, t: u64) -> bool
+    requires { ⌜ length (now p) ≡ 4 ⌝ }
+    requires { ⌜ s < 2 ^ 24 ⌝ }
+    requires { ⌜ t < 2 ^ 36 ⌝ }
+    ensures { λ r. ⌜ (length (now (p .exit)) ≡ 4) × (r ≡ leb (s ^ 6) (t * 2 ^ 108)) ⌝ }
+{
+    if s % 0x4000 == 0 {
+        return short_under(p, s / 0x4000, t);
+    }
+    sixth_power(p, s);
+    at_most(p, t)
 }

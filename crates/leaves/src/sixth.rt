@@ -1,4 +1,4 @@
-// The largest f32 whose exact sixth power is at most q, by halving over full-width powers.
+// The largest f32 whose exact sixth power is at most q, settled from its top digit down over full-width powers in one scratch.
 use crate::parts;
 use crate::power;
 ghost use mathlib.Core.Path.{_≡_};
@@ -7,50 +7,22 @@ ghost use lib.Ieee.{binary32};
 ghost use Rattle.rounding.specs.Roots.{root, IsRoot, cutTo};
 ghost use Rattle.leaves.specs.Sixth.{sixthRootOf};
 
-// The sixth power of a number of ten digits.
-fn short_power(s: u64) -> u64
-    requires { ⌜ s < 1024 ⌝ }
-    ensures { λ r. ⌜ r ≡ s ^ 6 ⌝ }
-{
-    let c = s * s * s;
-    c * c
-}
-
-// The ten leading digits of the root below, by halving over numbers that fit 64 digits.
-fn leading(t: u64) -> u64
-    requires { ⌜ t < 2 ^ 36 ⌝ }
-    ensures { λ r. ⌜ (r < 1024) × IsRoot 6 (t * 2 ^ 24) r ⌝ }
-{
-    let n = t * 0x100_0000;
-    let mut lo = 0u64;
-    let mut hi = 1024u64;
-    while hi - lo > 1 {
-        let mid = (lo + hi) / 2;
-        if short_power(mid) <= n {
-            lo = mid;
-        } else {
-            hi = mid;
-        }
-    }
-    lo
-}
-
-// The largest r with r ^ 6 at most t * 2 ^ 108, by halving from its ten leading digits on.
+// The largest r with r ^ 6 at most t * 2 ^ 108, a binary digit at a time from the top one down, each tried in the same scratch.
 fn settle(t: u64) -> u64
     requires { ⌜ t < 2 ^ 36 ⌝ }
     ensures { λ r. ⌜ IsRoot 6 (t * 2 ^ 108) r ⌝ }
 {
-    let mut lo = leading(t) * 0x4000;
-    let mut hi = lo + 0x4000;
-    while hi - lo > 1 {
-        let mid = (lo + hi) / 2;
-        if power::under(mid, t) {
-            lo = mid;
-        } else {
-            hi = mid;
+    let mut p = [0u64; 4];
+    let mut r = 0u64;
+    let mut i = 24u64;
+    while i > 0 {
+        i -= 1;
+        let s = r + (1u64 << i);
+        if power::under(&mut p, s, t) {
+            r = s;
         }
     }
-    lo
+    r
 }
 
 // By how much m is shifted left to have 31 to 36 digits, such that e + 637 less the shift is a multiple of six.

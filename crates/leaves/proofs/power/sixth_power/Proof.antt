@@ -1,50 +1,65 @@
--- `leaves::power::sixth_power` meets its contract: the n-th power is s ^ n. Assumes nothing.
-use mathlib.Core.Path.{_≡_, _∙_}
-use Prim.Native.Nat.{_^_, _≤_}
+-- `leaves::power::sixth_power` meets its contract. The invariant: p holds s ^ i. The measure is 6 - i. Assumes nothing.
+use mathlib.Core.Path.{_≡_, ap, _∙_, subst}
+use Prim.Native.Nat.{ℕ, suc, _+_, _-_, _*_, _^_, _≤_, _<_}
+use native.Mathlib.Numerals.{add-one}
+use native.Mathlib.Omega.{arith}
 use lib.Dec.{lit≤}
-use Rattle.leaves.specs.Power.{whole}
-use Rattle.leaves.proofs.LimbLaws.{first, first-limbs, next, room}
+use Rattle.leaves.proofs.LimbLaws.{next, room}
+use Rattle.leaves.specs.Power.{Limbs, number}
 use Rattle.leaves.proofs.power.sixth_power.Statement.{statement}
 use Rattle.leaves.proofs.power.sixth_power.Tie as tie
 
--- each call of `times` gives the next power
-second : (c : tie.After-times) → whole (c .times .result .a) (c .times .result .b) (c .times .result .c) (c .times .result .d) ≡ c .before .args .s ^ 2
-second c = let s = c .before .args .s in c .times .ensures .1 ∙ next (whole s 0 0 0) s 1 (first s)
+abbrev Inv-loop : tie.InvT-loop
+Inv-loop p₀ s i₀ p i = (i ≤ 6) × Limbs p × (number p ≡ s ^ i)
 
-third : (c : tie.After-times2)
-    → whole (c .times2 .result .a) (c .times2 .result .b) (c .times2 .result .c) (c .times2 .result .d) ≡ c .before .before .args .s ^ 3
-third c = c .times2 .ensures .1 ∙ next _ _ 2 (second (c .before))
+abbrev μ-loop : tie.MeasureT-loop
+μ-loop p₀ s i₀ p i = 6 - i
 
-fourth : (c : tie.After-times3)
-    → whole (c .times3 .result .a) (c .times3 .result .b) (c .times3 .result .c) (c .times3 .result .d) ≡ c .before .before .before .args .s ^ 4
-fourth c = c .times3 .ensures .1 ∙ next _ _ 3 (third (c .before))
+start-requires : tie.Need-start-requires Inv-loop μ-loop
+start-requires c κs = c .before .pre
 
-fifth : (c : tie.After-times4)
-    → whole (c .times4 .result .a) (c .times4 .result .b) (c .times4 .result .c) (c .times4 .result .d) ≡ c .before .before .before .before .args .s ^ 5
-fifth c = c .times4 .ensures .1 ∙ next _ _ 4 (fourth (c .before))
+loop-holds : tie.Need-loop-holds Inv-loop μ-loop
+loop-holds c = (lit≤ tt, c .start .ensures .0, c .start .ensures .1)
 
-sixth : (c : tie.After-times5)
-    → whole (c .times5 .result .a) (c .times5 .result .b) (c .times5 .result .c) (c .times5 .result .d) ≡ c .before .before .before .before .before .args .s ^ 6
-sixth c = c .times5 .ensures .1 ∙ next _ _ 5 (fifth (c .before))
+times-requires : tie.Need-times-requires Inv-loop μ-loop
+times-requires c κs =
+    let w = c .before .before in
+    let z = w .before .before .before in
+    (w .loop .inv .1, (z .pre .1, room (number (w .loop .p)) (z .args .s) (w .loop .i) (z .pre .1) (c .before .loop-test .taken) (w .loop .inv .2)))
 
-times-requires : tie.Need-times-requires
-times-requires c κs = let s = c .args .s in (first-limbs s (c .pre), (c .pre, room (whole s 0 0 0) s 1 (c .pre) (lit≤ tt) (first s)))
+add-i : tie.Need-add-i Inv-loop μ-loop
+add-i c = omega (arith, c .before .before .before .loop .inv .0)
 
-times-requires-2 : tie.Need-times-requires-2
-times-requires-2 c κs = (c .times .ensures .0, (c .before .pre, room _ _ 2 (c .before .pre) (lit≤ tt) (second c)))
+loop-less : tie.Need-loop-less Inv-loop μ-loop
+loop-less c = omega (arith, c .before .before .loop-test .taken)
 
-times-requires-3 : tie.Need-times-requires-3
-times-requires-3 c κs = (c .times2 .ensures .0, (c .before .before .pre, room _ _ 3 (c .before .before .pre) (lit≤ tt) (third c)))
+more : (i : ℕ) → i < 6 → i + 1 ≤ 6
+more i h = omega arith
 
-times-requires-4 : tie.Need-times-requires-4
-times-requires-4 c κs = (c .times3 .ensures .0, (c .before .before .before .pre, room _ _ 4 (c .before .before .before .pre) (lit≤ tt) (fourth c)))
+loop-again : tie.Need-loop-again Inv-loop μ-loop
+loop-again c =
+    let w = c .before .before .before in
+    let s = w .before .before .before .args .s in
+    (more (w .loop .i) (c .before .before .loop-test .taken), c .times .ensures .0, c .times .ensures .1 ∙ next (number (w .loop .p)) s (w .loop .i) (w .loop .inv .2) ∙ rw add-one)
 
-times-requires-5 : tie.Need-times-requires-5
-times-requires-5 c κs =
-    (c .times4 .ensures .0, (c .before .before .before .before .pre, room _ _ 5 (c .before .before .before .before .pre) (lit≤ tt) (fifth c)))
+last : (i : ℕ) → i ≤ 6 → 6 ≤ i → i ≡ 6
+last i h k = omega arith
 
-returns : tie.Need-returns
-returns c = (c .times5 .ensures .0, sixth c)
+returns : tie.Need-returns Inv-loop μ-loop
+returns c =
+    let w = c .before in
+    (w .loop .inv .1, w .loop .inv .2 ∙ ap (λ (x : ℕ). w .before .before .before .args .s ^ x) (last (w .loop .i) (w .loop .inv .0) (c .loop-test .left)))
 
 pub sixth-power-spec : {M : Type 1} → statement M
-sixth-power-spec = tie.close (tie.spec times-requires times-requires-2 times-requires-3 times-requires-4 times-requires-5 returns)
+sixth-power-spec =
+    tie.close
+    (tie.spec
+    Inv-loop
+    μ-loop
+    start-requires
+    loop-holds
+    times-requires
+    add-i
+    loop-less
+    loop-again
+    returns)
