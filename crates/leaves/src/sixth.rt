@@ -7,10 +7,10 @@ ghost use lib.Ieee.{binary32};
 ghost use Rattle.rounding.specs.Roots.{root, IsRoot, cutTo};
 ghost use Rattle.leaves.specs.Sixth.{sixthRootOf};
 
-// The largest r with r ^ 6 at most t * 2 ^ 108, a binary digit at a time from the top one down, each tried in the same scratch.
+// The largest r with r ^ 6 at most t * 2 ^ 96, a binary digit at a time from the top one down, each tried in the same scratch.
 fn settle(t: u64) -> u64
-    requires { ⌜ t < 2 ^ 36 ⌝ }
-    ensures { λ r. ⌜ IsRoot 6 (t * 2 ^ 108) r ⌝ }
+    requires { ⌜ t < 2 ^ 48 ⌝ }
+    ensures { λ r. ⌜ IsRoot 6 (t * 2 ^ 96) r ⌝ }
 {
     let mut p = [0u64; 4];
     let mut r = 0u64;
@@ -25,15 +25,14 @@ fn settle(t: u64) -> u64
     r
 }
 
-// By how much m is shifted left to have 31 to 36 digits, such that e + 637 less the shift is a multiple of six.
-fn shift(m: u64, e: u64) -> u64
+// The root's place k: shifted left by what six times k leaves of e + 649, m has 43 to 48 digits.
+fn root_place(m: u64, e: u64) -> u64
     requires { ⌜ 0 < m ⌝ }
     requires { ⌜ m < 2 ^ 24 ⌝ }
     requires { ⌜ e < 1024 ⌝ }
-    ensures { λ l. ⌜ (l < 36) × (2 ^ 30 ≤ m * 2 ^ l) × (m * 2 ^ l < 2 ^ 36) × ((e + 637 - l) % 6 ≡ 0) ⌝ }
+    ensures { λ k. ⌜ (k * 6 ≤ e + 649) × (e + 649 - k * 6 < 64) × (2 ^ 42 ≤ m * 2 ^ (e + 649 - k * 6)) × (m * 2 ^ (e + 649 - k * 6) < 2 ^ 48) ⌝ }
 {
-    let l = (u64::leading_zeros(m) as u64) - 33;
-    l + (e + 1 + 5 * l) % 6
+    (e + 670 - (u64::leading_zeros(m) as u64)) / 6
 }
 
 // The root of m * 2 ^ e smallest values.
@@ -43,8 +42,8 @@ fn sixth_parts(m: u64, e: u64) -> f32
     requires { ⌜ e < 1024 ⌝ }
     ensures { λ r. ⌜ r ≡ cutTo binary32 (root 6 (m * 2 ^ e * 2 ^ 745)) ⌝ }
 {
-    let l = shift(m, e);
-    parts::join(false, settle(m << l), (e + 637 - l) / 6)
+    let k = root_place(m, e);
+    parts::join(false, settle(m << (e + 649 - k * 6)), k)
 }
 
 // The largest f32 whose sixth power is at most q.

@@ -1,7 +1,7 @@
 -- `leaves::power::times` meets its contract. Assumes nothing.
 use borrow.Author.Needs.{needs}
 use lib.ListN.{getD}
-use Rattle.leaves.proofs.LimbLaws.{fits, second, third, fourth, times-is}
+use Rattle.leaves.proofs.LimbLaws.{fits, top-fits, second, third, fourth, times-is}
 use Rattle.leaves.proofs.power.times.Statement.{statement}
 use Rattle.leaves.proofs.power.times.Tie as tie
 
@@ -40,10 +40,10 @@ element-copy-out-d c = search needs
 mul-d : tie.Need-mul-d
 mul-d c =
     let z = c .before .before .before .before in
-    let p = z .args .p .now in record { fits = fits p (z .args .s) (z .pre .0) (z .pre .1 .0) (getD p 3 0) (z .pre .0 .d-lt) }
+    record { fits = top-fits (z .args .p .now) (z .args .s) (z .pre .0) (z .pre .1 .0) (z .pre .1 .1) }
 
 add-d : tie.Need-add-d
-add-d c = let z = c .before .before .before .before in record { fits = fourth (z .args .p .now) (z .args .s) (z .pre .0) (z .pre .1 .0) }
+add-d c = let z = c .before .before .before .before in record { fits = fourth (z .args .p .now) (z .args .s) (z .pre .0) (z .pre .1 .0) (z .pre .1 .1) }
 
 element-write-p : tie.Need-element-write-p
 element-write-p c = search needs
@@ -58,7 +58,7 @@ element-write-p-4 : tie.Need-element-write-p-4
 element-write-p-4 c = search needs
 
 returns : tie.Need-returns
-returns c = let z = c .before .before .before .before in times-is (z .args .p .now) (z .args .s) (z .pre .0) (z .pre .1 .1)
+returns c = let z = c .before .before .before .before in times-is (z .args .p .now) (z .args .s) (z .pre .0 .size)
 
 pub times-spec : {M : Type 1} → statement M
 times-spec =

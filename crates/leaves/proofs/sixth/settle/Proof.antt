@@ -15,7 +15,7 @@ abbrev Inv : ℕ → ℕ → ℕ → Type 0
 Inv n r i = (i ≤ 24) × (r ^ 6 ≤ n) × (n < (r + 2 ^ i) ^ 6) × (r + 2 ^ i ≤ 16777216)
 
 abbrev Inv-loop : tie.InvT-loop
-Inv-loop t p₀ r₀ i₀ p r i = (length p ≡ 4) × Inv (t * 2 ^ 108) r i
+Inv-loop t p₀ r₀ i₀ p r i = (length p ≡ 4) × Inv (t * 2 ^ 96) r i
 
 abbrev μ-loop : tie.MeasureT-loop
 μ-loop t p₀ r₀ i₀ p r i = i
@@ -71,7 +71,7 @@ module _ (n r i : ℕ) (h : 0 < i) (v : Inv n r i) where
       below g = omega (arith, over)
 
 loop-holds : tie.Need-loop-holds Inv-loop μ-loop
-loop-holds c = (refl, (lit≤ tt, zero-le, mul-lt-mul-of-pos-right (c .pre) (pow-pos 108), lit≤ tt))
+loop-holds c = (refl, (lit≤ tt, zero-le, mul-lt-mul-of-pos-right (c .pre) (pow-pos 96), lit≤ tt))
 
 sub-i : tie.Need-sub-i Inv-loop μ-loop
 sub-i c = omega arith
@@ -81,7 +81,7 @@ shl-s c = omega (arith, c .before .loop .inv .1 .0)
 
 add-s : tie.Need-add-s Inv-loop μ-loop
 unfolding s
-add-s c = let l = c .before .loop in record { fits = lt-of-lt-of-le (s-lt (c .before .before .args .t * 2 ^ 108) (l .r) (l .i) (c .loop-test .taken) (l .inv .1)) (lit≤ tt) }
+add-s c = let l = c .before .loop in record { fits = lt-of-lt-of-le (s-lt (c .before .before .args .t * 2 ^ 96) (l .r) (l .i) (c .loop-test .taken) (l .inv .1)) (lit≤ tt) }
 
 under-requires : tie.Need-under-requires Inv-loop μ-loop
 unfolding s
@@ -89,7 +89,7 @@ under-requires c κs =
     let w = c .before .before in
     let l = w .loop in
     let z = w .before in
-    (l .inv .0, (s-lt (z .args .t * 2 ^ 108) (l .r) (l .i) (c .before .loop-test .taken) (l .inv .1), z .pre))
+    (l .inv .0, s-lt (z .args .t * 2 ^ 96) (l .r) (l .i) (c .before .loop-test .taken) (l .inv .1))
 
 loop-less : tie.Need-loop-less Inv-loop μ-loop
 loop-less c = omega (arith, c .before .before .before .loop-test .taken)
@@ -100,7 +100,7 @@ loop-again c =
     let w = c .before .before .before .before in
     let l = w .loop in
     let u = c .before .under in
-    let n = w .before .args .t * 2 ^ 108 in (
+    let n = w .before .args .t * 2 ^ 96 in (
       u .ensures .0,
       yes n (l .r) (l .i) (c .before .before .before .loop-test .taken) (l .inv .1) (leb-true _ n (sym (u .ensures .1) ∙ c .if1 .taken)),
     )
@@ -114,7 +114,7 @@ loop-again-2 c =
     let w = c .before .before .before .before in
     let l = w .loop in
     let u = c .before .under in
-    let n = w .before .args .t * 2 ^ 108 in (
+    let n = w .before .args .t * 2 ^ 96 in (
       u .ensures .0,
       no n (l .r) (l .i) (c .before .before .before .loop-test .taken) (l .inv .1) (leb-false _ n (sym (u .ensures .1) ∙ c .if1 .left)),
     )
@@ -126,7 +126,7 @@ ended n r i h v = (v .1, subst (λ (x : ℕ). n < (r + 2 ^ x) ^ 6) (none i h) (v
     none i h = omega arith
 
 returns : tie.Need-returns Inv-loop μ-loop
-returns c = let l = c .before .loop in ended (c .before .before .args .t * 2 ^ 108) (l .r) (l .i) (c .loop-test .left) (l .inv .1)
+returns c = let l = c .before .loop in ended (c .before .before .args .t * 2 ^ 96) (l .r) (l .i) (c .loop-test .left) (l .inv .1)
 
 pub settle-spec : {M : Type 1} → statement M
 settle-spec =

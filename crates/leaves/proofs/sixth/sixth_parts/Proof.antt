@@ -1,7 +1,7 @@
--- `leaves::sixth::sixth_parts` meets its contract. m * 2 ^ l * 2 ^ 108 has 139 to 144 digits, so its root has 24. Assumes nothing.
+-- `leaves::sixth::sixth_parts` meets its contract. m * 2 ^ l * 2 ^ 96 has 139 to 144 digits, so its root has 24. Assumes nothing.
 use mathlib.Core.Path.{_∙_, subst}
 use mathlib.Core.Logic.{inr}
-use Prim.Native.Nat.{ℕ, _+_, _-_, _*_, _/_, _^_, _≤_, _<_}
+use Prim.Native.Nat.{ℕ, _+_, _-_, _*_, _^_, _≤_, _<_}
 use native.Mathlib.Nat.{mod-eq-of-lt, lt-of-lt-of-le, le-of-lt}
 use native.Mathlib.Omega.{arith}
 use borrow.Author.Needs.{needs}
@@ -11,16 +11,27 @@ use Rattle.leaves.proofs.SixthParts.{digits-lt, digits-ge, parts-value}
 use Rattle.leaves.proofs.sixth.sixth_parts.Statement.{statement}
 use Rattle.leaves.proofs.sixth.sixth_parts.Tie as tie
 
--- what `settle` gives, of m * 2 ^ l itself
-found : (c : tie.After-settle) → IsRoot 6 (c .before .before .args .m * 2 ^ c .before .shift .result * 2 ^ 108) (c .settle .result)
+-- what `settle` gives, of m shifted itself
+found : (c : tie.After-settle)
+    → let a = c .before .before .args in IsRoot 6 (a .m * 2 ^ (a .e + 649 - c .before .root-place .result * 6) * 2 ^ 96) (c .settle .result)
 found c =
-    subst (λ (x : ℕ). IsRoot 6 (x * 2 ^ 108) (c .settle .result)) (mod-eq-of-lt (lt-of-lt-of-le (c .before .shift .ensures .2) (lit≤ tt))) (c .settle .ensures)
+    subst (λ (x : ℕ). IsRoot 6 (x * 2 ^ 96) (c .settle .result)) (mod-eq-of-lt (lt-of-lt-of-le (c .before .root-place .ensures .3) (lit≤ tt)))
+    (c .settle .ensures)
 
-low-k : (e l : ℕ) → e < 1024 → (e + 637 - l) / 6 < 65536
-low-k e l h = omega arith
+low-k : (e k : ℕ) → e < 1024 → k * 6 ≤ e + 649 → k < 65536
+low-k e k h g = omega arith
 
-shift-requires : tie.Need-shift-requires
-shift-requires c κs = search needs
+root-place-requires : tie.Need-root-place-requires
+root-place-requires c κs = search needs
+
+add-settle : tie.Need-add-settle
+add-settle c = search needs
+
+mul-settle : tie.Need-mul-settle
+mul-settle c = search needs
+
+sub-settle : tie.Need-sub-settle
+sub-settle c = search needs
 
 shl-settle : tie.Need-shl-settle
 shl-settle c = search needs
@@ -28,30 +39,21 @@ shl-settle c = search needs
 settle-requires : tie.Need-settle-requires
 settle-requires c κs = search needs
 
-add-join : tie.Need-add-join
-add-join c = search needs
-
-sub-join : tie.Need-sub-join
-sub-join c = search needs
-
 join-requires : tie.Need-join-requires
 join-requires c κs =
     let a = c .before .before .args in
-    let h = c .before .shift in
-    let t = a .m * 2 ^ h .result in
+    let p = c .before .root-place in
+    let t = a .m * 2 ^ (a .e + 649 - p .result * 6) in
     let s = c .settle .result in (
-      le-of-lt (digits-lt t s (h .ensures .2) (found c)),
-      (low-k (a .e) (h .result) (c .before .before .pre .1 .1), inr (digits-ge t s (h .ensures .1) (found c))),
+      le-of-lt (digits-lt t s (p .ensures .3) (found c)),
+      (low-k (a .e) (p .result) (c .before .before .pre .1 .1) (p .ensures .0), inr (digits-ge t s (p .ensures .2) (found c))),
     )
 
 returns : tie.Need-returns
 returns c =
     let a = c .before .before .before .args in
-    let h = c .before .before .shift in
-    c .join .ensures ∙ parts-value (a .m) (a .e) (h .result) (c .before .settle .result) (h .ensures .0) (h .ensures .1) (h .ensures .2) (h .ensures .3)
-    (found (c .before))
+    let p = c .before .before .root-place in
+    c .join .ensures ∙ parts-value (a .m) (a .e) (p .result) (c .before .settle .result) (p .ensures .0) (p .ensures .2) (p .ensures .3) (found (c .before))
 
 pub sixth-parts-spec : {M : Type 1} → statement M
-sixth-parts-spec =
-    tie.close
-    (tie.spec shift-requires shl-settle settle-requires add-join sub-join join-requires returns)
+sixth-parts-spec = tie.close (tie.spec root-place-requires add-settle mul-settle sub-settle shl-settle settle-requires join-requires returns)
