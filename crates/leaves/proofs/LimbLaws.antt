@@ -2,8 +2,8 @@
 use mathlib.Core.Path.{_≡_, refl, sym, ap, _∙_, subst}
 use mathlib.Core.List.{List, [], _∷_}
 use Prim.Native.Nat.{ℕ, suc, _+_, _-_, _*_, _/_, _%_, _^_, _≤_, _<_}
-use native.Mathlib.Nat.{add-mul, mul-right-comm, mul-le-mul, mul-le-mul-right, le-of-eq, lt-of-le-of-lt, lt-of-lt-of-le, le-trans, lt-of-mul-lt-mul-right, one-mul, pow-zero}
-use native.Mathlib.Nat.{add-zero, pow-suc, pow-le-pow-left, pow-le-pow-right}
+use native.Mathlib.Nat.{add-zero, add-mul, mul-right-comm, mul-le-mul, mul-le-mul-right, lt-of-mul-lt-mul-right, one-mul}
+use native.Mathlib.Nat.{le-of-eq, le-trans, lt-of-le-of-lt, lt-of-lt-of-le, pow-zero, pow-suc, pow-le-pow-left, pow-le-pow-right}
 use native.Mathlib.Omega.{arith}
 use lib.Dec.{leb, eqb, lit≤, lit<}
 use lib.ListN.{getD, set, length}
@@ -21,12 +21,12 @@ top-lt : (a b c d s : ℕ) → whole a b c d * s < 2 ^ 144 → d * s < 2 ^ 48
 top-lt a b c d s h =
     lt-of-mul-lt-mul-right (2 ^ 96) (lt-of-le-of-lt (le-trans (le-of-eq (mul-right-comm d s (2 ^ 96))) (mul-le-mul-right s (top-le a b c d))) h)
 
+less : (a b : ℕ) → a < suc b → a ≤ b
+less a b h = omega arith
+
 -- a lower limb times a number of 24 digits
 product-le : (a s : ℕ) → a < 2 ^ 32 → s < 2 ^ 24 → a * s ≤ (2 ^ 32 - 1) * (2 ^ 24 - 1)
 product-le a s h k = mul-le-mul (less a 4294967295 h) (less s 16777215 k)
-  where
-    less : (a b : ℕ) → a < suc b → a ≤ b
-    less a b h = omega arith
 
 sum-fits : (x y : ℕ) → x ≤ (2 ^ 32 - 1) * (2 ^ 24 - 1) → y < 2 ^ 64 → x + y / 2 ^ 32 < 2 ^ 64
 sum-fits x y h k = omega arith
@@ -46,7 +46,9 @@ module _ (p : List ℕ) (s : ℕ) (l : Limbs p) (k : s < 2 ^ 24) where
   top-fits h = lt-of-lt-of-le (top-lt (getD p 0 0) (getD p 1 0) (getD p 2 0) (getD p 3 0) s h) (lit≤ tt)
 
   pub fourth : number p * s < 2 ^ 144 → getD p 3 0 * s + (getD p 2 0 * s + (getD p 1 0 * s + getD p 0 0 * s / 2 ^ 32) / 2 ^ 32) / 2 ^ 32 < 2 ^ 64
-  fourth h = last (getD p 3 0 * s) (getD p 2 0 * s + (getD p 1 0 * s + getD p 0 0 * s / 2 ^ 32) / 2 ^ 32) (top-lt (getD p 0 0) (getD p 1 0) (getD p 2 0) (getD p 3 0) s h) third
+  fourth h =
+      last (getD p 3 0 * s) (getD p 2 0 * s + (getD p 1 0 * s + getD p 0 0 * s / 2 ^ 32) / 2 ^ 32)
+      (top-lt (getD p 0 0) (getD p 1 0) (getD p 2 0) (getD p 3 0) s h) third
     where
       last : (x y : ℕ) → x < 2 ^ 48 → y < 2 ^ 64 → x + y / 2 ^ 32 < 2 ^ 64
       last x y h k = omega arith
@@ -144,7 +146,6 @@ short-is p x n e h =
     shifted : (x : ℕ) → x % 2 ^ 12 * 2 ^ 20 < 2 ^ 32
     shifted x = omega arith
 
-
 pub next : (p s k : ℕ) → p ≡ s ^ k → p * s ≡ s ^ suc k
 next p s k e = ap (λ (x : ℕ). x * s) e ∙ sym (pow-suc s k)
 
@@ -152,9 +153,6 @@ pub room : (p s k : ℕ) → s < 2 ^ 24 → suc k ≤ 6 → p ≡ s ^ k → p * 
 room p s k h l e =
     lt-of-le-of-lt (le-of-eq (next p s k e))
     (lt-of-le-of-lt (le-trans (pow-le-pow-left (less s 16777215 h) (suc k)) (pow-le-pow-right (lit< tt) l)) (lit< tt))
-  where
-    less : (a b : ℕ) → a < suc b → a ≤ b
-    less a b h = omega arith
 
 -- ---- the comparison with t * 2 ^ 96
 below-top : (a b c d t : ℕ) → a < 2 ^ 32 → b < 2 ^ 32 → c < 2 ^ 32 → d < t → whole a b c d ≤ t * 2 ^ 96

@@ -1,5 +1,5 @@
 -- `leaves::power::sixth_power` meets its contract. The invariant: p holds s ^ i. The measure is 6 - i. Assumes nothing.
-use mathlib.Core.Path.{_≡_, ap, _∙_, subst}
+use mathlib.Core.Path.{_≡_, ap, _∙_}
 use Prim.Native.Nat.{ℕ, suc, _+_, _-_, _*_, _/_, _%_, _^_, _≤_, _<_}
 use native.Mathlib.Numerals.{add-one}
 use native.Mathlib.Omega.{arith}
@@ -55,7 +55,8 @@ loop-again : tie.Need-loop-again Inv-loop μ-loop
 loop-again c =
     let w = c .before .before .before in
     let s = w .before .before .before .before .args .s in
-    (more (w .loop .i) (c .before .before .loop-test .taken), c .times .ensures .0, c .times .ensures .1 ∙ next (number (w .loop .p)) s (w .loop .i) (w .loop .inv .2) ∙ rw add-one)
+    let t = c .times .ensures in
+    (more (w .loop .i) (c .before .before .loop-test .taken), t .0, t .1 ∙ next (number (w .loop .p)) s (w .loop .i) (w .loop .inv .2) ∙ rw add-one)
 
 last : (i : ℕ) → i ≤ 6 → 6 ≤ i → i ≡ 6
 last i h k = omega arith

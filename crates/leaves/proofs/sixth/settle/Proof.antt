@@ -1,11 +1,10 @@
 -- `leaves::sixth::settle` meets its contract. The invariant: the root lies from r up to r + 2 ^ i, which is at most 2 ^ 24. The measure is i. Assumes nothing.
 use mathlib.Core.Path.{_≡_, refl, sym, ap, _∙_, subst}
-use mathlib.Core.Bool.{Bool, true, false}
 use Prim.Native.Nat.{ℕ, suc, _+_, _-_, _*_, _%_, _^_, _≤_, _<_, zero-le}
-use native.Mathlib.Nat.{one-mul, mod-eq-of-lt, add-assoc, two-pow-succ, mul-lt-mul-of-pos-right, lt-of-lt-of-le, lt-of-le-of-lt}
+use native.Mathlib.Nat.{one-mul, mod-eq-of-lt, add-assoc, two-pow-succ, mul-lt-mul-of-pos-right, lt-of-lt-of-le}
 use native.Mathlib.Omega.{arith}
 use borrow.Author.Tests.{leb-true, leb-false}
-use lib.Dec.{leb, lit≤, lit<}
+use lib.Dec.{lit≤}
 use lib.ListN.{length}
 use lib.Pow.{pow-lt, pow-pos}
 use Rattle.leaves.proofs.sixth.settle.Statement.{statement}
@@ -81,7 +80,9 @@ shl-s c = omega (arith, c .before .loop .inv .1 .0)
 
 add-s : tie.Need-add-s Inv-loop μ-loop
 unfolding s
-add-s c = let l = c .before .loop in record { fits = lt-of-lt-of-le (s-lt (c .before .before .args .t * 2 ^ 96) (l .r) (l .i) (c .loop-test .taken) (l .inv .1)) (lit≤ tt) }
+add-s c =
+    let l = c .before .loop in
+    record { fits = lt-of-lt-of-le (s-lt (c .before .before .args .t * 2 ^ 96) (l .r) (l .i) (c .loop-test .taken) (l .inv .1)) (lit≤ tt) }
 
 under-requires : tie.Need-under-requires Inv-loop μ-loop
 unfolding s
