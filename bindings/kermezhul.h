@@ -7,6 +7,9 @@
  *
  * The library keeps no state and writes only what is lent to a call, so several threads may call it at once, each with memory of its own to write to.
  *
+ * It calls no other library. On the 64-bit processors where it was measured a flattening touches at most 2,048 bytes of stack, a plot or whole units as many, a
+ * drawing call 512, and a float leaf 128 (tests/stack).
+ *
  *   0 done                                            5 a cubic needs over 1,024 pieces
  *   1 a coordinate is NaN or beyond +-65,536          6 the quad table is full
  *   2 a weight is NaN or outside 1/64..64             7 the spline table is full, or holds 4,194,304

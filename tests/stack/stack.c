@@ -4,7 +4,7 @@
  *     stack FLATTEN DRAW LEAF TOOL
  *
  * Each call is made on a stack that was filled with one byte before. What it touches is counted from the stack pointer at the call, the return address
- * included, down to the lowest byte that has changed. */
+ * included, down to the lowest byte that has changed. Leaving that stack again touches a few bytes of it too, 16 on x86-64, so no call counts as less. */
 #include "../../bindings/kermezhul.h"
 #include <math.h>
 #include <stdio.h>

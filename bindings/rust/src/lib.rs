@@ -3,7 +3,8 @@
 //! The functions here are as thin as those of the C header beside them: the caller lends all memory as slices, and gets 0 or the number of a refusal.
 //! Every argument is allowed: a call either does its work or refuses.
 //!
-//! The library keeps no state and writes only what is lent to a call, so several threads may call it at once: `examples/nest.rs` does.
+//! The library keeps no state and writes only what is lent to a call, so several threads may call it at once: `examples/nest.rs` does. It calls no other library;
+//! how much stack it takes is in the C header.
 //!
 //! ```no_run
 //! use kermezhul::{Call, Columns, State};
