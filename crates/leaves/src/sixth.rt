@@ -2,7 +2,7 @@
 use crate::parts;
 use crate::power;
 ghost use mathlib.Core.Path.{_≡_};
-ghost use Prim.Native.Nat.{_+_, _-_, _*_, _%_, _^_, _<_, _≤_};
+ghost use Prim.Native.Nat.{_+_, _-_, _*_, _^_, _<_, _≤_};
 ghost use lib.Ieee.{binary32};
 ghost use Rattle.rounding.specs.Roots.{root, IsRoot, cutTo};
 ghost use Rattle.leaves.specs.Sixth.{sixthRootOf};
@@ -25,7 +25,8 @@ fn settle(t: u64) -> u64
     r
 }
 
-// The root's place k: shifted left by what six times k leaves of e + 649, m has 43 to 48 digits.
+// How many places k up the root's last digit stands. Its power counts m * 2 ^ (e + 745): six places for each k, 96 below the scratch's top limb, and by the rest m is
+// shifted left to 43 to 48 digits.
 fn root_place(m: u64, e: u64) -> u64
     requires { ⌜ 0 < m ⌝ }
     requires { ⌜ m < 2 ^ 24 ⌝ }

@@ -1,9 +1,9 @@
 -- `leaves::power::short_power` meets its contract: a number of ten digits has a sixth power of sixty. Assumes nothing.
 use mathlib.Core.Path.{_≡_, sym, ap, ap₂, _∙_}
 use Prim.Native.Nat.{ℕ, _*_, _^_, _≤_, _<_}
-use native.Mathlib.Nat.{mul-le-mul, lt-of-le-of-lt, lt-of-lt-of-le, pow-zero, pow-suc, one-mul, le-of-lt, le-of-eq}
+use native.Mathlib.Nat.{mul-le-mul, lt-of-le-of-lt, pow-zero, pow-suc, one-mul, le-of-lt}
 use borrow.Author.Needs.{needs}
-use lib.Dec.{leb, lit<}
+use lib.Dec.{lit<}
 use lib.Pow.{pow-add}
 use Rattle.rounding.proofs.Basics.{mul-pow}
 use Rattle.leaves.proofs.LimbLaws.{short-is}

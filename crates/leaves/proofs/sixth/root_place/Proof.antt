@@ -35,11 +35,11 @@ five-more m l d D h k = ends (m * 2 ^ (l + d)) (ap (λ (x : ℕ). m * x) (pow-ad
 
 -- the shift, by the leading zeros z
 module _ (e z : ℕ) (h : 21 ≤ z) (k : z - 21 ≤ 42) where
-  under : (e + 670 - z) / 6 * 6 ≤ e + 649
-  under = omega arith
+  sixes-le : (e + 670 - z) / 6 * 6 ≤ e + 649
+  sixes-le = omega arith
 
-  short : e + 649 - (e + 670 - z) / 6 * 6 < 64
-  short = omega arith
+  shift-lt : e + 649 - (e + 670 - z) / 6 * 6 < 64
+  shift-lt = omega arith
 
   shift-is : z - 21 + (e + 670 - z) % 6 ≡ e + 649 - (e + 670 - z) / 6 * 6
   shift-is = omega arith
@@ -61,8 +61,8 @@ returns c =
     let d = (a .e + 670 - z) % 6 in
     let f = five-more (a .m) (z - 21) d (mod-lt (a .e + 670 - z) (zero-lt-suc 5)) (v .2) (v .3) in
     let g = shift-is (a .e) z (v .0) (v .1) in (
-      under (a .e) z (v .0) (v .1),
-      short (a .e) z (v .0) (v .1),
+      sixes-le (a .e) z (v .0) (v .1),
+      shift-lt (a .e) z (v .0) (v .1),
       subst (λ (l : ℕ). 4398046511104 ≤ a .m * 2 ^ l) g (f .0),
       subst (λ (l : ℕ). a .m * 2 ^ l < 281474976710656) g (f .1),
     )
