@@ -51,13 +51,13 @@ module _ (X i Y j : ℕ) (hx : X < 16777216) (hy : Y < 16777216) (hi : i ≤ 254
       ∙ ap (λ (x : ℕ). X * Y * x * 2 ^ 298) (ap (λ (x : ℕ). x * 2 ^ 776) (sym (pow-add 2 i j)) ∙ sym (pow-add 2 (i + j) 776))
     where
       regroup : (a b x y z : ℕ) → a * x * (b * y) * z ≡ a * b * (x * y) * z
-      regroup a b x y z = simp (mul-assoc, mul-comm, mul-left-comm)
+      regroup a b x y z = simp (mul-assoc, mul-left-comm)
 
       last : (a b x y z c : ℕ) → y * z ≡ c → a * b * x * c ≡ a * b * (x * y) * z
       last a b x y z c e = ap (λ (m : ℕ). a * b * x * m) (sym e) ∙ left a b x y z
         where
           left : (a b x y z : ℕ) → a * b * x * (y * z) ≡ a * b * (x * y) * z
-          left a b x y z = simp (mul-assoc, mul-comm, mul-left-comm)
+          left a b x y z = simp mul-assoc
 
   exact : (s : Bool) → HasValue (round binary64 s (X * 2 ^ i * (Y * 2 ^ j)) (2 ^ 298)) s (X * 2 ^ i * (Y * 2 ^ j)) (2 ^ 298)
   exact s =
@@ -86,7 +86,7 @@ module _ (X i Y j : ℕ) (hx : X < 16777216) (hy : Y < 16777216) (hi : i ≤ 254
       crossed x y A B e d L M D p q r = ap (λ (n : ℕ). x * y * n) (sym r) ∙ four x y L M ∙ ap₂ (λ (m n : ℕ). m * n) p q ∙ sym (four A B e d)
         where
           four : (a b c d : ℕ) → a * b * (c * d) ≡ a * c * (b * d)
-          four a b c d = simp (mul-assoc, mul-comm, mul-left-comm)
+          four a b c d = simp (mul-assoc, mul-left-comm)
 
 -- ---- the sum, from the fractions that its parts equal
 add-value : (p z : Float) (s u : Bool) (P C : ℕ) → HasValue p s P (2 ^ 298) → HasValue z u C (2 ^ 149)
@@ -107,7 +107,7 @@ add-value (fin a m e) (fin b n d) s u P C h k =
     crossed x g A e L K D p r = ap (λ (n : ℕ). x * g * n) (sym r) ∙ four x g L K ∙ ap (λ (n : ℕ). n * (g * K)) p ∙ back A e g K
       where
         four : (x g L K : ℕ) → x * g * (L * K) ≡ x * L * (g * K)
-        four x g L K = simp (mul-assoc, mul-comm, mul-left-comm)
+        four x g L K = simp (mul-assoc, mul-left-comm)
 
         back : (A e g K : ℕ) → A * e * (g * K) ≡ A * K * (e * g)
         back A e g K = simp (mul-assoc, mul-comm, mul-left-comm)

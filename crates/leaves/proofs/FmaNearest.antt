@@ -6,12 +6,11 @@ use Prim.Native.Nat.{ℕ, zero, suc, _*_, _+_, _^_, _<_}
 use native.Mathlib.Nat.{mul-one, mul-zero, zero-mul, mul-pos}
 use lib.IntN.{ℤ, pos, negsuc, negℤ, natAbs, _+ℤ_, _*ℤ_}
 use lib.Dec.{T, ltb}
-use lib.Pow.{pow-pos}
-use lib.Ieee.{Float, nan, inf, fin, Format, binary32, prec, emax, low, up, down, unlike, odd, units, round, sum, size, add, mul, ofBits}
+use lib.Ieee.{Float, nan, inf, fin, Format, binary32, prec, emax, low, up, down, unlike, odd, units, round, sum, add, mul, ofBits}
 use lib.Ieee.Fits.{round-is}
 use lib.Ieee.Order.{drop, kept}
 use lib.Ieee.Positive.{den-pos}
-use lib.Ieee.Scale.{finite, round-same}
+use lib.Ieee.Scale.{finite}
 use Rattle.facts.proofs.Tests.{like}
 use Rattle.rounding.specs.Nearest.{signed, NearestTo}
 use Rattle.rounding.specs.Sums.{sumSign, sumSize}
