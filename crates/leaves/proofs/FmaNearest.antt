@@ -6,18 +6,18 @@ use Prim.Native.Nat.{ℕ, zero, suc, _*_, _+_, _^_, _<_}
 use native.Mathlib.Nat.{mul-one, mul-zero, zero-mul, mul-pos}
 use lib.IntN.{ℤ, pos, negsuc, negℤ, natAbs, _+ℤ_, _*ℤ_}
 use lib.Dec.{T, ltb}
-use lib.Pow.{pow-pos}
-use lib.Ieee.{Float, nan, inf, fin, Format, binary32, prec, emax, low, up, down, unlike, odd, units, round, sum, size, add, mul, ofBits}
+use lib.Ieee.{Float, nan, inf, fin, Format, binary32, prec, emax, low, up, down, unlike, odd, units, round, sum, add, mul, ofBits}
 use lib.Ieee.Fits.{round-is}
 use lib.Ieee.Order.{drop, kept}
 use lib.Ieee.Positive.{den-pos}
-use lib.Ieee.Scale.{finite, round-same}
+use lib.Ieee.Scale.{finite}
 use Rattle.facts.proofs.Tests.{like}
 use Rattle.rounding.specs.Nearest.{signed, NearestTo}
 use Rattle.rounding.specs.Sums.{sumSign, sumSize}
 use Rattle.rounding.proofs.Distances.{abs-signed}
 use Rattle.rounding.proofs.Signed.{signed-times, sum-rounds, sum-signed, zero-sign}
 use Rattle.rounding.proofs.Nearest.{round-nearest}
+use Rattle.rounding.proofs.Double.{round-zero}
 use Rattle.leaves.specs.Single.{_⊕_, one32}
 use Rattle.leaves.specs.Fma.{fma32, fmaOf}
 use Rattle.leaves.specs.Small.{negativeOf}
@@ -86,13 +86,6 @@ units-sign f s q k = go (ltb (q * 2 ^ k) (2 ^ (low f + suc (emax f))))
 pub round-sign : (f : Format) (s : Bool) (a b : ℕ) → negativeOf (round f s a b) ≡ s
 round-sign f s a b = ap negativeOf (round-is f s a b) ∙ units-sign f s (kept (prec f) (a * 2 ^ low f) b) (drop (prec f) (a * 2 ^ low f) b)
 
-round-zero-one : (s : Bool) → round binary32 s 0 1 ≡ fin s 0 (pos 0)
-unfolding round size units odd
-round-zero-one s = refl
-
-round-zero : (s : Bool) (b : ℕ) → 0 < b → round binary32 s 0 b ≡ fin s 0 (pos 0)
-round-zero s b B = round-same binary32 s 0 b 0 1 B (pow-pos 0) (zero-mul 1 ∙ sym (zero-mul b)) ∙ round-zero-one s
-
 -- ---- the laws
 module _ (x y z : Float) (X : T (finite x)) (Y : T (finite y)) (Z : T (finite z)) where
   pub fma-nearest : T (finite (fma32 x y z)) → NearestTo binary32 (exactNum x y z) (exactDen x y z) (fma32 x y z)
@@ -108,7 +101,7 @@ module _ (x y z : Float) (X : T (finite x)) (Y : T (finite y)) (Z : T (finite z)
       let r = fma-rounds x y z X Y Z in
       let m : r .M ≡ 0 = sym (abs-signed (r .S) (r .M)) ∙ ap natAbs (r .exact ∙ h) in
       r .is ∙ ap₂ (λ (s : Bool) (a : ℕ). round binary32 s a (exactDen x y z)) (r .at-zero m) m
-      ∙ round-zero (unlike (negativeOf x) (negativeOf y) && negativeOf z) (exactDen x y z) (exactDen-pos x y z)
+      ∙ round-zero binary32 (unlike (negativeOf x) (negativeOf y) && negativeOf z) (exactDen x y z) (exactDen-pos x y z)
 
   -- any other sum: above 0 and below
   pub fma-positive : (n : ℕ) → exactNum x y z ≡ pos (suc n) → negativeOf (fma32 x y z) ≡ false

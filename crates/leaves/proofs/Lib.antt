@@ -4,6 +4,7 @@ pub mod Signs
 pub mod WholeUp
 pub mod WholeNear
 pub mod FmaParts
+pub mod FastFma
 pub mod FmaNearest
 pub mod RootParts
 pub mod RootNearest

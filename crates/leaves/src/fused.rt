@@ -1,5 +1,5 @@
-// Fused multiply-add over whole numbers: the exact product plus the addend, brought to 24 digits by
-// its count of leading zeros and rounded once.
+// Fused multiply-add: mostly by way of f64, and otherwise over whole numbers, where the exact product
+// plus the addend is brought to 24 digits by its count of leading zeros and rounded once.
 use crate::parts;
 ghost use mathlib.Core.Path.{_≡_};
 ghost use Prim.Native.Nat.{_+_, _-_, _*_, _^_, _<_};
@@ -86,8 +86,8 @@ fn fma_bits(a: u32, b: u32, c: u32) -> f32
     align(s, p, pe, t, q, qe)
 }
 
-// a * b + c, rounded once.
-pub fn fma(a: f32, b: f32, c: f32) -> f32
+// a * b + c, rounded once, by whole numbers alone.
+fn whole_fma(a: f32, b: f32, c: f32) -> f32
     ensures { λ r. ⌜ r ≡ fma32 a b c ⌝ }
 {
     if !parts::finite(a) {
@@ -100,4 +100,40 @@ pub fn fma(a: f32, b: f32, c: f32) -> f32
         return c;
     }
     fma_bits(f32::to_bits(a), f32::to_bits(b), f32::to_bits(c))
+}
+
+// a * b + c, rounded once, mostly by way of f64. There the product is exact and the sum is rounded to
+// 53 digits; where those are no tie of two f32 neighbours and well inside the normal range, rounding
+// them to 24 is rounding a * b + c. A zero is exact. All else goes by whole numbers.
+pub fn fma(a: f32, b: f32, c: f32) -> f32
+    ensures { λ r. ⌜ r ≡ fma32 a b c ⌝ }
+{
+    if a != a {
+        return whole_fma(a, b, c);
+    }
+    if b != b {
+        return whole_fma(a, b, c);
+    }
+    if c != c {
+        return whole_fma(a, b, c);
+    }
+    let s: f64 = (a as f64) * (b as f64) + (c as f64);
+    if s != s {
+        return whole_fma(a, b, c);
+    }
+    let u = f64::to_bits(s);
+    let e = u / 0x10_0000_0000_0000 % 0x800;
+    if e < 898 {
+        if u % 0x8000_0000_0000_0000 == 0 {
+            return s as f32;
+        }
+        return whole_fma(a, b, c);
+    }
+    if e > 1149 {
+        return whole_fma(a, b, c);
+    }
+    if u % 0x2000_0000 == 0x1000_0000 {
+        return whole_fma(a, b, c);
+    }
+    f64::from_bits((u + 0x1000_0000) / 0x2000_0000 * 0x2000_0000) as f32
 }

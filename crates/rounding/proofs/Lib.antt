@@ -23,3 +23,4 @@ pub mod RootOnly
 pub mod Cuts
 pub mod RootLargest
 pub mod Bounds
+pub mod Double

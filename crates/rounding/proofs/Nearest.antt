@@ -43,19 +43,20 @@ module _ (p n b : ℕ) (P : 0 < p) (B : 0 < b) where
   whole-part : n / b / 2 ^ drop p n b ≡ n / (b * 2 ^ drop p n b)
   whole-part = div-div-eq-div-mul n b (2 ^ drop p n b)
 
+  pub part-lt : n / (b * 2 ^ drop p n b) < 2 ^ p
+  part-lt = subst (λ (x : ℕ). x < 2 ^ p) whole-part (kept-lt p (n / b))
+
+  pub part-full : 0 < drop p n b → 2 ^ (p - 1) ≤ n / (b * 2 ^ drop p n b)
+  part-full h = subst (λ (x : ℕ). 2 ^ (p - 1) ≤ x) whole-part (le-div-iff-mul-le (pow-pos (drop p n b)) .1 (leading p (n / b) P (drop p n b) refl h))
+
   pub kept-most : kept p n b ≤ 2 ^ p
-  kept-most =
-      le-trans (nearest-le (n / (b * 2 ^ drop p n b)) (compare (n % (b * 2 ^ drop p n b) * 2) (b * 2 ^ drop p n b)))
-      (subst (λ (x : ℕ). x < 2 ^ p) whole-part (kept-lt p (n / b)))
+  kept-most = le-trans (nearest-le (n / (b * 2 ^ drop p n b)) (compare (n % (b * 2 ^ drop p n b) * 2) (b * 2 ^ drop p n b))) part-lt
+
+  pub kept-least : n / (b * 2 ^ drop p n b) ≤ kept p n b
+  kept-least = nearest-ge (n / (b * 2 ^ drop p n b)) (compare (n % (b * 2 ^ drop p n b) * 2) (b * 2 ^ drop p n b))
 
   pub kept-full : (drop p n b ≡ 0) ⊎ (2 ^ (p - 1) ≤ kept p n b)
-  kept-full = elim (eq-zero-or-pos (drop p n b)) [
-    | inl z ↦ inl z
-    | inr h ↦
-        inr (le-trans
-        (subst (λ (x : ℕ). 2 ^ (p - 1) ≤ x) whole-part (le-div-iff-mul-le (pow-pos (drop p n b)) .1 (leading p (n / b) P (drop p n b) refl h)))
-        (nearest-ge (n / (b * 2 ^ drop p n b)) (compare (n % (b * 2 ^ drop p n b) * 2) (b * 2 ^ drop p n b))))
-  ]
+  kept-full = elim (eq-zero-or-pos (drop p n b)) [ inl z ↦ inl z | inr h ↦ inr (le-trans (part-full h) kept-least) ]
 
   reached : 2 ^ (p - 1) * 2 ^ drop p n b ≤ n / b → 2 ^ (p - 1) * 2 ^ drop p n b * b ≤ n
   reached h = le-trans (mul-le-mul-right b h) (div-mul-le-self n b)
