@@ -2,8 +2,7 @@
 use mathlib.Core.Path.{_≡_, refl, sym, ap, ap₂, _∙_, subst}
 use mathlib.Core.Bool.{Bool, true, false, not, Bool·beq, cond}
 use Prim.Native.Nat.{ℕ, _+_, _*_, _/_, _%_, _^_, _<_, _≤_}
-use native.Mathlib.Nat.{mul-assoc, mul-comm, mul-left-comm, mul-pos, mul-le-mul, mul-le-mul-left, mul-lt-mul-of-pos-right, lt-of-le-of-lt, lt-of-lt-of-le}
-use native.Mathlib.Nat.{le-of-lt}
+use native.Mathlib.Nat.{mul-assoc, mul-comm, mul-left-comm, mul-pos, mul-le-mul, lt-of-le-of-lt, lt-of-lt-of-le, le-of-lt}
 use native.Mathlib.Omega.{arith}
 use borrow.Author.Tests.{le-ltb}
 use lib.Dec.{T, leb, eqb, lit<, lit≤}
@@ -20,7 +19,7 @@ use Rattle.rounding.proofs.Sums.{sum-same}
 use Rattle.rounding.proofs.Signed.{sum-rounds}
 use Rattle.rounding.proofs.Double.{Clear, shorter, double, double-zero}
 use Rattle.leaves.specs.Fma.{fmaOf}
-use Rattle.leaves.proofs.FmaParts.{fma-value}
+use Rattle.leaves.proofs.FmaParts.{product-lt, fma-value}
 
 -- ---- the law of double rounding, of a sum: one sign and one size in both formats
 sum-double : (s : Bool) (a : ℕ) (t : Bool) (b c : ℕ) → 0 < c → Clear (toBits binary64 (sum binary64 s a t b c))
@@ -41,9 +40,6 @@ sum-zero s a t b c C L h =
 
 -- ---- the product of two values of binary32 is one of binary64
 module _ (X i Y j : ℕ) (hx : X < 16777216) (hy : Y < 16777216) (hi : i ≤ 254) (hj : j ≤ 254) where
-  product-lt : X * Y < 281474976710656
-  product-lt = lt-of-le-of-lt (mul-le-mul-left X (le-of-lt hy)) (mul-lt-mul-of-pos-right hx (pow-pos 24))
-
   product-is : X * 2 ^ i * (Y * 2 ^ j) * 2 ^ 1074 ≡ X * Y * 2 ^ (i + j + 776) * 2 ^ 298
   product-is =
       regroup X Y (2 ^ i) (2 ^ j) (2 ^ 1074)
@@ -61,8 +57,8 @@ module _ (X i Y j : ℕ) (hx : X < 16777216) (hy : Y < 16777216) (hi : i ≤ 254
 
   exact : (s : Bool) → HasValue (round binary64 s (X * 2 ^ i * (Y * 2 ^ j)) (2 ^ 298)) s (X * 2 ^ i * (Y * 2 ^ j)) (2 ^ 298)
   exact s =
-      round-exact binary64 s (X * 2 ^ i * (Y * 2 ^ j)) (2 ^ 298) (X * Y) (i + j + 776) (pow-pos 298) (lt-of-lt-of-le product-lt (lit≤ tt))
-      (lt-of-le-of-lt (mul-le-mul (le-of-lt product-lt) (pow-mono (far i j hi hj))) (lit< tt)) product-is
+      round-exact binary64 s (X * 2 ^ i * (Y * 2 ^ j)) (2 ^ 298) (X * Y) (i + j + 776) (pow-pos 298) (lt-of-lt-of-le (product-lt X Y hx hy) (lit≤ tt))
+      (lt-of-le-of-lt (mul-le-mul (le-of-lt (product-lt X Y hx hy)) (pow-mono (far i j hi hj))) (lit< tt)) product-is
     where
       far : (i j : ℕ) → i ≤ 254 → j ≤ 254 → i + j + 776 ≤ 1284
       far i j h k = omega arith

@@ -2,7 +2,7 @@
 use mathlib.Core.Path.{_≡_, refl, sym, ap, ap₂, _∙_, subst}
 use mathlib.Core.Bool.{Bool, true, false, true≢false}
 use Prim.Native.Nat.{ℕ, _*_, _^_, _<_}
-use native.Mathlib.Nat.{mul-assoc, mul-comm, mul-left-comm, mul-pos}
+use native.Mathlib.Nat.{mul-assoc, mul-comm, mul-left-comm, mul-pos, mul-le-mul-left, mul-lt-mul-of-pos-right, lt-of-le-of-lt, le-of-lt}
 use lib.Dec.{T, leb}
 use lib.Pow.{pow-pos}
 use lib.Ieee.{Float, nan, inf, fin, binary32, up, down, unlike, sum, add, mul, fits, toBits}
@@ -14,6 +14,10 @@ use Rattle.rounding.proofs.Parts.{decode}
 use Rattle.rounding.proofs.Sums.{sum-same}
 use Rattle.leaves.specs.Fma.{fmaOf}
 use Rattle.leaves.specs.Aligned.{fmaBits}
+
+-- the digits of a product
+pub product-lt : (x y : ℕ) → x < 16777216 → y < 16777216 → x * y < 281474976710656
+product-lt x y X Y = lt-of-le-of-lt (mul-le-mul-left x (le-of-lt Y)) (mul-lt-mul-of-pos-right X (pow-pos 24))
 
 product : (x y g A B e d L K D : ℕ) → x * L ≡ A * e → y * L ≡ B * d → L * L * K ≡ D → x * y * g * D ≡ A * B * K * (e * d * g)
 product x y g A B e d L K D p q r =

@@ -3,22 +3,20 @@ use mathlib.Core.Path.{_≡_, refl, sym, ap, ap₂, _∙_, subst}
 use mathlib.Core.Logic.{_⊎_, inl, inr}
 use mathlib.Core.Bool.{Bool, true, false, cond}
 use Prim.Native.Nat.{ℕ, _+_, _-_, _*_, _%_, _^_, _≤_, _<_}
-use native.Mathlib.Nat.{mul-assoc, mul-comm, mul-left-comm, mul-lt-mul-of-pos-right, mul-le-mul-left, mul-le-mul-right, mul-mod-left, mod-eq-of-lt, ne-of-gt}
-use native.Mathlib.Nat.{lt-of-lt-of-le, lt-of-le-of-lt, le-trans, le-of-lt, le-of-eq, mul-one, one-mul, zero-mul, mul-zero, eq-zero-or-pos}
+use native.Mathlib.Nat.{mul-assoc, mul-comm, mul-left-comm, mul-le-mul-left, mul-le-mul-right, mul-mod-left, mod-eq-of-lt, ne-of-gt}
+use native.Mathlib.Nat.{lt-of-lt-of-le, lt-of-le-of-lt, le-trans, le-of-eq, mul-one, one-mul, zero-mul, mul-zero, eq-zero-or-pos}
 use native.Mathlib.Omega.{arith}
 use borrow.Author.Needs.{needs}
 use borrow.Author.Tests.{eq-eqb}
 use lib.Dec.{T, eqb, leb, eqb→eq, lit≤, lit<}
-use lib.Pow.{pow-add, pow-pos}
+use lib.Pow.{pow-add}
 use lib.Ieee.{binary32, sum, unlike}
 use Rattle.rounding.specs.Parts.{sig, place}
 use Rattle.rounding.proofs.Parts.{sig-lt, place-le, leads}
 use Rattle.leaves.specs.Aligned.{fmaBits, Aligns}
+use Rattle.leaves.proofs.FmaParts.{product-lt}
 use Rattle.leaves.proofs.fused.fma_bits.Statement.{statement}
 use Rattle.leaves.proofs.fused.fma_bits.Tie as tie
-
-product-lt : (x y : ℕ) → x < 16777216 → y < 16777216 → x * y < 281474976710656
-product-lt x y X Y = lt-of-le-of-lt (mul-le-mul-left x (le-of-lt Y)) (mul-lt-mul-of-pos-right X (pow-pos 24))
 
 -- ---- nothing is shifted out
 p-is : (x y : ℕ) → x < 16777216 → y < 16777216 → x * y * 8192 % 18446744073709551616 ≡ x * y * 8192
