@@ -1,4 +1,5 @@
 // Packed commands of the walk: PointCommand of path.rs.
+#![tactic(auto)]
 
 ghost use Rattle.std.specs.Prelude.{◌≡◌};
 ghost use Rattle.command.specs.Packing.{pack_of, unpack_of};

@@ -1,4 +1,5 @@
 // Finished point lists: how many points lent columns hold, and how a list falls into contours. One definition for floats and for whole plotter units.
+#![tactic(auto)]
 
 ghost use Rattle.std.specs.Prelude.{◌≡◌, min};
 ghost use Rattle.contours.specs.Finished.{shortest_of};

@@ -1,4 +1,5 @@
 // The points of the walk, and the pass that writes words and points.
+#![tactic(auto)]
 mod step;
 mod writing;
 

@@ -18,6 +18,7 @@ module _ {A : Type 0} where
   all_map P R f (a ∷ s) h = (f a h.0, all_map P R f s h.1)
 
   pub all_member : (P : A → Type 0) (s : List A) (a : A) → All P s → Memᴰ a s → P a
+  all_member P [] a h m = elim m [ ]
   all_member P (b ∷ s) a h m = elim (cases m) [ inl e ↦ subst P (sym e) h.0 | inr k ↦ all_member P s a h.1 k ]
     where
       cases : Memᴰ a (b ∷ s) → (a ≡ b) ⊎ Memᴰ a s

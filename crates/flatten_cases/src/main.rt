@@ -2,6 +2,7 @@
 // number by number. Then it flattens the first ones, in both settings, with each column of the tables full before each row in turn, and just long enough. Last
 // come drawings past a limit. It writes the number of each drawing that differs, and how many hold. tests/rust/answers/README.md says how the list is laid out
 // and made.
+#![tactic(auto)]
 mod calls;
 mod flattening;
 mod layout;

@@ -1,4 +1,5 @@
 // The program: a listing on standard input; its answer, line and points on standard output.
+#![tactic(auto)]
 use libc::{STDIN_FILENO, STDOUT_FILENO};
 use listing::Listed;
 

@@ -1,4 +1,6 @@
 // Float leaves: each function equals its definition in specs/, for every f32.
+#![tactic(auto)]
+
 mod cutting;
 mod fused;
 mod parts;

@@ -1,5 +1,6 @@
 // Runs the hard vectors of the float leaves, from standard input, and writes how many of each leaf
 // hold. A line is the leaf's letter, three patterns and the pattern expected, in eight hex digits.
+#![tactic(auto)]
 use libc::STDOUT_FILENO;
 use replay::Tally;
 

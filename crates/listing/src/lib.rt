@@ -1,4 +1,5 @@
 // The program's listing: key=value lines in, points out, on slices.
+#![tactic(auto)]
 
 use answer::Answer;
 use point::Point;

@@ -1,5 +1,6 @@
 // Runs each listing of standard input through the library's entry, and writes what it writes. Before each listing come its number of bytes, in
 // six decimal digits, and a line end, or an `s` if only 20 bytes are to be lent for the output.
+#![tactic(auto)]
 ghost use Rattle.std.specs.Prelude.{◌≤◌};
 
 use libc::{STDIN_FILENO, STDOUT_FILENO};

@@ -1,4 +1,5 @@
 // Finished points to HP-GL, exact to the byte: all points are tested and measured before the first byte is written.
+#![tactic(auto)]
 
 ghost use Rattle.std.specs.Prelude.{◌≡◌};
 ghost use Rattle.contours.specs.Finished.{finished_of};

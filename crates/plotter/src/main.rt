@@ -1,5 +1,6 @@
 // The plotting program: a listing on standard input; its HP-GL text on standard output, or on a refusal nothing there and two lines on standard error. Its one
 // argument names the setting; without any it is the knife's.
+#![tactic(auto)]
 use answer::Answer;
 use libc::{STDERR_FILENO, STDIN_FILENO, STDOUT_FILENO};
 use listing::Listed;

@@ -1,4 +1,5 @@
 // A listing to HP-GL, and the flag that chooses the setting: what the plotting program does, on slices.
+#![tactic(auto)]
 
 use answer::Answer;
 use point::Setting;

@@ -1,4 +1,5 @@
 // Points, angles and curvature: point.rs, and the top of path.rs.
+#![tactic(auto)]
 mod curve;
 mod direction;
 

@@ -1,5 +1,6 @@
 // Replays vectors that the original Rust made: reads inputs and results as words of eight hex
 // digits, each with the byte after it, and writes how many results of each function agree.
+#![tactic(auto)]
 use command::PointCommand;
 use libc::{STDIN_FILENO, STDOUT_FILENO};
 use point::{Angle, Point, Setting, WeightedPoint};

@@ -1,1 +1,2 @@
 // Theorems over the definitions, in proofs/. There is no code here.
+#![tactic(auto)]

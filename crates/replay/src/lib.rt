@@ -1,5 +1,6 @@
 // What the gate's programs share that replay stored lists: numbers read from standard input, columns laid out as numbers and compared, and counting. No crate
 // of the product uses it.
+#![tactic(auto)]
 
 mod counting;
 mod numbers;

@@ -1,4 +1,5 @@
 // The drawing store: PathBuilder's calls and PathData's closing, on lent columns x, y, weight and commands.
+#![tactic(auto)]
 
 ghost use Rattle.std.specs.Prelude.{◌≡◌};
 ghost use Rattle.store.specs.Columns.{columns};

@@ -1,5 +1,6 @@
 // Replays drawing calls that were made with the original Rust: reads them and what must be seen after each, and writes how many
 // answers, states and entries agree. A line is a letter and its words, each of eight hex digits; tests/rust/answers has the list's letters.
+#![tactic(auto)]
 ghost use Rattle.std.specs.Prelude.{◌≤◌};
 
 use libc::STDOUT_FILENO;

@@ -1,4 +1,5 @@
 // Fixed byte strings, hex digits and decimal digits, read and written on slices.
+#![tactic(auto)]
 
 mod decimal;
 mod fixed;

@@ -1,4 +1,5 @@
 // Plotter units: a coordinate as the nearest whole number, halves away from zero, and finished points in whole units.
+#![tactic(auto)]
 
 use answer::Answer;
 
