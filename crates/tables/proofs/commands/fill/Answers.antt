@@ -10,23 +10,19 @@ use Rattle.tables.proofs.commands.fill.Goals as goal
 
 pub loop-i-preserved : goal.loop-i-preserved
 loop-i-preserved c =
-    let r = c.before.before.before.before.before.before.before.before.before.before.before.before.before.before.before.before.before.before.before.before.before.before.before.before.before.before.before.before.before.before.before.before.before.before in
-    let t = r.before in
-    let l = t.before.before in
-    let g = (at_start (at_capacities l.before)).good in
-    let k = c.push_command-state.kept.1.1.1 in
-    take_on _ _ _ _ _ _ _ _ _ t.before.loop.inv (record { x = g.0.1; y = g.1.0.1; weight = g.1.1.0.1 })
-    (least_fits _ _ _ l.least.ensures) t.loop-test.taken r.read_u8.ensures r.read_u8.ok c.push_command-state.ensures
-    c.is_done-going.ensures c.advance-j.ensures (record { rows = k.0; partial_splines = k.1.0 })
+    let g = c.well_formed in
+    take_on _ _ _ _ _ _ _ _ _ c.loop-i.invariant (record { x = g.0.1; y = g.1.0.1; weight = g.1.1.0.1 })
+    (least_fits _ _ _ c.least-n.ensures) c.loop-i-test.true c.read_u8-k.ensures c.read_u8-k.type_inv c.push_command-state.ensures
+    c.is_done-going.ensures c.advance-j.ensures (record { rows = c.push_command-state.auto.quad_rows; partial_splines = c.push_command-state.auto.partial_splines })
     (record {
-      curvature = k.1.1.0;
-      p0x = k.1.1.1.0;
-      p0y = k.1.1.1.1.0;
-      p2x = k.1.1.1.1.1.0;
-      p2y = k.1.1.1.1.1.1.0;
-      contour = k.1.1.1.1.1.1.1.0;
-      first_quad = k.1.1.1.1.1.1.1.1.0;
-      quad_count = k.1.1.1.1.1.1.1.1.1.0;
+      curvature = c.push_command-state.auto.curvature;
+      p0x = c.push_command-state.auto.p0x;
+      p0y = c.push_command-state.auto.p0y;
+      p2x = c.push_command-state.auto.p2x;
+      p2y = c.push_command-state.auto.p2y;
+      contour = c.push_command-state.auto.contour;
+      first_quad = c.push_command-state.auto.first_quad;
+      quad_count = c.push_command-state.auto.quad_count;
     })
 
 -- The tables at entry are written out, since the prover needs gigabytes to find them.

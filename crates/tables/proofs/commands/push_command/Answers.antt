@@ -6,6 +6,4 @@ use Rattle.tables.proofs.commands.push_command.Goals as goal
 
 pub returns : goal.returns
 returns c =
-    let f = c.before.before.before.before.before.before.before.before.before.before.before.before.before.before.before.before.before.before.before.before.before.before.before.before.before.before.before.before.before.before.before.before in
-    let b = f.before in
-    cubic_command_lem _ _ _ _ _ _ b.before.if1.left b.below.ensures f.cubic_from.ensures c.push_cubic.ensures
+    cubic_command_lem _ _ _ _ _ _ c.if-k-lt-CUBIC.false c.below.ensures c.cubic_from-c.ensures c.push_cubic.ensures

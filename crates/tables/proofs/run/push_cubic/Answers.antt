@@ -7,25 +7,21 @@ use Rattle.tables.proofs.run.push_cubic.Goals as goal
 
 pub returns-then-n-gt-MAX_PIECES : goal.returns-then-n-gt-MAX_PIECES
 returns-then-n-gt-MAX_PIECES c =
-    let e = c.before.before.before.before.before.before.before.before.before.before.before.before.before.before.before.before.before.before.before.before.before.before.before.before.before.before.before.before.before.before.before.before in
-    excess _ _ _ _ e.before.cubic_pieces.ensures e.if1.taken c.push.ensures
+    excess _ _ _ _ c.cubic_pieces-n.ensures c.if-n-gt-MAX_PIECES.true c.push.ensures
 
 pub loop-i-preserved : goal.loop-i-preserved
 loop-i-preserved c =
-    let e = c.before.before.before.before.before.before.before.before.before.before.before.before.before.before.before.before.before.before.before.before.before.before.before.before.before.before.before.before.before.before.before.before.before in
-    let t = at_turn e in
-    let k = c.push-state.kept in
-    cut_on _ _ _ _ _ _ _ _ _ _ _ t.before.loop.inv t.loop-test.taken e.before.cubic_point.ensures e.piece.ensures c.push-state.ensures
-    c.is_done-going-in-loop-i.ensures (record { rows = k.0; partial_splines = k.1.0 })
+    cut_on _ _ _ _ _ _ _ _ _ _ _ c.loop-i.invariant c.loop-i-test.true c.cubic_point-end.ensures c.piece-quad.ensures c.push-state.ensures
+    c.is_done-going-in-loop-i.ensures (record { rows = c.push-state.auto.quad_rows; partial_splines = c.push-state.auto.partial_splines })
     (record {
-      curvature = k.1.1.0;
-      p0x = k.1.1.1.0;
-      p0y = k.1.1.1.1.0;
-      p2x = k.1.1.1.1.1.0;
-      p2y = k.1.1.1.1.1.1.0;
-      contour = k.1.1.1.1.1.1.1.0;
-      first_quad = k.1.1.1.1.1.1.1.1.0;
-      quad_count = k.1.1.1.1.1.1.1.1.1.0;
+      curvature = c.push-state.auto.curvature;
+      p0x = c.push-state.auto.p0x;
+      p0y = c.push-state.auto.p0y;
+      p2x = c.push-state.auto.p2x;
+      p2y = c.push-state.auto.p2y;
+      contour = c.push-state.auto.contour;
+      first_quad = c.push-state.auto.first_quad;
+      quad_count = c.push-state.auto.quad_count;
     })
 
 pub returns : goal.returns
