@@ -10,8 +10,7 @@ use lib.ListN.{get_or}
 use borrow.Author.Tests.{ltb-true}
 use Rattle.tables.specs.Tables.{whole_rows_of, number_at, sum_at_of}
 use borrow.Author.Rules.{rules}
-use Rattle.walk.proofs.cursor_at.Statement.{statement}
-use Rattle.walk.proofs.cursor_at.Tie as tie
+use Rattle.walk.proofs.cursor_at.Goals as goal
 
 -- a sum that a step exceeds is that of a whole row
 whole : (rows : List Float) (p : Float) (cursor : ℕ) → lt (sum_at_of rows cursor) p ≡ true → cursor < whole_rows_of rows
@@ -22,19 +21,7 @@ whole rows p cursor h = go (ltb cursor (whole_rows_of rows)) refl h
     go true e h = ltb-true cursor (whole_rows_of rows) e
     go false e h = absurd (let z : ◌≡◌ {A = ℕ} 0 1 = cc in omega arith)
 
-sum-at-requires : tie.Need-sum-at-requires
-sum-at-requires c κs = search rules
-
-add-result : tie.Need-overflow-add-result
-add-result c =
-    let a = c.before.before.before.args in
-    omega (arith, whole a.quad_rows.now a.p a.cursor (rw (← c.before.sum-at.ensures) c.if1.true))
-
-returns : tie.Need-returns
-returns c = rw (← c.before.sum-at.ensures, c.if1.true)
-
-returns-2 : tie.Need-returns-2
-returns-2 c = rw (← c.before.sum-at.ensures, c.if1.false)
-
-pub cursor-at-spec : {M : Type 1} → statement M
-cursor-at-spec = tie.close (tie.spec sum-at-requires add-result returns returns-2)
+pub overflow_add-result : goal.overflow_add-result
+overflow_add-result c =
+    let a = c.args in
+    omega (arith, whole a.quad_rows.now a.p a.cursor (rw (← c.sum_at.ensures) c.if-p-sum_at.true))
