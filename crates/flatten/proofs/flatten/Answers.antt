@@ -20,11 +20,11 @@ returns-then-not-delivered c =
     too_short _ _ _ _ _ _ c.fill-state.result _ _ (sym c.drawable.ensures ∙ c.if-not-drawable.false)
     c.fill-state.ensures c.deliver-delivered.result.fits c.deliver-delivered.result.points _
     (sym c.is_done.ensures ∙ c.if-not-is_done.false) c.deliver-delivered.ensures _ c.refused-then-not-delivered.ensures
-    c.if-not-delivered.true
+    (not-true c.deliver-delivered.result.fits c.if-not-delivered.true)
 
 pub returns : goal.returns
 returns c =
     done _ _ _ _ _ _ c.fill-state.result _ _ (sym c.drawable.ensures ∙ c.if-not-drawable.false)
     c.fill-state.ensures c.deliver-delivered.result.fits c.deliver-delivered.result.points _
     (sym c.is_done.ensures ∙ c.if-not-is_done.false) c.deliver-delivered.ensures
-    c.if-not-delivered.false
+    (not-false c.deliver-delivered.result.fits c.if-not-delivered.false)
