@@ -134,6 +134,7 @@ module _ (text : List ℕ) (at line : ℕ) where
   tries_op : (op : Op) (rest : List ℕ) → drop at text ≡ op_line_of op ++ rest → (os : List Op) → Memᴰ op os
       → try_ops text at line os ≡ command_from text at line op
   unfolding try_ops
+  tries_op op rest h [] m = elim m [ ]
   tries_op op rest h (o ∷ os) m = go (stands_at text at (op_line_of o)) refl (tries_op op rest h os) (Memᴰ.cases_cons m)
     where
       go : (t : Bool) → stands_at text at (op_line_of o) ≡ t → (Memᴰ op os → try_ops text at line os ≡ command_from text at line op)

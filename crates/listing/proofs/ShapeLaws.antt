@@ -201,10 +201,12 @@ row_more key keys line rest f r =
 row_line : (key : List ℕ) (keys : List (List ℕ)) (line t : List ℕ) → Fits (field_shape key) line → Fits (byte 0x0a ∷ field_shapes keys) t
     → ((u : List ℕ) → Fits (field_shapes keys) u → RowText keys u) → RowText (key ∷ keys) (line ++ t)
 unfolding admits
+row_line key keys line [] f x3 later = elim x3 [ ]
 row_line key keys line (b ∷ rest) f (fits_more e g) later = rw (eqb-true b 0x0a e) (row_more key keys line rest f (later rest g))
 
 shape_row : (keys : List (List ℕ)) (s : List ℕ) → Fits (field_shapes keys) s → RowText keys s
 unfolding field_shapes field_lines
+shape_row [] (_ ∷ _) f = elim f [ ]
 shape_row [] [] fits-none = record { numbers = []; patterns = none; text = refl }
 shape_row (key ∷ keys) s f =
     let parts : FitsParts (field_shape key) (byte 0x0a ∷ field_shapes keys) s = fits_parts (field_shape key) (byte 0x0a ∷ field_shapes keys) s f in
@@ -354,6 +356,7 @@ pub record CommandText (op : Op) (s : List ℕ) : Type 0 where
 
 command_line : (op : Op) (first t : List ℕ) → first ≡ name_of op → Fits (byte 0x0a ∷ field_shapes (keys_of op)) t → CommandText op (first ++ t)
 unfolding admits command_lines
+command_line op first [] e x'' = elim x'' [ ]
 command_line op first (b ∷ rest) e (fits_more k g) =
     let row : RowText (keys_of op) rest = shape_row (keys_of op) rest g in
     record {

@@ -1,0 +1,28 @@
+-- `listing::read` meets its contract: the steps that are left give what all of them give, and more steps than bytes are left. Assumes nothing.
+use mathlib.Core.Path.{◌≡◌, refl, sym, ap, ◌∙◌}
+use mathlib.Core.List.{List}
+use Prim.Native.Nat.{ℕ, ◌+◌, ◌-◌, ◌≤◌, ◌<◌}
+use native.Mathlib.Omega.{arith}
+use borrow.Author.Rules.{rules}
+use lib.ListN.{length}
+use Rattle.answer.specs.declared.Answer.TheVariants.{Done}
+use Rattle.store.specs.Columns.{Columns, columns}
+use Rattle.store.specs.Drawing.{outcome}
+use Rattle.listing.specs.declared.Progress as Progresses
+use Rattle.listing.specs.Reading.{Placed, Progress, going, finished, stopped, step_of, steps_of, read_of, progress_of}
+use Rattle.listing.proofs.StepLaws.{Further, progress_seen, step_onward, steps_again, steps_end, steps_stop}
+use Rattle.listing.proofs.reading.read.Given as goal
+
+abbrev pub invariant-loop-s : goal.invariant-loop-s
+invariant-loop-s l =
+    (n : ℕ)
+    × (steps_of n l.listing (going l.at l.line (outcome Done l.state (columns l.x l.y l.weight l.commands))) ≡ read_of l.listing (outcome Done l.initial.state (columns l.initial.x l.initial.y l.initial.weight l.initial.commands)))
+    × (length l.listing + 1 ≤ n + l.at)
+    × Placed l.listing l.at l.line
+    × (length l.x ≡ length l.initial.x)
+    × (length l.y ≡ length l.initial.y)
+    × (length l.weight ≡ length l.initial.weight)
+    × (length l.commands ≡ length l.initial.commands)
+
+abbrev pub decreases-loop-s : goal.decreases-loop-s
+decreases-loop-s l = length l.listing - l.at

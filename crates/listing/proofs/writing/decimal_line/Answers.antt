@@ -1,0 +1,17 @@
+-- `listing::decimal_line` meets its contract: key, equals sign, digits, line end. Assumes nothing.
+use native.Mathlib.Omega.{arith}
+use Rattle.text.specs.Decimal.{decimal_of}
+use Rattle.listing.proofs.WritingLaws.{line-length, line_written}
+use borrow.Author.Rules.{rules}
+use Rattle.listing.proofs.writing.decimal_line.Goals as goal
+
+pub overflow_add-end : goal.overflow_add-end
+overflow_add-end c = omega (arith, line-length c.args.key.now (decimal_of c.args.n), c.put_decimal-digits.ensures.0, c.requires)
+
+pub overflow_add-result : goal.overflow_add-result
+overflow_add-result c = omega (arith, line-length c.args.key.now (decimal_of c.args.n), c.put_decimal-digits.ensures.0, c.requires)
+
+pub returns : goal.returns
+returns c =
+    line_written _ _ _ _ _ _ _ _ _ c.put_decimal-digits.ensures.0 c.put_bytes.ensures c.put_bytes-2.ensures c.put_decimal-digits.ensures.1
+    c.put_bytes-3.ensures

@@ -1,0 +1,20 @@
+-- `listing::refuse` meets its contract: the head alone, if it fits. Assumes nothing.
+use mathlib.Core.Path.{sym, ap, ◌∙◌}
+use mathlib.Core.List.{List}
+use Prim.Native.Nat.{ℕ}
+use native.Mathlib.Omega.{arith}
+use Rattle.listing.specs.Writing.{head_of, listed_as}
+use Rattle.listing.proofs.WritingLaws.{refusal_report, listed_short, listed_bytes, listed_seen}
+use borrow.Author.Rules.{rules}
+use Rattle.listing.proofs.writing.refuse.Goals as goal
+
+pub returns-then-output-needed : goal.returns-then-output-needed
+returns-then-output-needed c =
+    listed_seen _ _ _ _ (listed_short (head_of c.number-number.result c.args.line 0) c.args.output.now (omega arith))
+    (refusal_report c.number-number.result _ _ c.number-number.ensures)
+
+pub returns : goal.returns
+returns c =
+    listed_seen _ _ _ _
+    (listed_bytes (head_of c.number-number.result c.args.line 0) c.args.output.now _ _ (omega arith) c.head_length-needed.ensures c.put_head.ensures.stored)
+    (refusal_report c.number-number.result _ _ c.number-number.ensures)
