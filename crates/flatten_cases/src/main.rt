@@ -22,7 +22,7 @@ use store::StoreState;
 const FULL: u32 = 472;
 
 // The first row of a drawing: its setting, and how many of each there are.
-#[derive(Drop)]
+#[derive(Clone, Copy)]
 struct Expected {
     setting: u32,
     calls: u32,
@@ -35,14 +35,14 @@ struct Expected {
 }
 
 // Whether a drawing is as listed, its runs with a full column and those with just enough room; then the same of all drawings.
-#[derive(Drop)]
+#[derive(Clone, Copy)]
 struct Replayed {
     same: bool,
     full: Tally,
     enough: Tally,
 }
 
-#[derive(Drop)]
+#[derive(Clone, Copy)]
 struct Total {
     same: Tally,
     full: Tally,

@@ -7,7 +7,7 @@ use point::{Angle, Point, Setting, WeightedPoint};
 use replay::{Tally, float, number as word};
 
 // What is given, and what the list has for it.
-#[derive(Drop)]
+#[derive(Clone, Copy)]
 struct Check {
     got: u32,
     want: u32,

@@ -11,7 +11,7 @@ pub use numbers::{all_are, number_at, put_bytes, put_floats, put_sizes, put_word
 pub use reading::{float, follow, letter, number};
 
 // Comparisons, and those of them that are as they must be.
-#[derive(Drop)]
+#[derive(Clone, Copy)]
 pub struct Tally {
     pub all: u64,
     pub right: u64,

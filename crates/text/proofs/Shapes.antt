@@ -81,6 +81,7 @@ pub record FitsParts (p q : List Class) (s : List ℕ) : Type 0 where
   pub fits_second : Fits q second
 
 pub fits_parts : (p q : List Class) (s : List ℕ) → Fits (p ++ q) s → FitsParts p q s
+fits_parts (k ∷ p) q [] f = elim f [ ]
 fits_parts [] q s f = record { first = []; second = s; split = refl; fits_first = none; fits_second = f }
 fits_parts (k ∷ p) q (b ∷ s) (more e f) =
     let r = fits_parts p q s f in
@@ -165,6 +166,7 @@ fit_complete (k ∷ p) (b ∷ s) = go (admits k b) refl (fit_complete p s)
 
 pub fit_longest : (p : List Class) (s ending rest : List ℕ) → Fits p (s ++ ending) → length s ≤ length (fit p (s ++ rest))
 unfolding fit
+fit_longest [] (b ∷ s) ending rest f = elim f [ ]
 fit_longest p [] ending rest f = omega arith
 fit_longest (k ∷ p) (b ∷ s) ending rest (more e f) = rw e (omega (arith, fit_longest p s ending rest f))
 
