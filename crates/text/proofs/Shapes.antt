@@ -100,6 +100,8 @@ fits_bytes (b ∷ s) = more (eq-eqb b b refl) (fits_bytes s)
 
 pub bytes_fit : (s t : List ℕ) → Fits (map byte s) t → t ≡ s
 unfolding admits
+bytes_fit [] (b ∷ t) x'' = elim x'' [ ]
+bytes_fit (a ∷ s) [] x3 = elim x3 [ ]
 bytes_fit [] [] none = refl
 bytes_fit (a ∷ s) (b ∷ t) (more e f) =
     let first : b ≡ a = eqb-true b a e in
@@ -117,6 +119,8 @@ fits_digits (suc k) (b ∷ s) e h =
 
 pub digits_fit : (k : ℕ) (s : List ℕ) → Fits (digits k) s → (length s ≡ k) × (all_hex s ≡ true)
 unfolding admits digits all_hex
+digits_fit zero (b ∷ s) x'' = elim x'' [ ]
+digits_fit (suc k) [] x3 = elim x3 [ ]
 digits_fit zero [] none = (refl, refl)
 digits_fit (suc k) (b ∷ s) (more e f) = let later = digits_fit k s f in (ap suc later.0, rw (e, later.1))
 
@@ -194,6 +198,8 @@ plain_rest digit p h = h
 
 pub plain_newlines : (p : List Class) (s : List ℕ) → plain p ≡ true → Fits p s → newlines s ≡ 0
 unfolding newlines
+plain_newlines [] (b ∷ s) h x4 = elim x4 [ ]
+plain_newlines (k ∷ p) [] h x4 = elim x4 [ ]
 plain_newlines [] [] h none = refl
 plain_newlines (k ∷ p) (b ∷ s) h (more e f) = rw (plain_first k p b h e) (plain_newlines p s (plain_rest k p h) f)
 
