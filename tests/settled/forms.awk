@@ -3,8 +3,8 @@
 #   promises/proofs/Settled   the theorems
 #   `struct` lines            CRATE TYPE FIELD.., the fields of each struct of the library
 #   `fn` lines                CRATE NAME, and the function's head on one line, from its name to its contract
-# A contract must be one `ensures`, an equation or a product of equations, each with a definition over the entry alone on its right side. Its form has `…` for each
-# right side and `@` for each lent column at exit.
+# A contract must be one `ensures` or several with names, each an equation or a product of equations, with a definition over the entry alone on each right side. Its
+# form has `…` for each right side, `@` for each lent column at exit, and ` × ` between equations, of one clause or of several.
 
 function fault(message) { print "tests/settled: " message; faults++ }
 
@@ -56,11 +56,11 @@ $1 == "fn" {
 }
 
 # The place where the bracket that opens at i closes.
-function closing(s, i,    depth, c) {
+function closing(s, i, opens, closes,    depth, c) {
     for (depth = 0; i <= length(s); i++) {
         c = substr(s, i, 1)
-        if (c == "(") depth++
-        if (c == ")" && --depth == 0) return i
+        if (c == opens) depth++
+        if (c == closes && --depth == 0) return i
     }
     return 0
 }
@@ -71,8 +71,8 @@ function split_at(s, mark, parts,    i, n, depth, c, from) {
     from = 1
     for (i = 1; i <= length(s); i++) {
         c = substr(s, i, 1)
-        if (c == "(") depth++
-        if (c == ")") depth--
+        if (c == "(" || c == "{") depth++
+        if (c == ")" || c == "}") depth--
         if (depth == 0 && substr(s, i, length(mark)) == mark) { parts[++n] = substr(s, from, i - from); from = i + length(mark); i = from - 1 }
     }
     parts[++n] = substr(s, from)
@@ -80,66 +80,80 @@ function split_at(s, mark, parts,    i, n, depth, c, from) {
 }
 
 # The left side of an equation, with @ for each lent column at exit; what it names is kept.
-function left_form(s,    out, lent) {
+function left_form(s,    out, name) {
     out = ""
-    while (match(s, /now \([a-z0-9_]+ \.exit\)/)) {
-        lent = substr(s, RSTART + 5, RLENGTH - 12)
-        if (lent in left_at) problem = "its contract has " lent " at exit twice"
-        left_at[lent] = 1
+    while (match(s, /[A-Za-z0-9_]+\.new/)) {
+        name = substr(s, RSTART, RLENGTH - 4)
+        if (name in left_at) problem = "its contract has " name " at exit twice"
+        left_at[name] = 1
+        # of a field alone there is no column
+        if (substr(s, RSTART + RLENGTH, 1) ~ /[A-Za-z0-9_.]/) problem = "its contract has a part of " name " at exit"
         out = out substr(s, 1, RSTART - 1) "@"
         s = substr(s, RSTART + RLENGTH)
     }
-    out = out s
-    gsub(/\(@\)/, "@", out)
-    return out
+    return out s
 }
 
-function form_of(head,    i, lent, list, n, param, type, returns, result, body, parts, sides, whole, said, used, field, wanted) {
+# The clauses of a head's rest, each without its name and its braces; none if they are no plain `ensures` alone, named where there are two.
+function clauses_of(rest, body,    n, names, word, i) {
+    n = names = 0
+    while (rest != "") {
+        if (!match(rest, /^ ensures( [a-z0-9_]+)? \{ /)) return 0
+        word = substr(rest, 1, RLENGTH)
+        if (word ~ /^ ensures [a-z0-9_]/) names++
+        i = closing(rest, RLENGTH - 1, "{", "}")
+        if (!i || substr(rest, i - 1, 1) != " ") return 0
+        body[++n] = substr(rest, RLENGTH + 1, i - RLENGTH - 2)
+        rest = substr(rest, i + 1)
+    }
+    return n > 1 && names < n ? 0 : n
+}
+
+function form_of(head,    i, k, lent, list, n, param, type, returns, bodies, body, parts, sides, whole, said, used, field, wanted, count) {
     problem = ""
     delete left_at
     delete lent
     gsub(/«|»/, "", head)
     i = index(head, "(")
-    list = substr(head, i + 1, closing(head, i) - i - 1)
-    head = substr(head, closing(head, i) + 1)
+    list = substr(head, i + 1, closing(head, i, "(", ")") - i - 1)
+    head = substr(head, closing(head, i, "(", ")") + 1)
     n = split(list, param, /, */)
     for (i = 1; i <= n; i++) if (param[i] ~ /: &('[a-z]+ )?mut /) { type = param[i]; sub(/:.*/, "", type); lent[strip(type)] = 1 }
     returns = ""
     if (match(head, /^ -> [A-Za-z0-9_:]+/)) { returns = substr(head, 5, RLENGTH - 4); head = substr(head, RLENGTH + 1) }
-    if (head !~ /^ ensures \{ λ [a-z_]+\. ⌜ .* ⌝ \}$/ || gsub(/ensures|requires|⌜/, "&", head) != 2) {
-        problem = "its contract is not one `ensures { λ r. ⌜ .. ⌝ }`:" head
+    count = clauses_of(head, bodies)
+    if (count == 0) {
+        problem = "its contract is not one `ensures { .. }`, nor several with names:" head
         return ""
     }
-    result = head
-    sub(/^ ensures \{ λ /, "", result)
-    sub(/\..*/, "", result)
-    if ((result == "_") != (returns == "")) { problem = "its contract says nothing of its result"; return "" }
-    body = head
-    sub(/^.*⌜ /, "", body)
-    sub(/ ⌝.*$/, "", body)
-    n = split_at(body, " × ", parts)
     said = ""
     used = " "
-    for (i = 1; i <= n; i++) {
-        whole = n > 1 && substr(parts[i], 1, 1) == "(" && closing(parts[i], 1) == length(parts[i])
-        if (whole) parts[i] = substr(parts[i], 2, length(parts[i]) - 2)
-        if (split_at(parts[i], " ≡ ", sides) != 2) { problem = "a part of its contract is no equation: " parts[i]; return "" }
-        if ((sides[1] sides[2]) ~ /≡|×|→|⊎|↔|λ/) problem = "an equation of its contract has more than terms: " parts[i]
-        if (sides[2] ~ /\.exit\)/) problem = "the right side of its contract reads what the call leaves: " sides[2]
-        if ((" " sides[2] " ") ~ ("[ (]" result "[ )]")) problem = "the right side of its contract names the result: " sides[2]
-        if (sides[1] ~ /\.entry\)/) problem = "the left side of its contract reads what was given: " sides[1]
-        used = used sides[1] " "
-        said = said (i > 1 ? " × " : "") (whole ? "(" : "") left_form(sides[1]) " ≡ …" (whole ? ")" : "")
+    for (k = 1; k <= count; k++) {
+        n = split_at(bodies[k], " × ", parts)
+        for (i = 1; i <= n; i++) {
+            whole = substr(parts[i], 1, 1) == "(" && closing(parts[i], 1, "(", ")") == length(parts[i])
+            if (whole) parts[i] = substr(parts[i], 2, length(parts[i]) - 2)
+            if (split_at(parts[i], " ≡ ", sides) != 2) { problem = "a part of its contract is no equation: " parts[i]; return "" }
+            if ((sides[1] sides[2]) ~ /≡|×|→|⊎|↔|λ/ || (" " sides[1] " " sides[2] " ") ~ /[ (](let|if|match) /) problem = "an equation of its contract has more than terms: " parts[i]
+            if (sides[2] ~ /\.new/) problem = "the right side of its contract reads what the call leaves: " sides[2]
+            if ((" " sides[2] " ") ~ /[ (]result[ ).]/) problem = "the right side of its contract names the result: " sides[2]
+            if (sides[1] ~ /\.(old|now)/) problem = "the left side of its contract reads what was given: " sides[1]
+            used = used sides[1] " "
+            sides[1] = left_form(sides[1]) " ≡ …"
+            if (count > 1 || n > 1) sides[1] = "(" sides[1] ")"
+            said = said (said == "" ? "" : " × ") sides[1]
+        }
     }
     for (i in lent) if (!(i in left_at)) problem = "its contract does not say what " i " holds at exit"
     for (i in left_at) if (!(i in lent)) problem = "its contract has " i " at exit, which is not lent to write"
     # the result, whole or field by field
     whole = used
-    gsub("\\(" result " \\.[a-z_]+\\)", "", whole)
-    if (returns != "" && whole !~ ("[ (]" result "[ )]")) {
+    gsub(/result\.[a-z0-9_]+/, "", whole)
+    if (returns == "" && (" " used) ~ /[ (]result[ ).]/) problem = "its contract names a result, and it gives none"
+    if (returns != "" && whole !~ /[ (]result[ )]/) {
         wanted = fields[crate, returns]
         n = split(wanted, field, / /)
-        for (i = 1; i <= n; i++) if (field[i] != "" && index(used, "(" result " ." field[i] ")") == 0) problem = "its contract says nothing of the result's " field[i]
+        for (i = 1; i <= n; i++) if (field[i] != "" && used !~ ("[ (]result\\." field[i] "[ )]")) problem = "its contract says nothing of the result's " field[i]
         if (wanted == "") problem = "its contract says nothing of its result"
     }
     return said

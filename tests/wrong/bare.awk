@@ -18,7 +18,7 @@ walk && /^abbrev / {
     print "quiet {𝓤 = 𝓤} t {P} = step (λ s. record { prf = via 𝓤 P (s.prf) (via 𝓤 (with 𝓤 (emp 𝓤) P) (emp∗ 𝓤 P) (comm∗ 𝓤 (emp 𝓤) P)) })\n"
 }
 { sub(/says ! .* \$$/, "quiet ! $") }
-!whole && /^(pub )?returns[-_0-9]* : goal\./ { name = "left out"; next }
+!whole && /^(pub )?returns[-_0-9A-Za-z]* : goal\./ { name = "left out"; next }
 /^returns[-_0-9]* : tie\./ { name = $1; print; next }
 name != "" && /^$/ { if (whole) print name " c = search rules"; name = "" }
 name != "" { next }

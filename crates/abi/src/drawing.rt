@@ -12,8 +12,7 @@ use point::Point;
 use store::StoreState;
 
 // A fresh drawing; the counts are not read.
-#[unsafe(no_mangle)]
-pub extern "C" fn kermezhul_fresh(
+pub fn kermezhul_fresh(
     x: &mut [f32],
     y: &mut [f32],
     weight: &mut [f32],
@@ -32,8 +31,7 @@ pub extern "C" fn kermezhul_fresh(
     answer::number(answer)
 }
 
-#[unsafe(no_mangle)]
-pub extern "C" fn kermezhul_move_to(
+pub fn kermezhul_move_to(
     x: &mut [f32],
     y: &mut [f32],
     weight: &mut [f32],
@@ -60,8 +58,7 @@ pub extern "C" fn kermezhul_move_to(
     answer::number(answer)
 }
 
-#[unsafe(no_mangle)]
-pub extern "C" fn kermezhul_line_to(
+pub fn kermezhul_line_to(
     x: &mut [f32],
     y: &mut [f32],
     weight: &mut [f32],
@@ -88,8 +85,7 @@ pub extern "C" fn kermezhul_line_to(
     answer::number(answer)
 }
 
-#[unsafe(no_mangle)]
-pub extern "C" fn kermezhul_quad_to(
+pub fn kermezhul_quad_to(
     x: &mut [f32],
     y: &mut [f32],
     weight: &mut [f32],
@@ -119,8 +115,7 @@ pub extern "C" fn kermezhul_quad_to(
     answer::number(answer)
 }
 
-#[unsafe(no_mangle)]
-pub extern "C" fn kermezhul_cubic_to(
+pub fn kermezhul_cubic_to(
     x: &mut [f32],
     y: &mut [f32],
     weight: &mut [f32],
@@ -153,8 +148,7 @@ pub extern "C" fn kermezhul_cubic_to(
     answer::number(answer)
 }
 
-#[unsafe(no_mangle)]
-pub extern "C" fn kermezhul_rat_quad_to(
+pub fn kermezhul_rat_quad_to(
     x: &mut [f32],
     y: &mut [f32],
     weight: &mut [f32],
@@ -185,8 +179,7 @@ pub extern "C" fn kermezhul_rat_quad_to(
     answer::number(answer)
 }
 
-#[unsafe(no_mangle)]
-pub extern "C" fn kermezhul_rat_cubic_to(
+pub fn kermezhul_rat_cubic_to(
     x: &mut [f32],
     y: &mut [f32],
     weight: &mut [f32],
@@ -221,8 +214,7 @@ pub extern "C" fn kermezhul_rat_cubic_to(
     answer::number(answer)
 }
 
-#[unsafe(no_mangle)]
-pub extern "C" fn kermezhul_build(
+pub fn kermezhul_build(
     x: &mut [f32],
     y: &mut [f32],
     weight: &mut [f32],

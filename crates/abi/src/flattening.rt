@@ -20,8 +20,7 @@ fn setting_of(number: u32) -> Setting
 }
 
 // points, used and opening are the store's; splines, quads and length are written. setting is 0 for the screen, any other number for the knife.
-#[unsafe(no_mangle)]
-pub extern "C" fn kermezhul_flatten(
+pub fn kermezhul_flatten(
     setting: u32,
     points: usize,
     used: usize,

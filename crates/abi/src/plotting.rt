@@ -6,14 +6,7 @@ ghost use Rattle.units.specs.Columns.{rounding_of};
 ghost use Rattle.plot.specs.Plot.{plot_of};
 ghost use Rattle.abi.specs.Reply.{plot_reply, plot_reply_of, whole_reply, whole_reply_of};
 
-#[unsafe(no_mangle)]
-pub extern "C" fn kermezhul_plot(
-    x: &[f32],
-    y: &[f32],
-    end: &[u8],
-    text: &mut [u8],
-    written: &mut usize,
-) -> u32
+pub fn kermezhul_plot(x: &[f32], y: &[f32], end: &[u8], text: &mut [u8], written: &mut usize) -> u32
     ensures { plot_reply result written.new text.new ≡ plot_reply_of (plot_of (finished_of x.now y.now end.now) text.old) }
 {
     let r = plot::plot(x, y, end, text);
@@ -22,8 +15,7 @@ pub extern "C" fn kermezhul_plot(
     answer::number(answer)
 }
 
-#[unsafe(no_mangle)]
-pub extern "C" fn kermezhul_whole(
+pub fn kermezhul_whole(
     x: &[f32],
     y: &[f32],
     whole_x: &mut [i32],

@@ -1,1 +1,3 @@
-fill.sed
+s/ → r ≡ outcomeOf agreed → ent/ → ent/
+s/exits rooms i e r w er =/exits rooms i e r w =/
+s/(nltb→le i m over)) r w e)/(nltb→le i m over)) r w)/

@@ -1,6 +1,4 @@
 # The loop keeps the buffer's length.
-s/^invariant-loop .*/invariant-loop buffer₀ at bytes i₀ buffer i = length buffer ≡ length buffer₀/
-s/^loop-holds c = .*/loop-holds c = refl/
-/^loop-again c = /,/^)/c\
-loop-again c = c.before.before.put_byte.auto.0 ∙ c.before.before.before.before.before.before.loop.invariant
-s/^same_length c = .*/same_length c = c.before.loop.invariant/
+s/^invariant-loop-i l = .*/invariant-loop-i l = length l.buffer ≡ length l.initial.buffer/
+/^pub loop-i-init/,/^$/d
+/^pub loop-i-preserved/,/^$/d
