@@ -1,39 +1,38 @@
-// Numbers from standard input. A number is eight lowercase hex digits and one byte after them, so each takes nine bytes, and no line
-// end has to be looked for. The kit's `io` says nothing of what is read, so neither can a contract here: tests/replay tries these functions.
+// Numbers from a list. A number is eight lowercase hex digits and one byte after them, so each takes nine bytes, and no line end has to be looked for.
+// tests/replay tries these functions.
 use crate::numbers::number_at;
-use libc::STDIN_FILENO;
+use std::io;
+use std::io::Read;
 use text::HexAt;
 
-// The next number; 0 if the bytes are no number, or at the end of the input.
-pub fn number() -> u32 {
+// The next number; 0 if the bytes are no number, or at the end of the list.
+pub fn number(list: &mut impl Read) -> io::Result<u32> {
     let mut digits = [0u8; 9];
-    io::read_full(STDIN_FILENO, &mut digits);
+    input::read_full(list, &mut digits)?;
     let HexAt::Number(n) = text::hex_at(&digits, 0) else {
-        return 0;
+        return Ok(0);
     };
-    n
+    Ok(n)
 }
 
 // A float is its bits.
-pub fn float() -> f32 {
-    leaves::from_bits(number())
+pub fn float(list: &mut impl Read) -> io::Result<f32> {
+    Ok(leaves::from_bits(number(list)?))
 }
 
 // The letter that a line begins with, and the byte after it; 0 at the end.
-pub fn letter() -> u8 {
+pub fn letter(list: &mut impl Read) -> io::Result<u8> {
     let mut start = [0u8; 2];
-    io::read_full(STDIN_FILENO, &mut start);
-    start[0]
+    input::read_full(list, &mut start)?;
+    Ok(start[0])
 }
 
 // Whether the next n numbers are those from a place on. All of them are read, even after a difference.
-pub fn follow(numbers: &[u32], at: usize, n: usize) -> bool {
+pub fn follow(list: &mut impl Read, numbers: &[u32], at: usize, n: usize) -> io::Result<bool> {
     let mut good = true;
-    let mut i = 0usize;
-    while i < n {
-        let expected = number();
+    for i in 0..n {
+        let expected = number(list)?;
         good = good & (number_at(numbers, at, i) == expected);
-        i += 1;
     }
-    good
+    Ok(good)
 }
