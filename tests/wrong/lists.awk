@@ -46,7 +46,7 @@ function find_body(n,    own, type, in_type, indent, i, found) {
     return 0
 }
 
-# The contract of the function has the definitions that entry n names: its first word, and each that ends in Of.
+# The contract of the function has the definitions that entry n names: its first word, and each that ends in _of.
 function test_contract(n,    i, word, head, parts) {
     load(dir "/" file[n])
     if (!find_body(n)) return
@@ -55,7 +55,7 @@ function test_contract(n,    i, word, head, parts) {
     if (head !~ /ensures .*\}$/) fault(n, "it has no `ensures` on a line of its own")
     parts = split(contract[n], word, /[^A-Za-z0-9_]+/)
     for (i = 1; i <= parts; i++)
-        if ((i == 1 || word[i] ~ /Of$/) && !index(head, word[i])) fault(n, "its contract does not name " word[i])
+        if ((i == 1 || word[i] ~ /_of$/) && !index(head, word[i])) fault(n, "its contract does not name " word[i])
 }
 
 function load(path,    s) {

@@ -2,7 +2,18 @@
 # The first file is src/lib.rt, which is read twice: first for its types and for what it passes on.
 
 FNR == 1 { files++; own = "" }
-files == 1 && /^pub use / { sub(/;$/, "", $3); sub(/.*::/, "", $3); passed[$3] = 1 }
+# `pub use a::f;` or `pub use a::{f, g};`, on one line or more
+files == 1 && /^pub use / { uses = "" }
+files == 1 && (/^pub use / || uses != "") {
+    uses = uses " " $0
+    if (uses ~ /;/) {
+        gsub(/^ *pub use |[ {};]/, " ", uses)
+        parts = split(uses, part, /[ ,]+/)
+        for (i = 1; i <= parts; i++) { sub(/.*::/, "", part[i]); if (part[i] != "") passed[part[i]] = 1 }
+        uses = ""
+    }
+    next
+}
 files == 1 && /^pub (struct|enum) / { type = $3; sub(/<.*/, "", type); passed[type] = 1 }
 files == 1 && /^pub mod / { print "a public module: public.awk does not follow it"; exit 1 }
 files == 1 { next }

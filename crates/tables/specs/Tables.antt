@@ -13,12 +13,12 @@ use Rattle.primitives.specs.declared.SplineRow.{SplineRow}
 use Rattle.primitives.specs.declared.SplineEdit.{SplineEdit}
 use Rattle.primitives.specs.declared.Capacities.{Capacities}
 
--- quad i has the numbers 15·i to 15·i + 14 of the rows, and entry i of partial-splines, the number of its spline
+-- quad i has the numbers 15·i to 15·i + 14 of the rows, and entry i of partial_splines, the number of its spline
 pub record QuadTable : Type 0 where
   pub rows : List Float
   pub partial_splines : List ℕ
 
--- curvature is the spline's sum; contour has its flags; first-quad and quad-count say which quads are its own
+-- curvature is the spline's sum; contour has its flags; first_quad and quad_count say which quads are its own
 pub record SplineTable : Type 0 where
   pub curvature : List Float
   pub p0x : List Float

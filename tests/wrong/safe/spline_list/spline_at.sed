@@ -1,7 +1,7 @@
-s/ → r ≡ splineAtOf ys i → ent/ → ent/
+s/ → r ≡ spline_at_of ys i → ent/ → ent/
 s/exits r w e =/exits r w =/
-s/exits-past r w e =/exits-past r w =/
+s/exits_past r w e =/exits_past r w =/
 s/(exits r w (found less e))/(exits r w)/
-s/(exits-past r w (past over e))/(exits-past r w)/
+s/(exits_past r w (past over e))/(exits_past r w)/
 /^        found /d
 /^        past /d

@@ -1,6 +1,6 @@
 # The loop keeps the buffer's length.
-s/^Inv-loop .*/Inv-loop buffer₀ at bytes i₀ buffer i = length buffer ≡ length buffer₀/
+s/^invariant-loop .*/invariant-loop buffer₀ at bytes i₀ buffer i = length buffer ≡ length buffer₀/
 s/^loop-holds c = .*/loop-holds c = refl/
 /^loop-again c = /,/^)/c\
-loop-again c = c .before .before .put-byte .kept .0 ∙ c .before .before .before .before .before .before .loop .inv
-s/^same-length c = .*/same-length c = c .before .loop .inv/
+loop-again c = c.before.before.put_byte.auto.0 ∙ c.before.before.before.before.before.before.loop.invariant
+s/^same_length c = .*/same_length c = c.before.loop.invariant/
