@@ -4,7 +4,7 @@
 ghost use Rattle.std.specs.Prelude.{◌≡◌};
 ghost use Rattle.command.specs.Packing.{pack_of, unpack_of};
 
-#[derive(Drop)]
+#[derive(Clone, Copy)]
 pub enum PointCommand {
     // A new line begins at the first point of this spline.
     Start(usize),

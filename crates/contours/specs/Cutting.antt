@@ -9,9 +9,9 @@ behind true a pieces = (a ∷ []) ∷ pieces
 behind false a [] = (a ∷ []) ∷ []
 behind false a (piece ∷ pieces) = (a ∷ piece) ∷ pieces
 
-unfoldable pub cutAfter {ℓ} : {A : Type ℓ} → (A → Bool) → List A → List (List A)
-cutAfter test [] = []
-cutAfter test (a ∷ rest) = behind (test a) a (cutAfter test rest)
+unfoldable pub cut_after {ℓ} : {A : Type ℓ} → (A → Bool) → List A → List (List A)
+cut_after test [] = []
+cut_after test (a ∷ rest) = behind (test a) a (cut_after test rest)
 
 -- ---- what the pieces are; proved in proofs/Cutting
 -- "none is empty", and no entry before its last one passes

@@ -7,7 +7,7 @@ use point::WeightedPoint;
 pub use writing::deliver;
 
 // What a step reads of its quad; previous_sum is the sum of the quad before it in the same spline.
-#[derive(Drop)]
+#[derive(Clone, Copy)]
 pub struct StepQuad {
     pub p0: WeightedPoint,
     pub p1: WeightedPoint,
@@ -21,14 +21,14 @@ pub struct StepQuad {
 }
 
 // Where the next entry is written, and the quad cursor.
-#[derive(Drop)]
+#[derive(Clone, Copy)]
 pub struct Place {
     pub at: usize,
     pub cursor: usize,
 }
 
 // Whether the outputs hold the walk, and how many points it has then.
-#[derive(Drop)]
+#[derive(Clone, Copy)]
 pub struct Delivered {
     pub fits: bool,
     pub points: usize,

@@ -11,7 +11,7 @@ use point::Setting;
 use store::StoreState;
 
 // The answer, and how many splines, quads and points there are.
-#[derive(Drop)]
+#[derive(Clone, Copy)]
 pub struct Flattened {
     pub answer: Answer,
     pub splines: usize,

@@ -37,14 +37,14 @@ struct Expected {
 }
 
 // Whether a drawing is as listed, its runs with a full column and those with just enough room; then the same of all drawings.
-#[derive(Drop)]
+#[derive(Clone, Copy)]
 struct Replayed {
     same: bool,
     full: Tally,
     enough: Tally,
 }
 
-#[derive(Drop)]
+#[derive(Clone, Copy)]
 struct Total {
     same: Tally,
     full: Tally,

@@ -44,7 +44,7 @@ pub fn place(b: u32) -> u64
 pub fn join(s: bool, q: u64, k: u64) -> f32
     requires q_bound { q ≤ 0x100_0000 }
     requires k_bound { k < 0x1_0000 }
-    requires fact { (k ≡ 0) ⊎ (0x80_0000 ≤ q) }
+    requires normal { (k ≡ 0) ⊎ (0x80_0000 ≤ q) }
     ensures { result ≡ units binary32 s q k }
 {
     let n = k * 0x80_0000 + q;
@@ -59,8 +59,8 @@ fn cut(s: bool, w: u64, d: u64, k: u64) -> f32
     requires d_bound { d < 63 }
     requires k_bound { k < 0x1_0000 }
     requires w_bound { w < 2 ^ 62 }
-    requires d_bound_2 { w / 2 ^ d < 0x200_0000 }
-    requires fact { (k ≡ 0) ⊎ (0x100_0000 ≤ w / 2 ^ d) }
+    requires cut_bound { w / 2 ^ d < 0x200_0000 }
+    requires normal { (k ≡ 0) ⊎ (0x100_0000 ≤ w / 2 ^ d) }
     ensures { result ≡ units binary32 s (Halves.halve (w / 2 ^ d) (w % 2 ^ d)) k }
 {
     let odd = (w >> d) / 2 % 2;

@@ -7,7 +7,7 @@ ghost use Rattle.leaves.specs.Power.{Limbs, number};
 fn times(p: &mut [u64; 4], s: u64)
     requires limbs { Limbs p.old }
     requires s_bound { s < 2 ^ 24 }
-    requires s_bound_2 { number p.old * s < 2 ^ 144 }
+    requires product_bound { number p.old * s < 2 ^ 144 }
     ensures { Limbs p.new × (number p.new ≡ number p.old * s) }
 {
     let a = p[0] * s;

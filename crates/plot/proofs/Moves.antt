@@ -5,7 +5,7 @@ use mathlib.Core.List.{List, [], ◌∷◌, ◌++◌, map, flat_map, append-nil,
 use Prim.Native.Nat.{ℕ}
 use lib.IntN.{ℤ}
 use Rattle.text.specs.Bytes.{bytes}
-use Rattle.contours.specs.Cutting.{behind, cutAfter}
+use Rattle.contours.specs.Cutting.{behind, cut_after}
 use Rattle.contours.specs.Finished.{Position, Vertex}
 use Rattle.contours.specs.Contours.{contours_of}
 use Rattle.plot.specs.Text.{move_of, contour_text, text_of, pen_of, moves_of}
@@ -39,13 +39,13 @@ one_on v up true pieces = ends v.position up (places pieces)
 one_on v up false [] = ends v.position up []
 one_on v up false (piece ∷ pieces) = goes_on v.position up (map (λ (v : Vertex ℤ). v.position) piece) (places pieces)
 
-moves_from_lem : (up : Bool) (vs : List (Vertex ℤ)) → moves_of up vs ≡ from up (places (cutAfter (λ (v : Vertex ℤ). v.end) vs))
-unfolding moves_of cutAfter flat_map
+moves_from_lem : (up : Bool) (vs : List (Vertex ℤ)) → moves_of up vs ≡ from up (places (cut_after (λ (v : Vertex ℤ). v.end) vs))
+unfolding moves_of cut_after flat_map
 moves_from_lem true [] = refl
 moves_from_lem false [] = refl
 moves_from_lem up (v ∷ vs) =
     ap (λ (l : List ℕ). move_of (pen_of up) v.position ++ l) (moves_from_lem v.end vs)
-    ∙ one_on v up v.end (cutAfter (λ (v : Vertex ℤ). v.end) vs)
+    ∙ one_on v up v.end (cut_after (λ (v : Vertex ℤ). v.end) vs)
 
 pub text_moves : (vs : List (Vertex ℤ)) → text_of (contours_of vs) ≡ bytes "IN;" ++ moves_of true vs
 unfolding text_of contours_of

@@ -16,7 +16,7 @@ use Rattle.text.specs.Bytes.{bytes, stands_at, part_at, same_bytes}
 use Rattle.text.specs.Signed.{signed_of}
 use Rattle.text.specs.ReadDecimal.{signed_number, up_to, past}
 use Rattle.text.proofs.ReadDecimal.{signed_bytes, signed_back, digit_apart, up_to_first, past_first}
-use Rattle.contours.specs.Cutting.{cutAfter, Piece, Ended, Pieces, CutOf}
+use Rattle.contours.specs.Cutting.{cut_after, Piece, Ended, Pieces, CutOf}
 use Rattle.contours.proofs.Cutting.{only_cut}
 use Rattle.contours.specs.Finished.{Position, position}
 use Rattle.plot.specs.Text.{move_of, contour_text, text_of, pen_of}
@@ -132,7 +132,7 @@ ended_pieces (piece ∷ next ∷ pieces) h = (h.0, ended_pieces (next ∷ pieces
 first_ended : Ended semicolon (bytes "IN;")
 first_ended = record { is_piece = record { start = 0x49 ∷ 0x4e ∷ []; last = 0x3b; split = refl; before = (refl, (refl, tt)) }; passes = refl }
 
-cut_text : (contours : List (List (Position ℤ))) → cutAfter semicolon (text_of contours) ≡ bytes "IN;" ∷ instructions contours
+cut_text : (contours : List (List (Position ℤ))) → cut_after semicolon (text_of contours) ≡ bytes "IN;" ∷ instructions contours
 unfolding text_of flat_map
 cut_text contours =
     sym

@@ -3,7 +3,7 @@
 use Rattle.std.specs.Prelude.{ℕ, Bool, true, false, not, ◌&&◌, ◌||◌, List, [], ◌∷◌, map, ℤ, eqb, leb, drop}
 use Rattle.text.specs.Bytes.{bytes, stands_at}
 use Rattle.text.specs.ReadDecimal.{signed_number, up_to, past}
-use Rattle.contours.specs.Cutting.{cutAfter}
+use Rattle.contours.specs.Cutting.{cut_after}
 use Rattle.contours.specs.Finished.{Position, position}
 
 -- one instruction: where the pen goes, and whether it is down on the way
@@ -32,7 +32,7 @@ strokes_of (s ∷ rest) = stroked s.down s.to (strokes_of rest)
 
 -- the text cut after each semicolon; the first instruction is `IN;`
 unfoldable pub read_of : List ℕ → List (List (Position ℤ))
-read_of text = (strokes_of (map stroke_of (drop 1 (cutAfter (λ (b : ℕ). eqb b 0x3b) text)))).contours
+read_of text = (strokes_of (map stroke_of (drop 1 (cut_after (λ (b : ℕ). eqb b 0x3b) text)))).contours
 
 -- ---- "No other blank or line end is written."
 -- blanks, tabs and line ends

@@ -13,14 +13,14 @@ mod measuring;
 mod writing;
 
 // A point in plotter units; or one of its coordinates has none.
-#[derive(Drop)]
+#[derive(Clone, Copy)]
 pub enum Spot {
     At(i32, i32),
     Beyond,
 }
 
 // Whether all points have plotter units, and then whether their text fits.
-#[derive(Drop)]
+#[derive(Clone, Copy)]
 pub enum Measured {
     Fits,
     Short,
@@ -28,7 +28,7 @@ pub enum Measured {
 }
 
 // The answer, and how many bytes were written.
-#[derive(Drop)]
+#[derive(Clone, Copy)]
 pub struct Plotted {
     pub answer: Answer,
     pub written: usize,

@@ -11,7 +11,7 @@ pub use flags::chosen;
 pub use program::plot_listing;
 
 // The answer and its line, and how many bytes were written.
-#[derive(Drop)]
+#[derive(Clone, Copy)]
 pub struct PlotAccount {
     pub answer: Answer,
     pub line: usize,
@@ -19,7 +19,7 @@ pub struct PlotAccount {
 }
 
 // The setting that a flag names; or it names none.
-#[derive(Drop)]
+#[derive(Clone, Copy)]
 pub enum Choice {
     Named(Setting),
     Unknown,

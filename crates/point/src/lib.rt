@@ -11,7 +11,7 @@ ghost use Rattle.point.specs.Angle.{angle_of};
 pub use curve::{cubic_at, curvature, eval_cubic, eval_quad, inv_curvature, lerp, quad_at};
 pub use direction::{approx_atan2, changed, diff, full_diff};
 
-#[derive(Drop)]
+#[derive(Clone, Copy)]
 pub struct Point {
     pub x: f32,
     pub y: f32,
@@ -19,14 +19,14 @@ pub struct Point {
 
 // The screen setting is the Rust's. In the knife setting a line without angle keeps the last angle and a Move forgets it, a reversal is a corner, a line and a
 // quad never share a spline, and the points of a spline lie on its own quads.
-#[derive(Drop)]
+#[derive(Clone, Copy)]
 pub enum Setting {
     Screen,
     Knife,
 }
 
 // The Rust's Option<f32>: a direction too short has no angle.
-#[derive(Drop)]
+#[derive(Clone, Copy)]
 pub enum Angle {
     Missing,
     Known(f32),
@@ -84,7 +84,7 @@ impl Point {
 }
 
 // A rational control point holds its coordinates times its weight.
-#[derive(Drop)]
+#[derive(Clone, Copy)]
 pub struct WeightedPoint {
     pub point: Point,
     pub weight: f32,

@@ -12,14 +12,14 @@ use point::{Angle, Point, WeightedPoint};
 pub use splines::below;
 
 // How many quads and splines the tables take.
-#[derive(Drop)]
+#[derive(Clone, Copy)]
 pub struct Capacities {
     pub quads: usize,
     pub splines: u32,
 }
 
 // The answer so far, what is stored, whether a contour mark waits, and the last angle.
-#[derive(Drop)]
+#[derive(Clone, Copy)]
 pub struct State {
     pub answer: Answer,
     pub splines: u32,
@@ -28,7 +28,7 @@ pub struct State {
     pub last: Angle,
 }
 
-#[derive(Drop)]
+#[derive(Clone, Copy)]
 pub struct Cubic {
     pub p0: WeightedPoint,
     pub p1: WeightedPoint,
@@ -36,7 +36,7 @@ pub struct Cubic {
     pub p3: WeightedPoint,
 }
 
-#[derive(Drop)]
+#[derive(Clone, Copy)]
 pub enum Primitive {
     Contour,
     Line(WeightedPoint, WeightedPoint),
@@ -45,7 +45,7 @@ pub enum Primitive {
     Excess,
 }
 
-#[derive(Drop)]
+#[derive(Clone, Copy)]
 pub struct Three {
     pub a: f32,
     pub b: f32,
@@ -53,7 +53,7 @@ pub struct Three {
 }
 
 // The numbers of a quad's own curve.
-#[derive(Drop)]
+#[derive(Clone, Copy)]
 pub struct Curve {
     pub x0: f32,
     pub dx_recip: f32,
@@ -63,14 +63,14 @@ pub struct Curve {
 }
 
 // A line is straight, and so is a quad that is treated as one; any other quad is round. For the knife a spline is of one kind.
-#[derive(Drop)]
+#[derive(Clone, Copy)]
 pub enum Kind {
     Straight,
     Round,
 }
 
 // What a primitive comes to, once the angles of a quad's legs are known.
-#[derive(Drop)]
+#[derive(Clone, Copy)]
 pub enum Shape {
     // A quad that is dropped.
     Nothing,
@@ -81,7 +81,7 @@ pub enum Shape {
 }
 
 // One row of the quad table: partial_curvature is the running sum of its spline.
-#[derive(Drop)]
+#[derive(Clone, Copy)]
 pub struct QuadRow {
     pub x: Three,
     pub y: Three,
@@ -96,7 +96,7 @@ pub struct QuadRow {
 }
 
 // One row of the spline table: curvature is its sum; its quads are the quad_count ones from first_quad on.
-#[derive(Drop)]
+#[derive(Clone, Copy)]
 pub struct SplineRow {
     pub curvature: f32,
     pub p0: Point,
@@ -107,7 +107,7 @@ pub struct SplineRow {
 }
 
 // The row that goes to spline `at`; `clears` takes the flag of the spline before it.
-#[derive(Drop)]
+#[derive(Clone, Copy)]
 pub struct SplineEdit {
     pub clears: bool,
     pub at: u32,
@@ -116,7 +116,7 @@ pub struct SplineEdit {
 }
 
 // What a primitive changes: the state alone, a spline, or a spline and a quad at an index.
-#[derive(Drop)]
+#[derive(Clone, Copy)]
 pub enum Edit {
     Keep(State),
     Extend(SplineEdit),

@@ -18,7 +18,7 @@ use Rattle.tables.proofs.Sound.{Sound, sound, splines_room}
 use Rattle.walk.specs.Walk.{Item, walk_of, word_of, words_of}
 use Rattle.flatten.specs.Flatten.{Flattening, walked}
 use Rattle.promises.specs.Words.{is_end, decoded, pieces_in}
-use Rattle.contours.specs.Cutting.{cutAfter}
+use Rattle.contours.specs.Cutting.{cut_after}
 use Rattle.promises.specs.Accepted.{Job, words_in, walk_in, piece_of}
 use Rattle.promises.specs.Demand3.{Demand3a, NeverNan, PiecesAreSplines, Demand3b}
 use Rattle.promises.proofs.Flattened.{world_of, items_in, finished_of, passed, words_are}
@@ -79,8 +79,8 @@ never_nan job h =
     (subst (λ (ws : List ℕ). (i : ℕ) → i < length ws → get_or ws i 0 ≢ 0x7fc0_0000) (sym (words_are job)) (words_not_nan (items_in job.setting (world_of job)) (job_packed job)))
 
 -- ---- 3b
-cut_decoded : (words : List ℕ) (items : List Item) → decoded words ≡ map command_of items → map decoded (pieces_in words) ≡ map (map command_of) (cutAfter ends_item items)
-cut_decoded words items e = cut_map unpack_of is_end words ∙ ap (cutAfter is_end) e ∙ sym (cut_map command_of is_end items)
+cut_decoded : (words : List ℕ) (items : List Item) → decoded words ≡ map command_of items → map decoded (pieces_in words) ≡ map (map command_of) (cut_after ends_item items)
+cut_decoded words items e = cut_map unpack_of is_end words ∙ ap (cut_after is_end) e ∙ sym (cut_map command_of is_end items)
 
 decoded_at : (pieces : List (List ℕ)) (k : ℕ) → decoded (get_or pieces k []) ≡ get_or (map decoded pieces) k []
 decoded_at pieces k = sym (get_or-map decoded pieces k [])
@@ -95,13 +95,13 @@ job_pieces job =
       as_many =
           sym (length-map (pieces_in (words_in f)) decoded)
           ∙ ap length e
-          ∙ length-map (cutAfter ends_item (walk_in job.setting f)) (map command_of)
+          ∙ length-map (cut_after ends_item (walk_in job.setting f)) (map command_of)
           ∙ pieces_count (quad_row_at w.quads) w.splines job.setting w.state.splines 0 0;
       each = λ k h.
           let z = piece_at (quad_row_at w.quads) w.splines job.setting (λ (j c : ℕ). Unit {0}) (λ (j c : ℕ). Unit {0}) w.state.splines 0 0 tt (λ j c l u. tt) (λ j c l u. tt) k h in
           decoded_at (pieces_in (words_in f)) k
           ∙ ap (λ (x : List (List PointCommand)). get_or x k []) e
-          ∙ get_or-map (map command_of) (cutAfter ends_item (walk_in job.setting f)) k []
+          ∙ get_or-map (map command_of) (cut_after ends_item (walk_in job.setting f)) k []
           ∙ ap (map command_of) z.is
           ∙ piece_commands (quad_row_at w.quads) w.splines (0 + k) z.cursor
           ∙ ap (piece_of w.splines) (zero-add k);

@@ -20,7 +20,7 @@ use Rattle.answer.specs.declared.Answer.{Answer}
 use Rattle.answer.specs.Number.{number_of}
 use Rattle.answer.specs.declared.Answer.TheVariants.{Done, NotPrintable, BufferShort}
 use Rattle.store.proofs.Written.{take_sets}
-use Rattle.contours.specs.Cutting.{behind, cutAfter}
+use Rattle.contours.specs.Cutting.{behind, cut_after}
 use Rattle.text.specs.Decimal.{decimal_in, decimal_of}
 use Rattle.text.specs.Signed.{signed_of}
 use Rattle.contours.specs.Finished.{Position, Vertex, finished_of}
@@ -174,12 +174,12 @@ behind_filled true v pieces h k = ((h, tt), k)
 behind_filled false v [] h k = ((h, tt), tt)
 behind_filled false v (piece ∷ pieces) h k = ((h, every_held (map (λ (v : Vertex ℤ). v.position) piece) k.0), k.1)
 
-contours_filled : (points : List (Vertex Float)) → all_printable points ≡ true → All Filled (places (cutAfter (λ (v : Vertex ℤ). v.end) (map whole_vertex points)))
-unfolding all_printable cutAfter
+contours_filled : (points : List (Vertex Float)) → all_printable points ≡ true → All Filled (places (cut_after (λ (v : Vertex ℤ). v.end) (map whole_vertex points)))
+unfolding all_printable cut_after
 contours_filled [] h = tt
 contours_filled (v ∷ vs) h =
     let a = (and-eq-true_iff (at v) (all_printable vs)).0 h in
-    behind_filled (whole_vertex v).end (whole_vertex v) (cutAfter (λ (v : Vertex ℤ). v.end) (map whole_vertex vs)) (held v a.0) (contours_filled vs a.1)
+    behind_filled (whole_vertex v).end (whole_vertex v) (cut_after (λ (v : Vertex ℤ). v.end) (map whole_vertex vs)) (held v a.0) (contours_filled vs a.1)
 
 filled : (points : List (Vertex Float)) → all_printable points ≡ true → All Filled (whole_contours points)
 unfolding contours_of
@@ -206,5 +206,5 @@ plot_room points buffer room = go (all_printable points) (fitting points buffer)
     go true false e k h = omega (arith, leb-false (length (plot_text points)) (length buffer) k, text_most points e, room)
 
 pub plot_examples : PlotExamples
-unfolding of_bits whole_of negative_of finished_of is_flag_of whole_vertex contours_of cutAfter text_of contour_text move_of flat_map signed_of decimal_of decimal_in
+unfolding of_bits whole_of negative_of finished_of is_flag_of whole_vertex contours_of cut_after text_of contour_text move_of flat_map signed_of decimal_of decimal_in
 plot_examples = record { two_contours = refl; no_points = refl; below_half = refl; ends = refl }

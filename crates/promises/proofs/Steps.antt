@@ -26,7 +26,7 @@ use Rattle.tables.proofs.Owners.{Home, home, home_owner}
 use Rattle.walk.specs.Walk.{Item, item, subdivisions_of, step_size_of, starts_of, cursor_start_of, cursor_at, steps_from, cursor_from, cursor_after, spline_items_of, walk_of}
 use Rattle.flatten.specs.Flatten.{Flattening, Output, flattened, flattening, walked}
 use Rattle.promises.specs.Words.{is_step, is_end}
-use Rattle.contours.specs.Cutting.{cutAfter}
+use Rattle.contours.specs.Cutting.{cut_after}
 use Rattle.promises.specs.Accepted.{walk_in, steps_of}
 use Rattle.promises.specs.Demand3.{StepOf, spline_of_quad, LastQuad, NotAfterLast, Demand3e, Spread, QuadHasStep, NoStray, Demand3f}
 use Rattle.promises.proofs.Flattened.{world_of, finished_of, passed}
@@ -69,7 +69,7 @@ module _ (setting : Setting) (caps : Capacities) (w : World) (S : Sound caps w) 
 
   -- the walk, cut after each End
   abbrev pieces : List (List Item)
-  pieces = cutAfter (λ (i : Item). is_end i.command) (walk_in setting left)
+  pieces = cut_after (λ (i : Item). is_end i.command) (walk_in setting left)
 
   -- ---- the last quad of spline k
   last_quad : (k : ℕ) (h : k < w.state.splines) (L : Ends caps w S k) → LastQuad left k L.at

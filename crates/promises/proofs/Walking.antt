@@ -29,7 +29,7 @@ use Rattle.tables.proofs.Spans.{span_total}
 use Rattle.tables.proofs.Sound.{Sound}
 use Rattle.walk.specs.Walk.{Item, item, subdivisions_of, step_size_of, starts_of, cursor_start_of, cursor_at, steps_from, cursor_after, spline_items_of, walk_from}
 use Rattle.promises.specs.Words.{is_end}
-use Rattle.contours.specs.Cutting.{cutAfter}
+use Rattle.contours.specs.Cutting.{cut_after}
 use Rattle.promises.specs.Accepted.{steps_of, piece_of}
 use Rattle.facts.specs.Every.{All}
 use Rattle.facts.proofs.Every.{all_append}
@@ -69,18 +69,18 @@ module _ (rows : ℕ → QuadRow) (s : SplineTable) where
   unfolding spline_items_of start_items step_items end_item
   items_are k cursor = sym (append_assoc (start_items k) (step_items k cursor) (end_item k ∷ []))
 
-  cut_spline : (k cursor : ℕ) (rest : List Item) → cutAfter ends_item (spline_items_of rows s k cursor ++ rest) ≡ spline_items_of rows s k cursor ∷ cutAfter ends_item rest
+  cut_spline : (k cursor : ℕ) (rest : List Item) → cut_after ends_item (spline_items_of rows s k cursor ++ rest) ≡ spline_items_of rows s k cursor ∷ cut_after ends_item rest
   unfolding step_items end_item
   cut_spline k cursor rest =
-      ap (λ (x : List Item). cutAfter ends_item (x ++ rest)) (items_are k cursor)
-      ∙ ap (cutAfter ends_item) (append_assoc (start_items k ++ step_items k cursor) (end_item k ∷ []) rest)
+      ap (λ (x : List Item). cut_after ends_item (x ++ rest)) (items_are k cursor)
+      ∙ ap (cut_after ends_item) (append_assoc (start_items k ++ step_items k cursor) (end_item k ∷ []) rest)
       ∙ cut_piece ends_item (start_items k ++ step_items k cursor) rest (end_item k)
       (all_append (λ (i : Item). ends_item i ≡ false) (start_items k) (step_items k cursor) (start_no_end k) (steps_no_end (step_size_of s k) (steps_of s k) 1 cursor)) refl
-      ∙ ap (λ (x : List Item). x ∷ cutAfter ends_item rest) (sym (items_are k cursor))
+      ∙ ap (λ (x : List Item). x ∷ cut_after ends_item rest) (sym (items_are k cursor))
 
   -- ---- n splines from k on
-  pub pieces_count : (setting : Setting) (n k cursor : ℕ) → length (cutAfter ends_item (walk_from setting rows s n k cursor)) ≡ n
-  unfolding walk_from cutAfter
+  pub pieces_count : (setting : Setting) (n k cursor : ℕ) → length (cut_after ends_item (walk_from setting rows s n k cursor)) ≡ n
+  unfolding walk_from cut_after
   pieces_count setting zero k cursor = refl
   pieces_count setting (suc n) k cursor =
       let start = cursor_start_of setting (spline_at s k).first_quad cursor in
@@ -97,7 +97,7 @@ module _ (rows : ℕ → QuadRow) (s : SplineTable) where
   pub piece_at : (setting : Setting) (comes inv : ℕ → ℕ → Type 0) (n k cursor : ℕ) → comes k cursor
       → ((j c : ℕ) → j < k + n → comes j c → inv j (cursor_start_of setting (spline_at s j).first_quad c))
       → ((j c : ℕ) → j < k + n → inv j c → comes (suc j) (cursor_after rows s j c)) → (i : ℕ) → i < n
-      → Piece inv (cutAfter ends_item (walk_from setting rows s n k cursor)) i (k + i)
+      → Piece inv (cut_after ends_item (walk_from setting rows s n k cursor)) i (k + i)
   unfolding walk_from
   piece_at setting comes inv zero k cursor h begin step i l = absurd (not-suc-le-zero l)
   piece_at setting comes inv (suc n) k cursor h begin step zero l =

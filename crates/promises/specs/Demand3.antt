@@ -8,7 +8,7 @@ use Rattle.tables.specs.Tables.{quad_row_at}
 use Rattle.walk.specs.Walk.{Item, starts_of, step_size_of}
 use Rattle.flatten.specs.Flatten.{Flattening}
 use Rattle.promises.specs.Words.{is_step, is_end, decoded, pieces_in, is_flagged}
-use Rattle.contours.specs.Cutting.{cutAfter}
+use Rattle.contours.specs.Cutting.{cut_after}
 use Rattle.promises.specs.Accepted.{Job, flattening_of, Accepted, words_in, walk_in, ContourLast, Within, steps_of, piece_of}
 
 -- 3a. "the packed words alone tell every Start, step size and End": decoded, they are the walk's commands
@@ -55,7 +55,7 @@ Demand3d = (job job' : Job) → Accepted job → Accepted job' → words_in (fla
 
 -- ---- the quads that steps use. The walk is cut after each End too, so that piece k has the steps of spline k
 abbrev pub items_of : Setting → Flattening → ℕ → List Item
-items_of setting f k = get_or (cutAfter (λ (i : Item). is_end i.command) (walk_in setting f)) k []
+items_of setting f k = get_or (cut_after (λ (i : Item). is_end i.command) (walk_in setting f)) k []
 
 -- i is a step of spline k
 pub record StepOf (setting : Setting) (f : Flattening) (k : ℕ) (i : Item) : Type 0 where

@@ -3,7 +3,7 @@ use Rattle.std.specs.Prelude.{ℕ, Bool, true, false, ◌||◌, List, [], ◌∷
 use Rattle.command.specs.declared.PointCommand.{PointCommand}
 use Rattle.command.specs.declared.PointCommand.TheVariants.{Start, Incr, End}
 use Rattle.command.specs.Packing.{unpack_of}
-use Rattle.contours.specs.Cutting.{cutAfter}
+use Rattle.contours.specs.Cutting.{cut_after}
 
 abbrev pub is_step : PointCommand → Bool
 is_step (Start i) = false
@@ -21,7 +21,7 @@ decoded words = map unpack_of words
 
 -- a word list, "Cut after each End"
 abbrev pub pieces_in : List ℕ → List (List ℕ)
-pieces_in words = cutAfter (λ (word : ℕ). is_end (unpack_of word)) words
+pieces_in words = cut_after (λ (word : ℕ). is_end (unpack_of word)) words
 
 -- whether a list of commands has a flagged End
 abbrev pub is_flagged : List PointCommand → Bool

@@ -9,14 +9,14 @@ use columns::{flag_byte, put_f32, put_u8, put_u32, put_usize};
 use primitives::SplineRow;
 
 // The record at an index of a list, or that the index is past the list.
-#[derive(Drop)]
+#[derive(Clone, Copy)]
 pub enum Found {
     At(SplineRow),
     Past,
 }
 
 // Whether a list and the columns had equal lengths, so that all was copied; if not, nothing was written.
-#[derive(Drop)]
+#[derive(Clone, Copy)]
 pub enum Copied {
     All,
     Unequal,

@@ -21,7 +21,7 @@ pub use entries::{CUBIC, LINE, MOVE, stored_point};
 pub use whole::{drawable, uses};
 
 // The state beside the columns: how many points and commands there are, and which point opened the contour.
-#[derive(Drop)]
+#[derive(Clone, Copy)]
 pub struct StoreState {
     pub points: usize,
     pub commands: usize,
@@ -29,14 +29,14 @@ pub struct StoreState {
 }
 
 // What a drawing call gives back.
-#[derive(Drop)]
+#[derive(Clone, Copy)]
 pub struct Drawn {
     pub answer: Answer,
     pub state: StoreState,
 }
 
 // A drawing call as a value; the weights of a rational call come last.
-#[derive(Drop)]
+#[derive(Clone, Copy)]
 pub enum Call {
     Move(Point),
     Line(Point),

@@ -12,7 +12,7 @@ use answer::Answer;
 use point::{Point, WeightedPoint};
 
 // The points of a call: at most three, a closing point included.
-#[derive(Drop)]
+#[derive(Clone, Copy)]
 pub enum Batch {
     Empty,
     One(WeightedPoint),
@@ -34,7 +34,7 @@ impl Batch {
 }
 
 // The commands of a call; the closing line comes first.
-#[derive(Drop)]
+#[derive(Clone, Copy)]
 pub enum Marks {
     Empty,
     One(u8),
@@ -54,7 +54,7 @@ impl Marks {
 }
 
 // Points from an index on, commands after the last one, and the open index after the call.
-#[derive(Drop)]
+#[derive(Clone, Copy)]
 pub struct Plan {
     pub at: usize,
     pub points: Batch,
@@ -62,7 +62,7 @@ pub struct Plan {
     pub opening: usize,
 }
 
-#[derive(Drop)]
+#[derive(Clone, Copy)]
 pub enum Decision {
     Refuse(Answer),
     Store(Plan),

@@ -11,7 +11,7 @@ use std::io::Read;
 use store::{Drawn, StoreState};
 
 // The store's state, the lengths of its columns that are lent, the line of the list, and how many of the lines that compare agree.
-#[derive(Drop)]
+#[derive(Clone, Copy)]
 struct Run {
     state: StoreState,
     x: usize,

@@ -81,6 +81,7 @@ pub record FitsParts (p q : List Class) (s : List ℕ) : Type 0 where
   pub fits_second : Fits q second
 
 pub fits_parts : (p q : List Class) (s : List ℕ) → Fits (p ++ q) s → FitsParts p q s
+fits_parts (k ∷ p) q [] f = elim f [ ]
 fits_parts [] q s f = record { first = []; second = s; split = refl; fits_first = none; fits_second = f }
 fits_parts (k ∷ p) q (b ∷ s) (more e f) =
     let r = fits_parts p q s f in
@@ -99,6 +100,8 @@ fits_bytes (b ∷ s) = more (eq-eqb b b refl) (fits_bytes s)
 
 pub bytes_fit : (s t : List ℕ) → Fits (map byte s) t → t ≡ s
 unfolding admits
+bytes_fit [] (b ∷ t) x'' = elim x'' [ ]
+bytes_fit (a ∷ s) [] x3 = elim x3 [ ]
 bytes_fit [] [] none = refl
 bytes_fit (a ∷ s) (b ∷ t) (more e f) =
     let first : b ≡ a = eqb-true b a e in
@@ -116,6 +119,8 @@ fits_digits (suc k) (b ∷ s) e h =
 
 pub digits_fit : (k : ℕ) (s : List ℕ) → Fits (digits k) s → (length s ≡ k) × (all_hex s ≡ true)
 unfolding admits digits all_hex
+digits_fit zero (b ∷ s) x'' = elim x'' [ ]
+digits_fit (suc k) [] x3 = elim x3 [ ]
 digits_fit zero [] none = (refl, refl)
 digits_fit (suc k) (b ∷ s) (more e f) = let later = digits_fit k s f in (ap suc later.0, rw (e, later.1))
 
@@ -165,6 +170,7 @@ fit_complete (k ∷ p) (b ∷ s) = go (admits k b) refl (fit_complete p s)
 
 pub fit_longest : (p : List Class) (s ending rest : List ℕ) → Fits p (s ++ ending) → length s ≤ length (fit p (s ++ rest))
 unfolding fit
+fit_longest [] (b ∷ s) ending rest f = elim f [ ]
 fit_longest p [] ending rest f = omega arith
 fit_longest (k ∷ p) (b ∷ s) ending rest (more e f) = rw e (omega (arith, fit_longest p s ending rest f))
 
@@ -192,6 +198,8 @@ plain_rest digit p h = h
 
 pub plain_newlines : (p : List Class) (s : List ℕ) → plain p ≡ true → Fits p s → newlines s ≡ 0
 unfolding newlines
+plain_newlines [] (b ∷ s) h x4 = elim x4 [ ]
+plain_newlines (k ∷ p) [] h x4 = elim x4 [ ]
 plain_newlines [] [] h none = refl
 plain_newlines (k ∷ p) (b ∷ s) h (more e f) = rw (plain_first k p b h e) (plain_newlines p s (plain_rest k p h) f)
 

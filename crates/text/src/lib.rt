@@ -12,7 +12,7 @@ pub use hex::{hex_at, put_hex};
 pub use signed::{put_signed, signed_length};
 
 // What is found where a number must come: eight digits, or something else.
-#[derive(Drop)]
+#[derive(Clone, Copy)]
 pub enum HexAt {
     Number(u32),
     Wrong,

@@ -27,9 +27,9 @@ fn all_printable(column: &[f32], n: usize) -> bool
 
 // The first n entries, rounded.
 fn put_wholes(column: &[f32], n: usize, to: &mut [i32])
-    requires n_in_bounds { n ≤ length column.now }
-    requires n_in_bounds_2 { n ≤ length to.old }
-    requires column_value { all_printable (take n column.now) ≡ true }
+    requires from_room { n ≤ length column.now }
+    requires to_room { n ≤ length to.old }
+    requires printable { all_printable (take n column.now) ≡ true }
     ensures { to.new ≡ sets to.old 0 (map whole_of (take n column.now)) }
 {
     let mut i = 0;

@@ -10,14 +10,14 @@ pub use columns::whole_points;
 pub use coordinate::whole;
 
 // A coordinate in plotter units, or that it is NaN or rounds outside -32,768..32,767.
-#[derive(Drop)]
+#[derive(Clone, Copy)]
 pub enum Unit {
     Whole(i32),
     Beyond,
 }
 
 // The answer, and how many points were written.
-#[derive(Drop)]
+#[derive(Clone, Copy)]
 pub struct Wholes {
     pub answer: Answer,
     pub points: usize,

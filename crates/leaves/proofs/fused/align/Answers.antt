@@ -159,7 +159,7 @@ module _ (s t : Bool) (p pe q qe x y : ℕ) (A : Aligns p pe q qe) where
 
 -- ---- the code's numbers
 higher : (c : Joined-pe-qe) → Higher c.args.pe c.args.qe c.if-pe-qe.z
-higher c = elim c.if-pe-qe.branch [ | then-pe-qe w ↦ inl (w.if-pe-qe.true, w.z-is) | else-pe-qe w ↦ inr (w.if-pe-qe.false, w.z-is) ]
+higher c = elim c.if-pe-qe.branch [ then-pe-qe w ↦ inl (w.if-pe-qe.true, w.z-is) | else-pe-qe w ↦ inr (w.if-pe-qe.false, w.z-is) ]
 
 found : (c : After-jam-2) → let a = c.args in
     Brought a.s a.t a.p a.pe a.q a.qe c.if-pe-qe.z c.jam.result c.jam-2.result

@@ -55,7 +55,7 @@ join-requires c =
     let a = c.args in
     let h = a.w / 2 ^ a.d in
     let r = a.w % 2 ^ a.d in
-    let e = q_is a.d c.requires.d_bound a.w c.requires.w_bound in record { q_bound = le_trans (le_of_eq e) (at_most h (halve h r) c.requires.d_bound_2 (halve_le h r)); k_bound = c.requires.k_bound; fact = ⊎_elim (λ z. inl z) (λ l. inr (le_trans (at_least h (halve h r) l (halve_ge h r)) (le_of_eq (sym e)))) c.requires.fact }
+    let e = q_is a.d c.requires.d_bound a.w c.requires.w_bound in record { q_bound = le_trans (le_of_eq e) (at_most h (halve h r) c.requires.cut_bound (halve_le h r)); k_bound = c.requires.k_bound; normal = ⊎_elim (λ z. inl z) (λ l. inr (le_trans (at_least h (halve h r) l (halve_ge h r)) (le_of_eq (sym e)))) c.requires.normal }
 
 pub returns : goal.returns
 returns c =

@@ -27,7 +27,7 @@ abbrev Cut : ℕ → ℕ → Type 0
 Cut m n = ((m ≡ n) × (n < 2139095040)) ⊎ ((m ≡ 2139095040) × (2139095040 ≤ n))
 
 m_is : (c : Joined-n-lt2139095040) → Cut c.if-n-lt2139095040.m (c.args.k * 8388608 + c.args.q)
-m_is c = elim c.if-n-lt2139095040.branch [ | then-n-lt2139095040 w ↦ inl (w.m-is, w.if-n-lt2139095040.true) | else-n-lt2139095040 w ↦ inr (w.m-is, w.if-n-lt2139095040.false) ]
+m_is c = elim c.if-n-lt2139095040.branch [ then-n-lt2139095040 w ↦ inl (w.m-is, w.if-n-lt2139095040.true) | else-n-lt2139095040 w ↦ inr (w.m-is, w.if-n-lt2139095040.false) ]
 
 m_le : (m n : ℕ) → Cut m n → m ≤ 2139095040
 m_le m n h = ⊎_elim (λ w. a m n w.0 w.1) (λ w. le_of_eq w.0) h
@@ -45,7 +45,7 @@ b_is : (c : Joined-s) → c.if-s.b ≡ cond c.args.s 2147483648 0 + c.if-n-lt213
 b_is c =
     let s = c.args.s in
     let m = c.if-n-lt2139095040.m in
-    elim c.if-s.branch [ | then-s w ↦ signed s c.if-s.b m w.if-s.true w.b-is | else-s w ↦ unsigned s c.if-s.b m w.if-s.false w.b-is ]
+    elim c.if-s.branch [ then-s w ↦ signed s c.if-s.b m w.if-s.true w.b-is | else-s w ↦ unsigned s c.if-s.b m w.if-s.false w.b-is ]
 
 b_mod : (s : Bool) (m : ℕ) → m ≤ 2139095040 → (cond s 2147483648 0 + m) % 2147483648 ≡ m
 b_mod true m h = omega arith
@@ -74,4 +74,4 @@ float_from_bits-result c =
 pub returns : goal.returns
 returns c =
     let a = c.args in
-    value a.s a.q a.k c.if-s.b c.if-n-lt2139095040.m c.requires.q_bound c.requires.fact (b_is c.before) (m_is c.before.before)
+    value a.s a.q a.k c.if-s.b c.if-n-lt2139095040.m c.requires.q_bound c.requires.normal (b_is c.before) (m_is c.before.before)

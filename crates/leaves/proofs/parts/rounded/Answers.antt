@@ -99,7 +99,7 @@ cut-requires-2 c =
     let l = c.lift-l.result in
     let lt : a.z + 37 < l + a.y = c.if-z-l.false in
     let w = c.lift-l.ensures.2 in
-    record { d_bound = omega arith; k_bound = lit< tt; w_bound = w_lt a.m l w; d_bound_2 = low_lt a.m l w (l + a.y - a.z) (deep a.z l a.y lt); fact = inl refl }
+    record { d_bound = omega arith; k_bound = lit< tt; w_bound = w_lt a.m l w; cut_bound = low_lt a.m l w (l + a.y - a.z) (deep a.z l a.y lt); normal = inl refl }
 
 pub returns : goal.returns
 returns c =

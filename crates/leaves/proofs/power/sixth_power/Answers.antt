@@ -5,4 +5,4 @@ use Rattle.leaves.specs.Power.{number}
 use Rattle.leaves.proofs.power.sixth_power.Goals as goal
 
 pub times-requires : goal.times-requires
-times-requires c = record { limbs = c.loop-i.invariant.1; s_bound = c.requires.s_bound; s_bound_2 = room (number c.loop-i.p) c.args.s c.loop-i.i c.requires.s_bound c.loop-i-test.true c.loop-i.invariant.2 }
+times-requires c = record { limbs = c.loop-i.invariant.1; s_bound = c.requires.s_bound; product_bound = room (number c.loop-i.p) c.args.s c.loop-i.i c.requires.s_bound c.loop-i-test.true c.loop-i.invariant.2 }

@@ -30,7 +30,7 @@ join-requires c =
     let a = c.args in
     let p = c.root_place-k in
     let t = a.m * 2 ^ (a.e + 649 - p.result * 6) in
-    let s = c.settle.result in record { q_bound = le_of_lt (digits_lt t s p.ensures.3 (found c)); k_bound = low_k a.e p.result c.requires.e_bound p.ensures.0; fact = inr (digits_ge t s p.ensures.2 (found c)) }
+    let s = c.settle.result in record { q_bound = le_of_lt (digits_lt t s p.ensures.3 (found c)); k_bound = low_k a.e p.result c.requires.e_bound p.ensures.0; normal = inr (digits_ge t s p.ensures.2 (found c)) }
 
 pub returns : goal.returns
 returns c =
