@@ -60,18 +60,18 @@ module _ (st : StoreState) (c : Columns) where
     unfolding even_of
     tested = ap counted_of h
 
-    pub counted_by : not (counted_of even) ≡ false → Counted st c
-    counted_by e = counted (sym tested ∙ not-false (counted_of even) e)
+    pub counted_by : counted_of even ≡ true → Counted st c
+    counted_by e = counted (sym tested ∙ e)
 
-    pub uncounted : not (counted_of even) ≡ true → false ≡ usable_of st c
+    pub uncounted : counted_of even ≡ false → false ≡ usable_of st c
     unfolding usable_of
     uncounted e =
-        sym (ap (λ (b : Bool). b && leb (last_command_of st c) 3) (sym tested ∙ not-true (counted_of even) e))
+        sym (ap (λ (b : Bool). b && leb (last_command_of st c) 3) (sym tested ∙ e))
 
-    pub last_decides : not (counted_of even) ≡ false → leb (last_command_of st c) 3 ≡ usable_of st c
+    pub last_decides : counted_of even ≡ true → leb (last_command_of st c) 3 ≡ usable_of st c
     unfolding usable_of
     last_decides e =
-        sym (ap (λ (b : Bool). b && leb (last_command_of st c) 3) (sym tested ∙ not-false (counted_of even) e))
+        sym (ap (λ (b : Bool). b && leb (last_command_of st c) 3) (sym tested ∙ e))
 
   module _ (e : usable_of st c ≡ true) where
     pub usable_counts : Counted st c

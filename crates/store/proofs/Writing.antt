@@ -67,13 +67,13 @@ module _ (c : Columns) (even : Bool) (h : even ≡ even_of (columns c.x c.y c.we
   unfolding even_of
   even_told = h
 
-  pub fresh_uneven : not even ≡ true → outcome Unusable (state_at 0 0 0) c ≡ fresh_of c
+  pub fresh_uneven : even ≡ false → outcome Unusable (state_at 0 0 0) c ≡ fresh_of c
   unfolding fresh_of
-  fresh_uneven e = rw (← even_told, not-true even e)
+  fresh_uneven e = rw (← even_told, e)
 
-  module _ (e : not even ≡ false) where
+  module _ (e : even ≡ true) where
     is_even : even_of c ≡ true
-    is_even = sym even_told ∙ not-false even e
+    is_even = sym even_told ∙ e
 
     pub fresh_full : (eqb (length c.x) 0 || eqb (length c.commands) 0) ≡ true → outcome StoreFull (state_at 0 0 0) c ≡ fresh_of c
     unfolding fresh_of

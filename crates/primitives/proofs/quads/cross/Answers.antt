@@ -1,0 +1,8 @@
+-- `primitives::quads::cross` meets its contract. Assumes nothing.
+use Rattle.primitives.specs.Quads.{cross_of}
+use borrow.Author.Rules.{rules}
+use Rattle.primitives.proofs.quads.cross.Goals as goal
+
+pub returns : goal.returns
+unfolding cross_of
+returns c = rw (← c.fma.ensures)

@@ -1,0 +1,8 @@
+-- `store::entries::stored_point` meets its contract: three reads. Assumes nothing.
+use borrow.Author.Rules.{rules}
+use Rattle.store.specs.Columns.{stored_point_of}
+use Rattle.store.proofs.entries.stored_point.Goals as goal
+
+pub returns : goal.returns
+unfolding stored_point_of
+returns c = rw (← c.read_f32.ensures, ← c.read_f32-2.ensures, ← c.read_f32-3.ensures)

@@ -1,0 +1,19 @@
+-- `store::whole::all_stored_ok` meets its contract. The loop's invariant: what is left to test gives what the whole gives. Assumes nothing.
+use Prim.Native.Nat.{◌-◌}
+use native.Mathlib.Omega.{arith}
+use mathlib.Core.Path.{refl, sym, ◌∙◌}
+use borrow.Author.Rules.{rules}
+use borrow.Author.Tests.{not-true, not-false}
+use Rattle.store.proofs.Loops.{Passed, every_more, every_bad, every_end}
+use Rattle.store.specs.Drawable.{stored_ok_of}
+use Rattle.store.specs.Drawing.{every}
+use Rattle.store.proofs.whole.all_stored_ok.Goals as goal
+
+pub returns-then-not-stored_ok : goal.returns-then-not-stored_ok
+returns-then-not-stored_ok c = every_bad _ _ _ _ c.requires c.loop-i.invariant c.loop-i-test.true (sym c.stored_ok.ensures ∙ c.if-not-stored_ok.true)
+
+pub loop-i-preserved : goal.loop-i-preserved
+loop-i-preserved c = every_more _ _ _ _ c.requires c.loop-i.invariant c.loop-i-test.true (sym c.stored_ok.ensures ∙ c.if-not-stored_ok.false)
+
+pub returns : goal.returns
+returns c = every_end _ _ _ _ c.requires c.loop-i.invariant c.loop-i-test.false

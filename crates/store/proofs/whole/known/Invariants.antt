@@ -1,0 +1,14 @@
+-- `store::whole::known` meets its contract. The loop's invariant: what is left to test gives what the whole gives. Assumes nothing.
+use Prim.Native.Nat.{◌-◌}
+use native.Mathlib.Omega.{arith}
+use mathlib.Core.Path.{refl}
+use borrow.Author.Tests.{le-leb, lt-leb}
+use Rattle.store.proofs.Loops.{Passed, known_more, known_bad, known_end}
+use Rattle.store.specs.Drawable.{known_of}
+use Rattle.store.proofs.whole.known.Given as goal
+
+abbrev pub invariant-loop-i : goal.invariant-loop-i
+invariant-loop-i l = Passed known_of l.commands l.n l.i
+
+abbrev pub decreases-loop-i : goal.decreases-loop-i
+decreases-loop-i l = l.n - l.i

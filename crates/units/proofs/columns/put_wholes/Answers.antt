@@ -1,0 +1,20 @@
+-- `units::columns::put_wholes` meets its contract. The loop's invariant: with what is left to write, the column becomes what it has to become. Assumes nothing.
+use mathlib.Core.Path.{refl, sym, subst, ◌∙◌}
+use mathlib.Core.Logic.{inl, inr}
+use Prim.Native.Nat.{◌+◌, ◌-◌}
+use native.Mathlib.Omega.{arith}
+use borrow.Author.Rules.{rules}
+use Rattle.leaves.proofs.Comparisons.{no}
+use Rattle.units.proofs.Points.{unit_beyond, unit_written, Putting, next_printable, put_more, put_end}
+use Rattle.units.proofs.columns.put_wholes.Goals as goal
+
+pub loop-i-preserved : goal.loop-i-preserved
+loop-i-preserved c = elim c.in-Beyond.branch [
+  | inl w ↦
+      subst (λ t. Putting c.args.column.now c.args.n c.args.to.now t (c.loop-i.i + 1)) (sym w.3)
+      (put_more _ _ _ _ _ c.requires.from_room c.loop-i.invariant _ _ c.loop-i-test.true
+      (unit_written _ _ (sym c.whole.ensures ∙ w.1.given.1)))
+  | inr w ↦
+      no (sym (next_printable _ _ _ _ _ c.requires.from_room c.loop-i.invariant _ c.loop-i-test.true).0
+      ∙ unit_beyond _ (sym c.whole.ensures ∙ w.1.given.1))
+]
