@@ -1,0 +1,17 @@
+-- `tables::rows::clear_flag` meets its contract. Assumes nothing.
+use Rattle.tables.specs.Tables.{clear_flag}
+use borrow.Author.Rules.{rules}
+use Rattle.tables.proofs.rows.clear_flag.Goals as goal
+
+pub returns-then-clears : goal.returns-then-clears
+unfolding clear_flag
+returns-then-clears c = rw (
+  c.if-clears.true,
+  ← c.below.ensures,
+  ←
+      c.flag_byte.ensures,
+) c.put_u8.ensures
+
+pub returns-else-clears : goal.returns-else-clears
+unfolding clear_flag
+returns-else-clears c = rw c.if-clears.false
