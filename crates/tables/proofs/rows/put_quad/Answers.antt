@@ -34,9 +34,7 @@ put_row-requires c = omega (arith, room c.before)
 
 pub returns-then-i-quad_capacity : goal.returns-then-i-quad_capacity
 returns-then-i-quad_capacity c =
-    let t : Then-i-quad_capacity = c.before.before.before.before.before.before.before.before in
-    let s = start t.before in
-    cc (put_is (table s) s.args.i s.args.row (under t))
+    cc (put_is (table c.before.before.before.before.before.before.before.before.before.before.before.before.before) c.args.i c.args.row (under c.before.before.before.before.before.before.before.before.before))
 
 pub returns-else-i-quad_capacity : goal.returns-else-i-quad_capacity
 returns-else-i-quad_capacity c =
