@@ -40,13 +40,6 @@ same_refl = record { words = refl; x = refl; y = refl; end = refl }
 pub same_trans : {a b c : Output} → Same a b → Same b c → Same a c
 same_trans r s = record { words = r.words ∙ s.words; x = r.x ∙ s.x; y = r.y ∙ s.y; end = r.end ∙ s.end }
 
--- what a call that writes the outputs keeps, one after the other
-pub same_kept : {A : Type 0} (o o₀ : Output)
-    → (length o.words ≡ length o₀.words)
-    × ((length o.x ≡ length o₀.x) × ((length o.y ≡ length o₀.y) × ((length o.end ≡ length o₀.end) × A)))
-    → Same o o₀
-same_kept o o₀ h = record { words = h.0; x = h.1.0; y = h.1.1.0; end = h.1.1.1.0 }
-
 -- ---- the steps of a spline
 pub record Stepping (rows : ℕ → QuadRow) (size : Float) (n at₀ cursor₀ : ℕ) (o₀ o : Output) (at cursor p left : ℕ) : Type 0 where
   pub count : p + left ≡ n + 1

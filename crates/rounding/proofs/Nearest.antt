@@ -14,7 +14,7 @@ use lib.Pow.{pow_pos}
 use lib.Ieee.{Float, inf, Format, prec, low, odd, units, round, fits, hid, ones, top, to_bits}
 use lib.Ieee.Fits.{two, two-le_pos, round_is, round-fits, kept-lt, nearest-le}
 use lib.Ieee.Exact.{HasValue, units_val}
-use lib.Ieee.Nearest.{closest, nearest-ge}
+use lib.Ieee.Nearest.{nearest-ge}
 use lib.Ieee.Order.{drop, kept}
 use lib.Ieee.Positive.{den}
 use lib.Ieee.Scale.{finite, overflow}

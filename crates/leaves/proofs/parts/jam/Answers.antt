@@ -2,7 +2,7 @@
 -- nothing.
 use mathlib.Core.Path.{◌≡◌, refl, sym, ap, ap₂, ◌∙◌}
 use mathlib.Core.Logic.{inl, inr}
-use Prim.Native.Nat.{ℕ, suc, ◌+◌, ◌-◌, ◌*◌, ◌/◌, ◌%◌, ◌^◌, ◌≤◌, ◌<◌}
+use Prim.Native.Nat.{ℕ, suc, ◌+◌, ◌*◌, ◌/◌, ◌%◌, ◌^◌, ◌≤◌, ◌<◌}
 use native.Mathlib.Nat.{zero-mul, one-mul, mul_assoc, mul_comm, mul_left_comm, add-mul, pow-suc, div-mul-le_self, div-one, mul-one, div-add-mod'}
 use native.Mathlib.Nat.{le-add_right, mod-lt, lt_of_lt_of_le, le_refl, le-add_left}
 use native.Mathlib.Omega.{arith}

@@ -1,5 +1,4 @@
 -- `leaves::power::sixth_power` meets its contract. The invariant: p holds s ^ i. The measure is 6 - i. Assumes nothing.
-use Prim.Native.Nat.{◌-◌}
 use Rattle.leaves.proofs.LimbLaws.{room}
 use Rattle.leaves.specs.Power.{number}
 use Rattle.leaves.proofs.power.sixth_power.Goals as goal

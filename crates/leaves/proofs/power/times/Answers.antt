@@ -1,5 +1,5 @@
 -- `leaves::power::times` meets its contract. Assumes nothing.
-use Rattle.leaves.proofs.LimbLaws.{fits, top_fits, fourth, times_is}
+use Rattle.leaves.proofs.LimbLaws.{top_fits, fourth, times_is}
 use Rattle.leaves.proofs.power.times.Goals as goal
 
 pub overflow_mul-d : goal.overflow_mul-d

@@ -1,6 +1,6 @@
 -- `leaves::sixth::settle` meets its contract. The invariant: the root lies from r up to r + 2 ^ i, which is at most 2 ^ 24. The measure is i. Assumes nothing.
 use mathlib.Core.Path.{◌≡◌}
-use Prim.Native.Nat.{ℕ, ◌+◌, ◌-◌, ◌*◌, ◌^◌, ◌≤◌, ◌<◌}
+use Prim.Native.Nat.{ℕ, ◌+◌, ◌*◌, ◌^◌, ◌≤◌, ◌<◌}
 use lib.ListN.{length}
 use Rattle.leaves.proofs.sixth.settle.Given as goal
 
