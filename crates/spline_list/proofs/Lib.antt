@@ -1,4 +1,3 @@
 pub mod Agreed
-pub mod Columns
 pub mod Laws
 pub mod RoundTrip

@@ -1,6 +1,6 @@
-// The spline table as a lent list of records, beside its columns. The toolchain's borrow checker does not cover functions over such a list, so each of these is
-// proved by hand. They leave what they decide and read to functions that it does cover.
+// The spline table as a lent list of records, beside its columns.
 #![tactic(auto)]
+
 ghost use Rattle.std.specs.Prelude.{◌≡◌, ltb, length, set};
 ghost use Rattle.tables.specs.Tables.{spline_table, spline_at};
 ghost use Rattle.spline_list.specs.Rows.{put_row_of, spline_at_of, agree_of, equal_of, count_of, outcome_of, fill_of, spread_of};
@@ -22,7 +22,7 @@ pub enum Copied {
     Unequal,
 }
 
-// Row i of the columns, as a record. The walk of `fill` wants one lifetime for all columns.
+// Row i of the columns, as a record.
 pub fn row_at<'c>(
     curvature: &'c [f32],
     p0x: &'c [f32],

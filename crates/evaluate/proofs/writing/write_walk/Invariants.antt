@@ -3,7 +3,7 @@ use native.Mathlib.Omega.{arith}
 use borrow.Author.Rules.{rules}
 use Rattle.tables.specs.Tables.{quad_table, spline_table, quad_row_at}
 use Rattle.evaluate.specs.Output.{output}
-use Rattle.evaluate.proofs.Passes.{Walking, walking_start, walking_more, walking_end, same_kept}
+use Rattle.evaluate.proofs.Passes.{Walking, walking_start, walking_more, walking_end}
 use Rattle.evaluate.proofs.writing.write_walk.Given as goal
 
 abbrev pub invariant-loop-left : goal.invariant-loop-left
