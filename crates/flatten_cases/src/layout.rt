@@ -4,6 +4,9 @@
 //   12 first_quad   13 quad_count   14 words   15, 16 out_x, out_y   17 out_end
 ghost use Rattle.std.specs.Prelude.{◌≤◌};
 
+use std::io;
+use std::io::Read;
+
 // 4 columns of 256 numbers, one of 1,934, 9 of 128 and 4 of 1,024.
 pub const ALL: usize = 8206;
 
@@ -80,26 +83,34 @@ pub fn entry(seen: &[u32; ALL], column: u32, i: usize) -> u32 {
     replay::number_at(seen, first(column), i)
 }
 
-fn row_follows(seen: &[u32; ALL], from: u32, to: u32, i: u32) -> bool {
+fn row_follows(
+    list: &mut impl Read,
+    seen: &[u32; ALL],
+    from: u32,
+    to: u32,
+    i: u32,
+) -> io::Result<bool> {
     let mut good = true;
-    let mut column = from;
-    while column < to {
+    for column in from..to {
         let at = first(column) + extent(column, i as usize);
-        let same = replay::follow(seen, at, extent(column, 1));
+        let same = replay::follow(list, seen, at, extent(column, 1))?;
         good = good & same;
-        column += 1;
     }
-    good
+    Ok(good)
 }
 
 // Whether the next n rows of the list are those of the columns from `from` to `to`.
-pub fn rows_follow(seen: &[u32; ALL], from: u32, to: u32, n: u32) -> bool {
+pub fn rows_follow(
+    list: &mut impl Read,
+    seen: &[u32; ALL],
+    from: u32,
+    to: u32,
+    n: u32,
+) -> io::Result<bool> {
     let mut good = true;
-    let mut i = 0u32;
-    while i < n {
-        let same = row_follows(seen, from, to, i);
+    for i in 0..n {
+        let same = row_follows(list, seen, from, to, i)?;
         good = good & same;
-        i += 1;
     }
-    good
+    Ok(good)
 }

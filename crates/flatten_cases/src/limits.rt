@@ -51,10 +51,8 @@ fn rounds(
     let fresh = store::fresh(x, y, weight, commands);
     let start = Call::Move(corner(0.0, -1.0));
     let mut st = drawn(x, y, weight, commands, fresh.state, start);
-    let mut left = n;
-    while left > 0 {
+    for left in (1..=n).rev() {
         st = drawn(x, y, weight, commands, st, quarter(left));
-        left -= 1;
     }
     st
 }

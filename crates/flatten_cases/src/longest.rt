@@ -29,14 +29,12 @@ fn row(
 {
     let fresh = store::fresh(x, y, weight, commands);
     let mut st = fresh.state;
-    let mut k: u32 = 0;
-    while k < n {
+    for k in 0..n {
         let a = k as f32;
         let middle = Point::new(a + 0.5, 0.0);
         let end = Point::new(a + 1.0, 0.0);
         let drawn = store::quad_to(x, y, weight, commands, st, middle, end);
         st = drawn.state;
-        k += 1;
     }
     let built = store::build(x, y, weight, commands, st);
     built.state

@@ -3,6 +3,7 @@
 // come drawings past a limit. It writes the number of each drawing that differs, and how many hold. tests/rust/answers/README.md says how the list is laid out
 // and made.
 #![tactic(auto)]
+
 mod calls;
 mod flattening;
 mod layout;
@@ -12,10 +13,11 @@ mod refusing;
 
 use flattening::NONE;
 use layout::{ALL, rows_follow};
-use libc::STDOUT_FILENO;
 use point::Setting;
 use refusing::{each_column, each_enough};
 use replay::Tally;
+use std::io;
+use std::io::Read;
 use store::StoreState;
 
 // As many drawings from the first on, all small, are flattened with full columns too.
@@ -49,16 +51,16 @@ struct Total {
     enough: Tally,
 }
 
-fn counts() -> Expected {
-    let setting = replay::number();
-    let calls = replay::number();
-    let points = replay::number();
-    let commands = replay::number();
-    let opening = replay::number();
-    let quads = replay::number();
-    let splines = replay::number();
-    let words = replay::number();
-    Expected {
+fn counts(list: &mut impl Read) -> io::Result<Expected> {
+    let setting = replay::number(list)?;
+    let calls = replay::number(list)?;
+    let points = replay::number(list)?;
+    let commands = replay::number(list)?;
+    let opening = replay::number(list)?;
+    let quads = replay::number(list)?;
+    let splines = replay::number(list)?;
+    let words = replay::number(list)?;
+    Ok(Expected {
         setting,
         calls,
         points,
@@ -67,7 +69,7 @@ fn counts() -> Expected {
         quads,
         splines,
         words,
-    }
+    })
 }
 
 fn setting_of(number: u32) -> Setting {
@@ -93,30 +95,31 @@ fn is_stored(st: StoreState, due: Expected) -> bool {
 }
 
 // The rows of the store, of both tables and of the outputs.
-fn all_follow(seen: &[u32; ALL], due: Expected) -> bool {
-    let points = rows_follow(seen, 0, 3, due.points);
-    let commands = rows_follow(seen, 3, 4, due.commands);
-    let quads = rows_follow(seen, layout::QUADS, layout::SPLINES, due.quads);
-    let splines = rows_follow(seen, layout::SPLINES, layout::OUTPUTS, due.splines);
-    let outputs = rows_follow(seen, layout::OUTPUTS, layout::END, due.words);
-    points & commands & quads & splines & outputs
+fn all_follow(list: &mut impl Read, seen: &[u32; ALL], due: Expected) -> io::Result<bool> {
+    let points = rows_follow(list, seen, 0, 3, due.points)?;
+    let commands = rows_follow(list, seen, 3, 4, due.commands)?;
+    let quads = rows_follow(list, seen, layout::QUADS, layout::SPLINES, due.quads)?;
+    let splines = rows_follow(list, seen, layout::SPLINES, layout::OUTPUTS, due.splines)?;
+    let outputs = rows_follow(list, seen, layout::OUTPUTS, layout::END, due.words)?;
+    Ok(points & commands & quads & splines & outputs)
 }
 
 // The store as it was drawn, and the flattening.
 fn holds(
+    list: &mut impl Read,
     x: &[f32; 256],
     y: &[f32; 256],
     weight: &[f32; 256],
     commands: &[u8; 256],
     st: StoreState,
     due: Expected,
-) -> bool {
+) -> io::Result<bool> {
     let mut seen = [0u32; ALL];
     flattening::put_store(&mut seen, x, y, weight, commands);
     let setting = setting_of(due.setting);
     let r = flattening::flattened(x, y, weight, commands, st, setting, NONE, 0, &mut seen);
-    let followed = all_follow(&seen, due);
-    is_stored(st, due) & is_expected(r, due) & followed
+    let followed = all_follow(list, &seen, due)?;
+    Ok(is_stored(st, due) & is_expected(r, due) & followed)
 }
 
 // A drawing of the screen setting, which is listed in the other setting only where that differs.
@@ -154,86 +157,66 @@ fn enough(
 }
 
 // One drawing of the list.
-fn case(k: u32) -> Replayed {
-    let due = counts();
+fn case(list: &mut impl Read, k: u32) -> io::Result<Replayed> {
+    let due = counts(list)?;
     let mut x = [0.0f32; 256];
     let mut y = [0.0f32; 256];
     let mut weight = [0.0f32; 256];
     let mut commands = [0u8; 256];
-    let drawn = calls::draw(&mut x, &mut y, &mut weight, &mut commands, due.calls);
+    let drawn = calls::draw(list, &mut x, &mut y, &mut weight, &mut commands, due.calls)?;
     let st = drawn.state;
     let answer = drawn.answer;
     let done = answer::is_done(answer);
-    let held = holds(&x, &y, &weight, &commands, st, due);
+    let held = holds(list, &x, &y, &weight, &commands, st, due)?;
     let mut runs = replay::none();
     let mut others = replay::none();
     if k < FULL {
         runs = full(&x, &y, &weight, &commands, st, due);
         others = enough(&x, &y, &weight, &commands, st, due);
     }
-    Replayed {
+    Ok(Replayed {
         same: done & held,
         full: runs,
         enough: others,
-    }
+    })
 }
 
 // Names a drawing that differs.
-fn name_if_other(k: u32, c: Replayed) {
+fn name_if_other(rt: &impl Print, k: u32, c: Replayed) -> io::Result<()> {
     if c.same & (c.full.right == c.full.all) & (c.enough.right == c.enough.all) {
-        return;
+        return Ok(());
     }
-    io::write_all(STDOUT_FILENO, b"drawing ");
-    io::print_decimal(STDOUT_FILENO, k as u64);
-    io::write_all(STDOUT_FILENO, b" differs\n");
+    println!(rt; "drawing {k} differs")
 }
 
-fn cases(n: u32) -> Total {
+fn cases(rt: &impl Print, list: &mut impl Read, n: u32) -> io::Result<Total> {
     let mut same = replay::none();
     let mut full = replay::none();
     let mut enough = replay::none();
-    let mut k = 0u32;
-    while k < n {
-        let c = case(k);
+    for k in 0..n {
+        let c = case(list, k)?;
         let runs = c.full;
         let others = c.enough;
         same = replay::counted(same, c.same);
         full = replay::both(full, runs);
         enough = replay::both(enough, others);
-        name_if_other(k, c);
-        k += 1;
+        name_if_other(rt, k, c)?;
     }
-    Total { same, full, enough }
+    Ok(Total { same, full, enough })
 }
 
-fn main() {
-    let r = cases(replay::number());
-    let same = r.same;
-    replay::print_of(same);
-    io::write_all(
-        STDOUT_FILENO,
-        b" drawings are as the original Rust flattens them\n",
-    );
-    let full = r.full;
-    replay::print_of(full);
-    io::write_all(
-        STDOUT_FILENO,
-        b" runs with a full column are refused and keep what was pushed\n",
-    );
-    let enough = r.enough;
-    replay::print_of(enough);
-    io::write_all(
-        STDOUT_FILENO,
-        b" runs with a column just long enough are as with more room\n",
-    );
-    replay::print_of(limits::each_setting());
-    io::write_all(
-        STDOUT_FILENO,
-        b" runs past a limit are refused and keep what was pushed\n",
-    );
-    replay::print_of(longest::rows());
-    io::write_all(
-        STDOUT_FILENO,
-        b" rows of quads are flattened up to a sum of 65,536 and refused beyond\n",
-    );
+fn main(rt: HostRuntime) -> io::Result<()> {
+    let mut list = rt.stdin();
+    let n = replay::number(&mut list)?;
+    let r = cases(&rt, &mut list, n)?;
+    replay::print_of(&rt, r.same)?;
+    println!(rt; " drawings are as the original Rust flattens them")?;
+    replay::print_of(&rt, r.full)?;
+    println!(rt; " runs with a full column are refused and keep what was pushed")?;
+    replay::print_of(&rt, r.enough)?;
+    println!(rt; " runs with a column just long enough are as with more room")?;
+    replay::print_of(&rt, limits::each_setting())?;
+    println!(rt; " runs past a limit are refused and keep what was pushed")?;
+    replay::print_of(&rt, longest::rows())?;
+    println!(rt; " rows of quads are flattened up to a sum of 65,536 and refused beyond")
 }

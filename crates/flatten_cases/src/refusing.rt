@@ -26,11 +26,9 @@ fn kept(got: &[u32; ALL], whole: &[u32; ALL], column: u32, same: usize, n: usize
 // The same of all columns from `from` to `to`, n rows of each.
 pub fn all_kept(got: &[u32; ALL], whole: &[u32; ALL], from: u32, to: u32, n: usize) -> bool {
     let mut good = true;
-    let mut column = from;
-    while column < to {
+    for column in from..to {
         let held = kept(got, whole, column, n, n);
         good = good & held;
-        column += 1;
     }
     good
 }
@@ -179,9 +177,8 @@ fn at_each_place(
     short: u32,
 ) -> Tally {
     let mut tally = replay::none();
-    let mut place = if of_quads(short) { quads } else { splines };
-    while place > 0 {
-        place -= 1;
+    let rows = if of_quads(short) { quads } else { splines };
+    for place in (0..rows).rev() {
         let right = refuses(
             x, y, weight, commands, st, setting, whole, quads, splines, short, place,
         );
@@ -204,13 +201,11 @@ pub fn each_column(
     let quads = r.quads;
     let splines = r.splines;
     let mut tally = replay::none();
-    let mut short = QUADS;
-    while short < NONE {
+    for short in QUADS..NONE {
         let column = at_each_place(
             x, y, weight, commands, st, setting, &whole, quads, splines, short,
         );
         tally = replay::both(tally, column);
-        short += 1;
     }
     tally
 }
@@ -233,15 +228,13 @@ pub fn each_enough(
     let mut got = [0u32; ALL];
     let r = flattened(x, y, weight, commands, st, setting, NONE, 0, &mut whole);
     let mut tally = replay::none();
-    let mut short = QUADS;
-    while short < NONE {
+    for short in QUADS..NONE {
         let place = needed(r, short);
         let e = flattened(x, y, weight, commands, st, setting, short, place, &mut got);
         let answer = e.answer;
         let done = answer::is_done(answer);
         let same = same_results(&got, &whole);
         tally = replay::counted(tally, done & same);
-        short += 1;
     }
     tally
 }

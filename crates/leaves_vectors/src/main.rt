@@ -1,8 +1,10 @@
 // Runs the hard vectors of the float leaves, from standard input, and writes how many of each leaf
 // hold. A line is the leaf's letter, three patterns and the pattern expected, in eight hex digits.
 #![tactic(auto)]
-use libc::STDOUT_FILENO;
+
 use replay::Tally;
+use std::io;
+use std::io::Read;
 
 fn of_three(leaf: u8, a: f32, b: f32, c: f32) -> u32 {
     match leaf {
@@ -40,54 +42,46 @@ fn given(leaf: u8, a: f32, b: f32, c: f32) -> u32 {
 }
 
 // The first vector of a leaf that does not hold, by its number from 1.
-fn write_first(number: u64, given: u32, due: u32) {
-    io::write_all(STDOUT_FILENO, b"vector ");
-    io::print_decimal(STDOUT_FILENO, number);
-    io::write_all(STDOUT_FILENO, b" gives ");
-    io::print_hex(STDOUT_FILENO, given as u64, 8);
-    io::write_all(STDOUT_FILENO, b" where the list has ");
-    io::print_hex(STDOUT_FILENO, due as u64, 8);
-    io::write_all(STDOUT_FILENO, b"\n");
+fn write_first(rt: &impl Print, number: u64, given: u32, due: u32) -> io::Result<()> {
+    println!(rt; "vector {number} gives {given:08x} where the list has {due:08x}")
 }
 
 // The next `count` lines, each of which is to be of this leaf.
-fn holding(leaf: u8, count: u64) -> Tally {
+fn holding(rt: &impl Print, list: &mut impl Read, leaf: u8, count: u64) -> io::Result<Tally> {
     let mut tally = replay::none();
-    let mut i = 0u64;
-    while i < count {
-        let letter = replay::letter();
-        let a = replay::float();
-        let b = replay::float();
-        let c = replay::float();
-        let due = replay::number();
+    for i in 0..count {
+        let letter = replay::letter(list)?;
+        let a = replay::float(list)?;
+        let b = replay::float(list)?;
+        let c = replay::float(list)?;
+        let due = replay::number(list)?;
         let r = given(leaf, a, b, c);
         let holds = (letter == leaf) & (r == due);
-        i += 1;
         if !holds & (tally.right == tally.all) {
-            write_first(i, r, due);
+            write_first(rt, i + 1, r, due)?;
         }
         tally = replay::counted(tally, holds);
     }
-    tally
+    Ok(tally)
 }
 
-fn run(name: &[u8], leaf: u8, count: u64) {
-    let tally = holding(leaf, count);
-    io::write_all(STDOUT_FILENO, name);
-    io::write_all(STDOUT_FILENO, b" ");
-    replay::print_of(tally);
-    io::write_all(STDOUT_FILENO, b"\n");
+fn run(rt: &impl Print, list: &mut impl Read, name: &str, leaf: u8, count: u64) -> io::Result<()> {
+    let tally = holding(rt, list, leaf, count)?;
+    print!(rt; "{name} ")?;
+    replay::print_of(rt, tally)?;
+    println!(rt)
 }
 
-fn main() {
-    run(b"fma", b'f', 3859);
-    run(b"sqrt", b's', 2461);
-    run(b"sixth_root", b'x', 2361);
-    run(b"abs", b'a', 21);
-    run(b"min", b'm', 441);
-    run(b"max", b'n', 441);
-    run(b"clamp", b'c', 756);
-    run(b"ceil", b'u', 882);
-    run(b"whole_up", b'w', 444);
-    run(b"pieces", b'p', 404);
+fn main(rt: HostRuntime) -> io::Result<()> {
+    let mut list = rt.stdin();
+    run(&rt, &mut list, "fma", b'f', 3859)?;
+    run(&rt, &mut list, "sqrt", b's', 2461)?;
+    run(&rt, &mut list, "sixth_root", b'x', 2361)?;
+    run(&rt, &mut list, "abs", b'a', 21)?;
+    run(&rt, &mut list, "min", b'm', 441)?;
+    run(&rt, &mut list, "max", b'n', 441)?;
+    run(&rt, &mut list, "clamp", b'c', 756)?;
+    run(&rt, &mut list, "ceil", b'u', 882)?;
+    run(&rt, &mut list, "whole_up", b'w', 444)?;
+    run(&rt, &mut list, "pieces", b'p', 404)
 }

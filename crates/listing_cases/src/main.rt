@@ -1,64 +1,63 @@
 // Runs each listing of standard input through the library's entry, and writes what it writes. Before each listing come its number of bytes, in
 // six decimal digits, and a line end, or an `s` if only 20 bytes are to be lent for the output.
 #![tactic(auto)]
+
 ghost use Rattle.std.specs.Prelude.{◌≤◌};
 
-use libc::{STDIN_FILENO, STDOUT_FILENO};
 use listing::Listed;
+use std::io;
+use std::io::Read;
 
 // The number in the six digits, but no more than most.
 fn number(head: &[u8; 7], most: usize) -> usize
     ensures { result ≤ most }
 {
     let mut n: usize = 0;
-    let mut i: usize = 0;
-    while i < 6 {
-        let digit = head[i] % 16;
+    for byte in &head[..6] {
+        let digit = *byte % 16;
         n = (n % 100_000) * 10 + digit as usize;
-        i += 1;
     }
     if n < most { n } else { most }
 }
 
-fn run(input: &[u8], output: &mut [u8]) {
+fn run(rt: &impl Print, input: &[u8], output: &mut [u8]) -> io::Result<()> {
     match listing::listing(input, output) {
         Listed::Bytes(m) => {
             if m <= output.len() {
-                io::write_all(STDOUT_FILENO, &output[..m]);
+                rt.write_all(&output[..m])?;
             }
+            Ok(())
         }
-        Listed::Short => {
-            io::write_all(STDOUT_FILENO, b"short\n");
-        }
+        Listed::Short => println!(rt; "short"),
     }
 }
 
 // The next listing; false at the end of the input.
-fn next() -> bool {
+fn next(rt: &impl Print, list: &mut impl Read) -> io::Result<bool> {
     let mut head = [0u8; 7];
     let mut input = [0u8; 16385];
     let mut output = [0u8; 14418];
-    if io::read_full(STDIN_FILENO, &mut head) < 7 {
-        return false;
+    if input::read_full(list, &mut head)? < 7 {
+        return Ok(false);
     }
     let n = number(&head, 16385);
-    if io::read_full(STDIN_FILENO, &mut input[..n]) < n {
-        return false;
+    if input::read_full(list, &mut input[..n])? < n {
+        return Ok(false);
     }
     if head[6] == b's' {
-        run(&input[..n], &mut output[..20]);
+        run(rt, &input[..n], &mut output[..20])?;
     } else {
-        run(&input[..n], &mut output);
+        run(rt, &input[..n], &mut output)?;
     }
-    true
+    Ok(true)
 }
 
-fn main() {
-    let mut i: usize = 0;
-    while i < 1000 {
-        if !next() {
-            return;
+fn main(rt: HostRuntime) -> io::Result<()> {
+    let mut list = rt.stdin();
+    for _ in 0..1000 {
+        if !next(&rt, &mut list)? {
+            break;
         }
-        i += 1;
     }
+    Ok(())
 }

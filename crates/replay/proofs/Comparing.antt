@@ -3,12 +3,6 @@ use Prim.{⊥}
 use Rattle.std.proofs.Common.{◌≡◌, ℕ, suc, ◌+◌, ◌-◌, ◌<◌, ◌≤◌, Bool, true, false, ◌&&◌, eqb, List, get_or, sym, refl, ap, ◌∙◌, arith, eq-eqb, ne_eqb}
 use Rattle.replay.specs.Numbers.{same_from, all_from}
 
-pub start : (test : ℕ → ℕ → Bool) (n at : ℕ) → test n at ≡ test (n - 0) (at + 0)
-start test n at =
-    let p : n ≡ n - 0 = omega arith in
-    let q : at ≡ at + 0 = omega arith in
-    ap (λ (m : ℕ). test m at) p ∙ ap (λ (m : ℕ). test (n - 0) m) q
-
 -- a test that goes through n places, of which i are passed
 module _ (test : ℕ → ℕ → Bool) (here : ℕ → Bool) (ends : (at : ℕ) → test 0 at ≡ true) (next : (n at : ℕ) → test (suc n) at ≡ here at && test n (suc at))
     (n at i : ℕ) (whole : test n at ≡ test (n - i) (at + i)) where

@@ -18,12 +18,6 @@ module _ {A : Type 0} (number : A → ℕ) where
   unfolding laid
   laid_none at column numbers = refl
 
-  pub lay_start : (n at : ℕ) (column : List A) (numbers : List ℕ) → laid number n at column numbers ≡ laid number (n - 0) (at + 0) (drop 0 column) numbers
-  lay_start n at column numbers =
-      let p : n ≡ n - 0 = omega arith in
-      let q : at ≡ at + 0 = omega arith in
-      ap (λ (m : ℕ). laid number m at column numbers) p ∙ ap (λ (m : ℕ). laid number (n - 0) m column numbers) q
-
   -- of n entries i are laid: the numbers now, and what is left
   abbrev pub Left : ℕ → ℕ → List A → List ℕ → List ℕ → ℕ → Type 0
   Left n at column numbers₀ numbers i = laid number n at column numbers₀ ≡ laid number (n - i) (at + i) (drop i column) numbers

@@ -3,8 +3,7 @@ ghost use Rattle.std.specs.Prelude.{◌≡◌};
 ghost use Rattle.replay.specs.Tallies.{tally, counted_of, both_of};
 
 use crate::Tally;
-use libc::STDOUT_FILENO;
-use std::num::wrapping_add_u64;
+use std::io;
 
 pub fn none() -> Tally
     ensures { result ≡ tally 0 0 }
@@ -16,9 +15,9 @@ pub fn none() -> Tally
 pub fn counted(t: Tally, right: bool) -> Tally
     ensures { result ≡ counted_of t right }
 {
-    let all = wrapping_add_u64(t.all, 1);
+    let all = t.all.wrapping_add(1);
     if right {
-        let more = wrapping_add_u64(t.right, 1);
+        let more = t.right.wrapping_add(1);
         return Tally { all, right: more };
     }
     Tally {
@@ -30,14 +29,12 @@ pub fn counted(t: Tally, right: bool) -> Tally
 pub fn both(a: Tally, b: Tally) -> Tally
     ensures { result ≡ both_of a b }
 {
-    let all = wrapping_add_u64(a.all, b.all);
-    let right = wrapping_add_u64(a.right, b.right);
+    let all = a.all.wrapping_add(b.all);
+    let right = a.right.wrapping_add(b.right);
     Tally { all, right }
 }
 
 // As in `3 of 4`.
-pub fn print_of(t: Tally) {
-    io::print_decimal(STDOUT_FILENO, t.right);
-    io::write_all(STDOUT_FILENO, b" of ");
-    io::print_decimal(STDOUT_FILENO, t.all);
+pub fn print_of(rt: &impl Print, t: Tally) -> io::Result<()> {
+    print!(rt; "{} of {}", t.right, t.all)
 }

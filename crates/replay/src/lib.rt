@@ -1,4 +1,4 @@
-// What the gate's programs share that replay stored lists: numbers read from standard input, columns laid out as numbers and compared, and counting. No crate
+// What the gate's programs share that replay stored lists: numbers read from a list, columns laid out as numbers and compared, and counting. No crate
 // of the product uses it.
 #![tactic(auto)]
 

@@ -34,26 +34,22 @@ fn put_number(numbers: &mut [u32], at: usize, i: usize, v: u32)
 pub fn put_floats(numbers: &mut [u32], at: usize, column: &[f32], n: usize)
     ensures { numbers.new ≡ laid bits_of n at column.now numbers.old }
 {
-    let mut i = 0usize;
-    while i < n {
+    for i in 0..n {
         if column.len() <= i {
             return;
         }
         put_number(numbers, at, i, leaves::bits(read_f32(column, i)));
-        i += 1;
     }
 }
 
 pub fn put_words(numbers: &mut [u32], at: usize, column: &[u32], n: usize)
     ensures { numbers.new ≡ laid itself n at column.now numbers.old }
 {
-    let mut i = 0usize;
-    while i < n {
+    for i in 0..n {
         if column.len() <= i {
             return;
         }
         put_number(numbers, at, i, read_u32(column, i));
-        i += 1;
     }
 }
 
@@ -70,26 +66,22 @@ fn capped(n: usize) -> u32
 pub fn put_sizes(numbers: &mut [u32], at: usize, column: &[usize], n: usize)
     ensures { numbers.new ≡ laid capped_of n at column.now numbers.old }
 {
-    let mut i = 0usize;
-    while i < n {
+    for i in 0..n {
         if column.len() <= i {
             return;
         }
         put_number(numbers, at, i, capped(read_usize(column, i)));
-        i += 1;
     }
 }
 
 pub fn put_bytes(numbers: &mut [u32], at: usize, column: &[u8], n: usize)
     ensures { numbers.new ≡ laid itself n at column.now numbers.old }
 {
-    let mut i = 0usize;
-    while i < n {
+    for i in 0..n {
         if column.len() <= i {
             return;
         }
         put_number(numbers, at, i, read_u8(column, i) as u32);
-        i += 1;
     }
 }
 
@@ -97,14 +89,12 @@ pub fn put_bytes(numbers: &mut [u32], at: usize, column: &[u8], n: usize)
 pub fn same(a: &[u32], b: &[u32], at: usize, n: usize) -> bool
     ensures { result ≡ same_from n at a.now b.now }
 {
-    let mut i = 0usize;
-    while i < n {
+    for i in 0..n {
         let left = number_at(a, at, i);
         let right = number_at(b, at, i);
         if left != right {
             return false;
         }
-        i += 1;
     }
     true
 }
@@ -113,13 +103,11 @@ pub fn same(a: &[u32], b: &[u32], at: usize, n: usize) -> bool
 pub fn all_are(a: &[u32], at: usize, n: usize, v: u32) -> bool
     ensures { result ≡ all_from n at v a.now }
 {
-    let mut i = 0usize;
-    while i < n {
+    for i in 0..n {
         let found = number_at(a, at, i);
         if found != v {
             return false;
         }
-        i += 1;
     }
     true
 }

@@ -1,39 +1,58 @@
-// Numbers from standard input. A number is eight lowercase hex digits and one byte after them, so each takes nine bytes, and no line
-// end has to be looked for. The kit's `io` says nothing of what is read, so neither can a contract here: tests/replay tries these functions.
+// Numbers from a list. A number is eight lowercase hex digits and one byte after them, so each takes nine bytes, and no line end has to be looked for. What a
+// contract says holds of a reader whose bytes are known, as one over a slice; of standard input nothing is known, and tests/replay tries these functions.
+ghost use Rattle.std.specs.Prelude.{◌≡◌, ◌*◌, IfOk, OnOk, IfSome, Some, drop, slice_index};
+ghost use Rattle.leaves.specs.Bits.{float_of};
+ghost use Rattle.replay.specs.Reading.{number_in, followed_by};
+
 use crate::numbers::number_at;
-use libc::STDIN_FILENO;
+use std::io;
+use std::io::Read;
 use text::HexAt;
 
-// The next number; 0 if the bytes are no number, or at the end of the input.
-pub fn number() -> u32 {
+// The next number; 0 if the bytes are no number, or at the end of the list.
+pub fn number<R: Read>(list: &mut R) -> io::Result<u32>
+    ensures value { IfOk result (λ n. IfSome (R.remaining list.old) (λ bytes. n ≡ number_in bytes)) }
+    ensures rest { OnOk result (IfSome (R.remaining list.old) (λ bytes. R.remaining list.new ≡ Some (drop 9 bytes))) }
+{
     let mut digits = [0u8; 9];
-    io::read_full(STDIN_FILENO, &mut digits);
-    let HexAt::Number(n) = text::hex_at(&digits, 0) else {
-        return 0;
-    };
-    n
+    let n = input::read_full(list, &mut digits)?;
+    match text::hex_at(&digits[..n], 0) {
+        HexAt::Number(value) => Ok(value),
+        HexAt::Wrong => Ok(0),
+    }
 }
 
 // A float is its bits.
-pub fn float() -> f32 {
-    leaves::from_bits(number())
+pub fn float<R: Read>(list: &mut R) -> io::Result<f32>
+    ensures value { IfOk result (λ x. IfSome (R.remaining list.old) (λ bytes. x ≡ float_of (number_in bytes))) }
+    ensures rest { OnOk result (IfSome (R.remaining list.old) (λ bytes. R.remaining list.new ≡ Some (drop 9 bytes))) }
+{
+    let bits = number(list)?;
+    Ok(leaves::from_bits(bits))
 }
 
 // The letter that a line begins with, and the byte after it; 0 at the end.
-pub fn letter() -> u8 {
+pub fn letter<R: Read>(list: &mut R) -> io::Result<u8>
+    ensures value { IfOk result (λ b. IfSome (R.remaining list.old) (λ bytes. b ≡ slice_index bytes 0)) }
+    ensures rest { OnOk result (IfSome (R.remaining list.old) (λ bytes. R.remaining list.new ≡ Some (drop 2 bytes))) }
+{
     let mut start = [0u8; 2];
-    io::read_full(STDIN_FILENO, &mut start);
-    start[0]
+    let n = input::read_full(list, &mut start)?;
+    if n == 0 {
+        return Ok(0);
+    }
+    Ok(start[0])
 }
 
 // Whether the next n numbers are those from a place on. All of them are read, even after a difference.
-pub fn follow(numbers: &[u32], at: usize, n: usize) -> bool {
+pub fn follow<R: Read>(list: &mut R, numbers: &[u32], at: usize, n: usize) -> io::Result<bool>
+    ensures value { IfOk result (λ b. IfSome (R.remaining list.old) (λ bytes. b ≡ followed_by n at numbers.now bytes)) }
+    ensures rest { OnOk result (IfSome (R.remaining list.old) (λ bytes. R.remaining list.new ≡ Some (drop (9 * n) bytes))) }
+{
     let mut good = true;
-    let mut i = 0usize;
-    while i < n {
-        let expected = number();
+    for i in 0..n {
+        let expected = number(list)?;
         good = good & (number_at(numbers, at, i) == expected);
-        i += 1;
     }
-    good
+    Ok(good)
 }
