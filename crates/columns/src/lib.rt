@@ -1,5 +1,6 @@
 // Reads and writes of a lent column that are total: past the end a read gives NaN or 0, and a write does nothing.
 #![tactic(auto)]
+
 ghost use Rattle.std.specs.Prelude.{◌≡◌, get_or, set};
 ghost use Rattle.std.specs.Float.{nan};
 ghost use Rattle.columns.specs.Flags.{flag_byte_of, is_flag_of};

@@ -1,5 +1,6 @@
 // The points of the walk, and the pass that writes words and points.
 #![tactic(auto)]
+
 mod step;
 mod writing;
 

@@ -1,5 +1,6 @@
 // The public flattening, in both settings.
 #![tactic(auto)]
+
 ghost use Rattle.std.specs.Prelude.{◌≡◌};
 ghost use Rattle.store.specs.Columns.{columns};
 ghost use Rattle.tables.specs.Tables.{quad_table, spline_table};

@@ -1,5 +1,6 @@
 // Points, angles and curvature: point.rs, and the top of path.rs.
 #![tactic(auto)]
+
 mod curve;
 mod direction;
 

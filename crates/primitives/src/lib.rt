@@ -1,5 +1,6 @@
 // The plan: what one primitive does to the tables, worked out on values alone. `Primitives` of path.rs.
 #![tactic(auto)]
+
 mod cubics;
 mod planning;
 mod quads;

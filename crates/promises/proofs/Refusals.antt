@@ -135,6 +135,7 @@ record Entry (bad : Float → Type 0) (n : ℕ) (l : List Float) : Type 0 where
   fault : bad (get_or l at nan)
 
 index_of : (l : List Float) (v : Float) → Memᴰ v l → (i : ℕ) × (i < length l) × (get_or l i nan ≡ v)
+index_of [] v m = elim m [ ]
 index_of (x ∷ l) v m = elim (Memᴰ.cases_cons m) [ inl e ↦ (0, zero-lt-suc (length l), sym e) | inr k ↦ step (index_of l v k) ]
   where
     step : (i : ℕ) × (i < length l) × (get_or l i nan ≡ v) → (i : ℕ) × (i < length (x ∷ l)) × (get_or (x ∷ l) i nan ≡ v)

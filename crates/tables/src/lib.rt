@@ -1,5 +1,6 @@
 // The quad table and the spline table on lent columns, and the run over a drawing's primitives.
 #![tactic(auto)]
+
 mod capacity;
 mod commands;
 mod rows;

@@ -1,6 +1,7 @@
 // The walk over the splines: where a Start is written, how many steps there are, where the quad cursor goes, and how long the whole is: what
 // `populate_buffers` of path.rs does.
 #![tactic(auto)]
+
 ghost use Rattle.std.specs.Prelude.{◌≡◌};
 ghost use Rattle.tables.specs.Tables.{spline_table, sum_at_of};
 ghost use Rattle.walk.specs.Walk.{starts_after_of, cursor_start_of, cursor_at_of};

@@ -31,12 +31,12 @@ third = refl
 steep : (c : Joined-y_abs-x_abs) →
     let r = c.fma-r.result in
     c.if-y_abs-x_abs.r ≡ cond (lt c.abs-x_abs.result c.abs-y_abs.result) (half_pi ⊖ r) r
-steep c = elim c.if-y_abs-x_abs.branch [ | then-y_abs-x_abs w ↦ rw w.if-y_abs-x_abs.true w.r-is | else-y_abs-x_abs w ↦ rw w.if-y_abs-x_abs.false w.r-is ]
+steep c = elim c.if-y_abs-x_abs.branch [ then-y_abs-x_abs w ↦ rw w.if-y_abs-x_abs.true w.r-is | else-y_abs-x_abs w ↦ rw w.if-y_abs-x_abs.false w.r-is ]
 
 behind : (c : Joined-x) →
     let r = c.if-y_abs-x_abs.r in
     c.if-x.r ≡ cond (lt c.args.x zero32) (pi ⊖ r) r
-behind c = elim c.if-x.branch [ | then-x w ↦ rw w.if-x.true w.r-is | else-x w ↦ rw w.if-x.false w.r-is ]
+behind c = elim c.if-x.branch [ then-x w ↦ rw w.if-x.true w.r-is | else-x w ↦ rw w.if-x.false w.r-is ]
 
 -- all but the last test
 turned : (c : Joined-x) →

@@ -17,7 +17,7 @@ Joined-diff = lts.Joined1 tie.the-claims reads.Pre reads.Post
 
 -- where the arms of the first test meet
 folded : (c : Joined-diff) → let turn = c.abs-diff.result in c.if-diff.diff ≡ cond (lt pi turn) (turn ⊖ pi) turn
-folded c = elim c.if-diff.branch [ | then-diff w ↦ rw w.if-diff.true w.diff-is | else-diff w ↦ rw w.if-diff.false w.diff-is ]
+folded c = elim c.if-diff.branch [ then-diff w ↦ rw w.if-diff.true w.diff-is | else-diff w ↦ rw w.if-diff.false w.diff-is ]
 
 pub returns-then-diff-2 : goal.returns-then-diff-2
 unfolding diff_of

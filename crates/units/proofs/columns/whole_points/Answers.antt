@@ -24,7 +24,7 @@ Joined-y-n = lts.Joined1 tie.the-claims reads.Pre reads.Post tie.handed_clauses
 
 -- ---- what is known at each place: how many points there are, and that a column is printable
 count : (c : Joined-y-n) → c.if-y-n.n ≡ min (length c.args.x.now) (length c.args.y.now)
-count c = shorter _ _ _ (elim c.if-y-n.branch [ | then-y-n w ↦ inl (w.if-y-n.true, w.n-is) | else-y-n w ↦ inr (w.if-y-n.false, w.n-is) ])
+count c = shorter _ _ _ (elim c.if-y-n.branch [ then-y-n w ↦ inl (w.if-y-n.true, w.n-is) | else-y-n w ↦ inr (w.if-y-n.false, w.n-is) ])
 
 x_printable : (c : Else-not-all_printable) → true ≡ all_printable (take c.if-y-n.n c.args.x.now)
 x_printable c = sym c.if-not-all_printable.false ∙ c.all_printable.ensures
