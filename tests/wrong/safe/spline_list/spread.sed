@@ -1,3 +1,2 @@
-s/ → r ≡ outcomeOf agreed → ent/ → ent/
-s/exits rooms i e r w er =/exits rooms i e r w =/
-s/(nltb→le i m over)) r w e)/(nltb→le i m over)) r w)/
+# Only how far the loop has come is kept.
+/^  put :/,/^      (spline_table/d

@@ -1,2 +1,0 @@
-s/true-lit !/false-lit !/
-s/exits gn true/exits gn false/
