@@ -3,7 +3,7 @@ use mathlib.Core.Path.{◌≡◌, refl, sym, ap, ap₂, ◌∙◌}
 use mathlib.Core.Bool.{Bool, true, false}
 use mathlib.Core.List.{List, [], ◌∷◌, ◌++◌, map, flat_map, append-nil, append_assoc}
 use Rattle.facts.specs.Every.{All}
-use Rattle.contours.specs.Cutting.{behind, cut_after, Piece, Ended, Pieces, CutOf}
+use Rattle.contours.specs.Cutting.{behind, cut_after, Piece, Pieces, CutOf}
 
 -- ---- up to the first entry that passes the test, and with it
 module _ {A : Type 0} where

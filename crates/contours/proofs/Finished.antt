@@ -1,12 +1,12 @@
 -- Laws of finished points: how many there are, and the point at a place. Assumes nothing.
-use mathlib.Core.Path.{◌≡◌, refl, sym, ap, ◌∙◌}
+use mathlib.Core.Path.{◌≡◌, refl}
 use mathlib.Core.List.{List, [], ◌∷◌}
-use Prim.Native.Nat.{ℕ, zero, suc, ◌<◌, min}
+use Prim.Native.Nat.{ℕ, zero, suc, ◌<◌}
 use native.Mathlib.Nat.{le_of_suc-le-suc, not-suc-le-zero}
 use native.Mathlib.Omega.{arith}
 use lib.ListN.{length, get_or, drop}
 use Rattle.columns.specs.Flags.{is_flag_of}
-use Rattle.contours.specs.Finished.{Vertex, position, vertex, finished_of, shortest_of}
+use Rattle.contours.specs.Finished.{position, vertex, finished_of, shortest_of}
 
 module _ {A : Type 0} where
   pub finished-length : (x y : List A) (end : List ℕ) → length (finished_of x y end) ≡ shortest_of (length x) (length y) (length end)

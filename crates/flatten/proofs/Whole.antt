@@ -1,7 +1,7 @@
 -- The four ways that a flattening ends: unusable, refused while the tables are filled, too long for the outputs, and done. Assumes nothing.
 use Prim.Native.Nat.{ℕ}
 use native.Mathlib.Omega.{arith}
-use mathlib.Core.Path.{◌≡◌, refl, sym, ◌∙◌, ap}
+use mathlib.Core.Path.{◌≡◌, ◌∙◌, ap}
 use mathlib.Core.Bool.{Bool, true, false, cond}
 use mathlib.Core.List.{List}
 use lib.ListN.{length}
@@ -19,7 +19,7 @@ use Rattle.walk.specs.Walk.{Item, walk_of}
 use Rattle.evaluate.specs.Output.{Output, fits_output, write_output}
 use Rattle.evaluate.specs.Delivery.{Delivery, delivery, deliver_of}
 use Rattle.flatten.specs.declared.Flattened.{Flattened}
-use Rattle.flatten.specs.Flatten.{Flattening, flattened, flattening, walked, tabled, flatten_drawable, flatten_of}
+use Rattle.flatten.specs.Flatten.{flattened, flattening, walked, tabled, flatten_drawable, flatten_of}
 
 -- whether the walk was delivered decides between 0 and 9
 module _ (w : World) (items : List Item) (o : Output) where

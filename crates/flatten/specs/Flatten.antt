@@ -1,5 +1,5 @@
 -- RULES, Flattening and Answers 11: the whole flattening, from all that is lent to the result and what the lent columns then hold. Assumes nothing.
-use Rattle.std.specs.Prelude.{ℕ, Bool, true, false, ◌&&◌, List, ◌++◌, map, leb, Float, length, drop}
+use Rattle.std.specs.Prelude.{ℕ, Bool, true, false, List, length}
 use Rattle.answer.specs.declared.Answer.{Answer}
 use Rattle.answer.specs.declared.Answer.TheVariants.{Done, Unusable, OutputShort}
 use Rattle.answer.specs.Number.{is_done}
@@ -7,11 +7,10 @@ use Rattle.point.specs.declared.Setting.{Setting}
 use Rattle.store.specs.declared.StoreState.{StoreState}
 use Rattle.store.specs.Columns.{Columns}
 use Rattle.store.specs.Drawable.{drawable_of}
-use Rattle.columns.specs.Flags.{flag_byte_of}
 use Rattle.tables.specs.Tables.{QuadTable, SplineTable, quad_row_at}
 use Rattle.tables.specs.Run.{World}
 use Rattle.tables.specs.Commands.{tables_of}
-use Rattle.walk.specs.Walk.{Item, walk_of, words_of}
+use Rattle.walk.specs.Walk.{Item, walk_of}
 pub use Rattle.evaluate.specs.Output.{Output, output}
 unfoldable pub use Rattle.evaluate.specs.Output.{over, fits_output, write_output}
 use Rattle.flatten.specs.declared.Flattened.{Flattened}

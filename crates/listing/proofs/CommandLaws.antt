@@ -1,25 +1,22 @@
 -- Laws of one command: its fields make its call, the first op line that matches is its own, and what follows comes after it. Assumes nothing.
 use mathlib.Core.Path.{◌≡◌, refl, sym, ap, ◌∙◌}
 use mathlib.Core.Bool.{Bool, true, false, cond}
-use mathlib.Core.List.{List, [], ◌∷◌, ◌++◌}
+use mathlib.Core.List.{List, [], ◌∷◌}
 use mathlib.Core.Logic.{◌⊎◌, inl, inr, ⊎_elim}
 use Prim.Native.Nat.{ℕ, ◌+◌, ◌≤◌, ◌<◌}
 use native.Mathlib.Omega.{arith}
-use lib.Dec.{leb}
 use lib.Ieee.{Float}
 use lib.ListN.{length}
-use Rattle.text.specs.Bytes.{bytes, stands_at}
+use Rattle.text.specs.Bytes.{stands_at}
 use Rattle.text.proofs.Standing.{stands_inside}
-use Rattle.store.specs.declared.Call.{Call}
 use Rattle.listing.specs.declared.Op.{Op}
 use Rattle.listing.specs.declared.OpAt.{OpAt}
 use Rattle.listing.specs.declared.OpAt.TheVariants.{Found, Wrong}
 use Rattle.listing.specs.declared.Field.TheVariants as Field
-use Rattle.listing.specs.declared.Command.{Command}
-use Rattle.listing.specs.declared.Command.TheVariants.{Drawing, Fault, Finish}
-use Rattle.listing.specs.Grammar.{op_line_of, keys_of, call_of}
-use Rattle.listing.specs.Reading.{Placed, field_at_of, field_width, Fields, read, wrong, fields_from, with_fields, command_from, try_ops, op_at_of, command_at}
-use Rattle.listing.proofs.FieldLaws.{Onward, fields_onward, field_on, field_off}
+use Rattle.listing.specs.declared.Command.TheVariants.{Drawing, Fault}
+use Rattle.listing.specs.Grammar.{op_line_of, call_of}
+use Rattle.listing.specs.Reading.{Placed, field_at_of, field_width, Fields, read, wrong, fields_from, with_fields, command_from, try_ops, op_at_of}
+use Rattle.listing.proofs.FieldLaws.{field_on, field_off}
 
 -- ---- the call of the fields
 pub fields_fault : (op : Op) (l : ℕ) (f : Fields) → wrong l ≡ f → Fault l ≡ with_fields op f

@@ -1,17 +1,13 @@
 -- Rows of points: what is read of the first part is followed by the second, or the first fault is the row's. Assumes nothing.
 use mathlib.Core.Path.{◌≡◌, refl, sym, ap, ◌∙◌}
-use mathlib.Core.List.{List, [], ◌∷◌, ◌++◌}
-use Prim.Native.Nat.{ℕ, ◌+◌, ◌≤◌}
+use mathlib.Core.List.{List, [], ◌∷◌}
+use Prim.Native.Nat.{ℕ, ◌+◌}
 use native.Mathlib.Omega.{arith}
 use lib.Ieee.{Float}
-use lib.ListN.{length}
 use Rattle.text.specs.Bytes.{bytes}
 use Rattle.listing.specs.declared.Pair as Pairs
-use Rattle.listing.specs.declared.Pair.TheVariants as Pair
 use Rattle.listing.specs.declared.TwoPoints.{TwoPoints}
-use Rattle.listing.specs.declared.TwoPoints.TheVariants as Two
 use Rattle.listing.specs.declared.ThreePoints.{ThreePoints}
-use Rattle.listing.specs.declared.ThreePoints.TheVariants as Three
 use Rattle.listing.specs.Grammar.{quad_keys, cubic_keys}
 use Rattle.listing.specs.Reading.{Placed, Fields, read, wrong, fields_from, pair_fields, two_points_fields, three_points_fields}
 use Rattle.listing.proofs.FieldLaws.{Onward, before, fields_onward, part_wrong, part_read, read_at}

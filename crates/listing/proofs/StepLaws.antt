@@ -4,7 +4,7 @@ use mathlib.Core.Path.{◌≡◌, refl, sym, ap, ◌∙◌}
 use mathlib.Core.Bool.{Bool, true, false, cond}
 use mathlib.Core.List.{List, [], ◌∷◌}
 use mathlib.Core.Logic.{◌⊎◌, inl, inr, ⊎_elim}
-use Prim.Native.Nat.{ℕ, zero, suc, ◌+◌, ◌-◌, ◌≤◌, ◌<◌}
+use Prim.Native.Nat.{ℕ, zero, suc, ◌+◌, ◌-◌, ◌<◌}
 use native.Mathlib.Omega.{arith}
 use lib.Dec.{leb}
 use lib.Ieee.{Float}
@@ -23,7 +23,7 @@ use Rattle.listing.specs.declared.Op.TheVariants as Ops
 use Rattle.listing.specs.declared.Command.{Command}
 use Rattle.listing.specs.declared.Command.TheVariants.{Drawing, Fault, Finish}
 use Rattle.listing.specs.declared.Progress as Progresses
-use Rattle.listing.specs.Grammar.{op_line_of, keys_of, call_of}
+use Rattle.listing.specs.Grammar.{op_line_of, keys_of}
 use Rattle.listing.specs.Reading.{Placed, Fields, read, wrong, fields_from, with_fields, command_from, try_ops, ops, command_at, Progress, going, finished, stopped, after_call, after_command, step_of, steps_of, read_of, progress_of}
 use Rattle.listing.proofs.FieldLaws.{Onward, fields_onward}
 use Rattle.listing.proofs.CommandLaws.{behind_op}

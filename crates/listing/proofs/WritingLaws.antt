@@ -1,22 +1,21 @@
 -- Laws of writing: a line is written in four parts, texts one after another, and a point's lines are 28 bytes; a refusal's two lines are at most 36. Assumes
 -- nothing.
 use mathlib.Core.Path.{◌≡◌, refl, sym, ap, ◌∙◌}
-use mathlib.Core.Bool.{Bool, true, false, cond}
+use mathlib.Core.Bool.{Bool, true, false}
 use mathlib.Core.List.{List, [], ◌∷◌, ◌++◌, append-nil, append_assoc}
 use Prim.Native.Nat.{ℕ, zero, suc, ◌+◌, ◌-◌, ◌*◌, ◌≤◌, ◌<◌}
 use native.Mathlib.Numerals.{add-one}
 use native.Mathlib.Omega.{arith}
 use borrow.Author.Tests.{le-leb, lt-leb}
-use lib.Dec.{leb, lit≤}
+use lib.Dec.{lit≤}
 use lib.Ieee.{Float, nan}
-use lib.ListN.{length, get_or, set, length-append}
+use lib.ListN.{length, get_or, length-append}
 use lib.Seq.{sets}
 use Rattle.columns.specs.Flags.{flag_byte_of, is_flag_of}
 use Rattle.leaves.specs.Bits.{bits_of}
 use Rattle.answer.specs.declared.Answer.{Answer}
 use Rattle.answer.specs.declared.Answer.TheVariants.{Done, BadCoordinate, BadWeight, Unusable, StoreFull, TooManyPieces, QuadsFull, SplinesFull, SumTooLarge, OutputShort, BadText, InputTooLong, NotPrintable, BufferShort}
 use Rattle.answer.specs.Number.{number_of}
-use Rattle.point.specs.declared.Point.{Point}
 use Rattle.point.specs.Point.{point_at}
 use Rattle.evaluate.specs.Evaluate.{Finished, finished}
 use Rattle.text.specs.Bytes.{bytes}
@@ -27,7 +26,6 @@ use Rattle.text.proofs.Decimals.{one_digit, decimal_short}
 use Rattle.text.specs.Written.{WrittenAs}
 use Rattle.text.proofs.Stores.{sets_append}
 use Rattle.text.proofs.Written.{written_then}
-use Rattle.listing.specs.declared.Listed.{Listed}
 use Rattle.listing.specs.declared.Listed.TheVariants.{Bytes, Short}
 use Rattle.listing.specs.Writing.{line_of, point_lines, all_point_lines, report_of, refusal_of, head_of, column_points, Listing, listed, listed_as}
 

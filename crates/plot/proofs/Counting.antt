@@ -7,10 +7,9 @@ use native.Mathlib.Numerals.{add-one}
 use native.Mathlib.Omega.{arith}
 use borrow.Author.Tests.{ltb-true, ltb-false, le-leb, lt-leb}
 use lib.Dec.{ltb, leb}
-use lib.IntN.{ℤ}
 use lib.Ieee.{Float}
 use lib.ListN.{length, drop, drop_of_length-le}
-use Rattle.contours.specs.Finished.{position, Vertex}
+use Rattle.contours.specs.Finished.{Vertex}
 use Rattle.units.specs.Whole.{printable_of}
 use Rattle.plot.specs.declared.Measured.TheVariants.{Fits, Short, Unprintable}
 use Rattle.plot.specs.Text.{move_of, pen_of}

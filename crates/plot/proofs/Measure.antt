@@ -1,14 +1,14 @@
 -- How long the text is: three bytes, and for each point what its move takes, with the pen up or down. Assumes nothing.
-use mathlib.Core.Path.{◌≡◌, refl, sym, ap, ◌∙◌}
+use mathlib.Core.Path.{◌≡◌, refl, ap, ◌∙◌}
 use mathlib.Core.Bool.{Bool, true, false}
 use mathlib.Core.List.{List, [], ◌∷◌, ◌++◌, map}
-use Prim.Native.Nat.{ℕ, ◌+◌, ◌≤◌}
+use Prim.Native.Nat.{ℕ, ◌+◌}
 use native.Mathlib.Omega.{arith}
 use lib.IntN.{ℤ}
 use lib.Ieee.{Float}
 use lib.ListN.{length, length-append}
 use Rattle.text.specs.Signed.{signed_of}
-use Rattle.contours.specs.Finished.{Position, position, Vertex}
+use Rattle.contours.specs.Finished.{Position, Vertex}
 use Rattle.plot.specs.Text.{move_of, pen_of, moves_of}
 use Rattle.plot.specs.Plot.{whole_vertex, plot_text}
 use Rattle.plot.proofs.Moves.{text_moves}

@@ -2,21 +2,20 @@
 use mathlib.Core.Path.{◌≡◌, refl, sym, ap, ap₂, ◌∙◌, subst}
 use mathlib.Core.Bool.{Bool, true, false, ◌&&◌, ◌||◌, not, and-false}
 use mathlib.Core.List.{List, [], ◌∷◌, ◌++◌, map, flat_map, append-nil, append_assoc}
-use Prim.Native.Nat.{ℕ, suc, ◌+◌, ◌^◌, ◌≤◌, ◌<◌}
-use native.Mathlib.Nat.{not-suc-le-zero}
+use Prim.Native.Nat.{ℕ, ◌+◌, ◌^◌, ◌<◌}
 use native.Mathlib.Omega.{arith}
 use borrow.Author.Tests.{ne_eqb, lt-leb}
 use lib.IntN.{ℤ}
 use lib.Signed.{mag}
 use lib.Dec.{eqb, leb}
-use lib.ListN.{length, drop, take}
+use lib.ListN.{drop}
 use Rattle.facts.specs.Every.{All}
 use Rattle.facts.proofs.Every.{all_append}
 use Rattle.text.specs.Bytes.{bytes, stands_at, part_at, same_bytes}
 use Rattle.text.specs.Signed.{signed_of}
 use Rattle.text.specs.ReadDecimal.{signed_number, up_to, past}
 use Rattle.text.proofs.ReadDecimal.{signed_bytes, signed_back, digit_apart, up_to_first, past_first}
-use Rattle.contours.specs.Cutting.{cut_after, Piece, Ended, Pieces, CutOf}
+use Rattle.contours.specs.Cutting.{cut_after, Ended, Pieces}
 use Rattle.contours.proofs.Cutting.{only_cut}
 use Rattle.contours.specs.Finished.{Position, position}
 use Rattle.plot.specs.Text.{move_of, contour_text, text_of, pen_of}

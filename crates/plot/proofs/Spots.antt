@@ -1,7 +1,7 @@
 -- A point in plotter units, from its two coordinates; and signed numbers as the machine holds them. Assumes nothing.
 use mathlib.Core.Path.{◌≡◌, refl, sym, ap, ap₂, ◌∙◌, subst}
 use mathlib.Core.Bool.{Bool, true, false, ◌&&◌, cond, and-false}
-use Prim.Native.Nat.{ℕ, ◌≤◌}
+use Prim.Native.Nat.{ℕ}
 use native.Mathlib.Omega.{arith}
 use lib.IntN.{ℤ}
 use lib.Ieee.{Float}
@@ -9,7 +9,6 @@ use mir.Syntax.{w32, w64}
 use mir.Val.{SFits, to_z, of_z}
 use mir.ValLaws.{to_z-of_z}
 use mir.Facts.{sfits_widen}
-use Rattle.units.specs.declared.Unit.{Unit}
 use Rattle.units.specs.declared.Unit.TheVariants.{Whole, Beyond}
 use Rattle.units.specs.Whole.{whole_of, printable_of, unit_of}
 use Rattle.plot.specs.declared.Spot.{Spot}

@@ -1,7 +1,7 @@
 -- What the comparison of angles promises holds. Assumes nothing.
 use mathlib.Core.Path.{◌≡◌, refl, sym, ap, ap₂, ◌∙◌, subst}
 use mathlib.Core.Bool.{Bool, true, false, ◌&&◌, cond, true≢false}
-use Prim.Native.Nat.{ℕ, zero, suc, ◌*◌, ◌≤◌}
+use Prim.Native.Nat.{ℕ, zero, suc, ◌*◌}
 use native.Mathlib.Nat.{zero-lt-suc, zero-mul, mul-pos}
 use borrow.Author.Tests.{le-leb}
 use lib.Count.{count_trailing_zeros}

@@ -1,11 +1,11 @@
 -- RULES, Lines, Quads and Answers 10: what one primitive changes, or how it is refused. "each primitive tests 5, 6, 7, 8, as far as it would
 -- store there, before it stores anything". Assumes nothing.
-use Rattle.std.specs.Prelude.{ℕ, ◌+◌, Bool, true, not, ◌&&◌, cond, leb, Float}
+use Rattle.std.specs.Prelude.{◌+◌, true, not, ◌&&◌, cond, leb}
 use Rattle.std.specs.Float.Ieee.{le}
-use Rattle.leaves.specs.Single.{◌⊕◌, f32, recip}
+use Rattle.leaves.specs.Single.{◌⊕◌, recip}
 use Rattle.leaves.specs.Whole.{limit32}
 use Rattle.answer.specs.declared.Answer.{Answer}
-use Rattle.answer.specs.declared.Answer.TheVariants.{Done, TooManyPieces, QuadsFull, SplinesFull, SumTooLarge}
+use Rattle.answer.specs.declared.Answer.TheVariants.{TooManyPieces, QuadsFull, SplinesFull, SumTooLarge}
 use Rattle.point.specs.declared.Point.{Point}
 use Rattle.point.specs.declared.WeightedPoint.{WeightedPoint}
 use Rattle.point.specs.declared.Angle.{Angle}

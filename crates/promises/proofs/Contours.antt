@@ -1,12 +1,12 @@
 -- Demand 3c. The number of splines never falls from command to command, so the Moves divide the splines: each is in one contour, found from the first Move on.
 -- A spline is flagged exactly if, at a Move or at the end, it is the last spline so far (laws of the tables); then it is the last of its contour. Assumes
 -- nothing.
-use mathlib.Core.Path.{◌≡◌, refl, sym, ap, ap₂, ◌∙◌, subst}
+use mathlib.Core.Path.{◌≡◌, refl, sym, ap, ◌∙◌, subst}
 use mathlib.Core.Logic.{◌⊎◌, inl, inr, ◌≢◌, ◌↔◌}
 use mathlib.Core.Bool.{Bool, true, false, ◌&&◌, cond, true≢false, or-false}
 use mathlib.Core.List.{List, [], ◌∷◌, ◌++◌}
 use Prim.Native.Nat.{ℕ, zero, suc, ◌+◌, ◌-◌, ◌≤◌, ◌<◌, zero-le}
-use native.Mathlib.Nat.{le_trans, le_of_eq, le_refl, le_of_lt, lt_of_lt_of_le, lt_of_le_of_lt, lt_irrefl, eq-or-lt_of_le, add-sub_of_le, add-zero}
+use native.Mathlib.Nat.{le_trans, le_of_eq, le_refl, le_of_lt, lt_of_lt_of_le, lt_irrefl, eq-or-lt_of_le, add-sub_of_le, add-zero}
 use native.Mathlib.Nat.{le_of_suc-le-suc, lt-suc_self, not-le_of_lt}
 use native.Mathlib.Decide.{ℕ_discrete, dec_lt}
 use native.Mathlib.Omega.{arith, by_contra}
@@ -18,7 +18,7 @@ use Rattle.facts.proofs.Numbers.{shift}
 use Rattle.answer.specs.Number.{is_done}
 use Rattle.command.specs.declared.PointCommand.{PointCommand}
 use Rattle.command.specs.declared.PointCommand.TheVariants.{Start, Incr, End}
-use Rattle.store.specs.Columns.{Columns, move_command, last_command_of, even_of, usable_of}
+use Rattle.store.specs.Columns.{move_command, last_command_of, even_of, usable_of}
 use Rattle.store.specs.Drawable.{stored_ok_of, known_of, total_uses_of, drawable_of}
 use Rattle.store.specs.Drawing.{every, weight_ok_of}
 use Rattle.tables.specs.Tables.{SplineTable, spline_at}
@@ -26,14 +26,14 @@ use Rattle.tables.specs.Run.{World, world, start_state, run_of}
 use Rattle.tables.specs.Commands.{primitives_from, primitives_of, tables_of}
 use Rattle.tables.proofs.Sound.{sound_start}
 use Rattle.tables.proofs.Flags.{Flagged, Met, flag_at, flagged_run, flagged_start}
-use Rattle.tables.proofs.Moves.{before, MoveAt, met_move, move_met, before_grows, before_done}
+use Rattle.tables.proofs.Moves.{before, met_move, move_met, before_grows, before_done}
 use Rattle.walk.specs.Walk.{starts_of, step_size_of}
 use Rattle.flatten.specs.Flatten.{Flattening, walked}
 use Rattle.promises.specs.Words.{decoded, pieces_in, is_flagged}
-use Rattle.promises.specs.Accepted.{Job, flattening_of, Accepted, words_in, command_at, splines_before, Contour, Within, ContourLast, steps_of, piece_of}
-use Rattle.promises.specs.Demand3.{FlagsAreLast, Demand3c}
-use Rattle.promises.proofs.Flattened.{world_of, finished_of, Passed, passed}
-use Rattle.promises.proofs.Decoding.{caps_of, job_sound, job_pieces}
+use Rattle.promises.specs.Accepted.{Job, flattening_of, words_in, command_at, splines_before, Contour, Within, ContourLast, steps_of, piece_of}
+use Rattle.promises.specs.Demand3.{Demand3c}
+use Rattle.promises.proofs.Flattened.{world_of, Passed, passed}
+use Rattle.promises.proofs.Decoding.{caps_of, job_pieces}
 
 -- ---- what the test for answer 3 gives
 third : (a b c d e f g : Bool) → a && b && c && d && e && f && g ≡ true → T a × T c

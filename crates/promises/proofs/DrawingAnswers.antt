@@ -1,13 +1,11 @@
 -- The answers of the drawing calls are exact: each of the four tests fails exactly on its fault, and the first that fails gives the answer. Assumes nothing.
-use Prim.Native.Nat.{ℕ, zero, suc, ◌+◌, ◌-◌, ◌≤◌, ◌<◌}
-use mathlib.Core.Path.{◌≡◌, refl, sym, ap, ap₂, subst}
+use Prim.Native.Nat.{ℕ, ◌+◌, ◌-◌, ◌≤◌, ◌<◌}
+use mathlib.Core.Path.{◌≡◌, refl, sym, ap, subst}
 use mathlib.Core.Logic.{◌⊎◌, inl, inr, ◌≢◌, ◌↔◌}
-use mathlib.Core.Bool.{Bool, true, false, not, ◌&&◌, ◌||◌, cond, true≢false}
-use mathlib.Core.List.{List, [], ◌∷◌, Memᴰ}
-use native.Mathlib.Nat.{le_trans, le_of_eq, lt_of_lt_of_le, lt_of_le_of_lt}
+use mathlib.Core.Bool.{Bool, true, false, not, ◌||◌, cond, true≢false}
 use native.Mathlib.Omega.{arith}
-use lib.Dec.{T, leb, ltb, eqb, leb→le, eqb→eq}
-use lib.Ieee.{Float, nan, of_bits}
+use lib.Dec.{T, leb, eqb, eqb→eq}
+use lib.Ieee.{Float, of_bits}
 use lib.Ieee.Fits.{eq→eqb}
 use lib.ListN.{length, get_or}
 use borrow.Author.Tests.{eqb-false}
@@ -27,8 +25,8 @@ use Rattle.store.specs.Closing.{unclosed_of}
 use Rattle.store.specs.Drawing.{Outcome, outcome, Writes, coordinate_ok_of, weight_ok_of, every, coordinates_of, weights_of, appended, closed, moved, writes_of}
 use Rattle.store.specs.Drawing.{room_of, answer_of, draw_of, fresh_of}
 use Rattle.promises.specs.DrawingAnswers.{UnusableStore, uneven_y, uneven_weight, no_point, points_over, no_command, commands_over, open_over}
-use Rattle.promises.specs.DrawingAnswers.{last_over, Outside, CoordinateOutside, WeightOutside, new_points, new_commands, NoRoom, DrawAnswers}
-use Rattle.promises.specs.DrawingAnswers.{DrawingAnswers, RefusedKeeps, Uneven, NoLength, FreshAnswers, FreshAnswer}
+use Rattle.promises.specs.DrawingAnswers.{last_over, Outside, CoordinateOutside, WeightOutside, new_points, new_commands, NoRoom}
+use Rattle.promises.specs.DrawingAnswers.{DrawingAnswers, RefusedKeeps, Uneven, NoLength, FreshAnswer}
 use Rattle.promises.proofs.Telling.{Tells, tells_as, passes, tells_and, tells_leb, tells_ltb, tells_eqb, tells_outside, Some, tells_every, both_hold}
 use Rattle.promises.proofs.Telling.{neither}
 

@@ -1,6 +1,6 @@
 -- The additional examples hold of the definitions, by computation. Assumes nothing.
 use mathlib.Core.Path.{◌≡◌, refl}
-use mathlib.Core.List.{List, map}
+use mathlib.Core.List.{map}
 use lib.Count.{count_trailing_zeros}
 use lib.Ieee.{size, span, climb, odd, units, round, neg, sum, add, sub, mul, div, lt, eq, le, of_int, is_nan, of_fields, of_bits, to_bits}
 use Rattle.rounding.specs.Roots.{root_in, root, cut_to, rooted}

@@ -1,12 +1,12 @@
 -- The answers of flattening are exact. There are three tests: the test for answer 3, the run, and the room for the walk. Each fails exactly on its faults, so
 -- the answer says which fault there is. Assumes nothing.
 use Prim.Native.Nat.{ℕ, zero, suc, ◌+◌, ◌-◌, ◌≤◌, ◌<◌}
-use mathlib.Core.Path.{◌≡◌, refl, sym, ap, ap₂, ◌∙◌, subst}
+use mathlib.Core.Path.{◌≡◌, refl, sym, ap, ◌∙◌, subst}
 use mathlib.Core.Logic.{◌⊎◌, inl, inr, ◌≢◌, ◌↔◌}
-use mathlib.Core.Bool.{Bool, true, false, not, ◌&&◌, cond, true≢false}
+use mathlib.Core.Bool.{Bool, true, false, not, cond, true≢false}
 use mathlib.Core.List.Memᴰ
-use mathlib.Core.List.{List, [], ◌∷◌, map, Memᴰ}
-use native.Mathlib.Nat.{le_trans, le_of_eq, le_refl, lt_of_lt_of_le, lt_of_le_of_lt, lt_irrefl}
+use mathlib.Core.List.{[], ◌∷◌, map, Memᴰ}
+use native.Mathlib.Nat.{lt_of_lt_of_le, lt_irrefl}
 use native.Mathlib.Omega.{arith, by_contra}
 use lib.Dec.{T, lit≤, lit<, leb, leb→le, nleb→lt}
 use lib.Ieee.{Float}
@@ -24,7 +24,6 @@ use Rattle.primitives.specs.declared.Primitive.{Primitive}
 use Rattle.primitives.specs.declared.Primitive.TheVariants.{Contour, Line, Quad, Excess}
 use Rattle.primitives.specs.Cubics.{cubic_pieces_of, quads_from, cut_of, cubic_quads_of}
 use Rattle.primitives.specs.Plan.{refused_of}
-use Rattle.store.specs.Columns.{Columns}
 use Rattle.store.specs.Drawable.{drawable_of}
 use Rattle.tables.specs.Tables.{capacities_of, quad_row_at}
 use Rattle.tables.specs.Run.{World, world, start_state}
@@ -36,7 +35,7 @@ use Rattle.evaluate.specs.Evaluate.{item_point_of, points_of}
 use Rattle.flatten.specs.Flatten.{Output, Flattening, flattened, flattening, fits_output, write_output, walked, tabled, flatten_drawable, flatten_of}
 use Rattle.promises.specs.Accepted.{Job, flattening_of}
 use Rattle.promises.specs.FlattenAnswers.{Undrawable, Refuses, too_many, quads_full, line_full, straight_full, curve_full, sum_over, ExcessIs}
-use Rattle.promises.specs.FlattenAnswers.{RefusedIn, Refused, walk_length, Short, words, x, y, end, AnswerOf, FlattenAnswers, FlatteningAnswers}
+use Rattle.promises.specs.FlattenAnswers.{Refused, walk_length, Short, words, x, y, end, AnswerOf, FlatteningAnswers}
 use Rattle.promises.specs.FlattenAnswers.{RefusedWritesNothing, OutputPast, PastCounts, run_over, held_by, TablesHeld}
 use Rattle.promises.proofs.Flattened.{world_of, items_in}
 use Rattle.promises.proofs.Telling.{Tells, tells_as, passes, tells_and, tells_leb, both_hold, neither}

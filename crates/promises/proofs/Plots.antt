@@ -1,12 +1,12 @@
 -- What every plot promises: the answers, reading back, blanks and room. Assumes nothing.
-use Prim.Native.Nat.{ℕ, zero, suc, ◌+◌, ◌*◌, ◌^◌, ◌≤◌, ◌<◌}
-use mathlib.Core.Path.{◌≡◌, refl, sym, ap, ap₂, ◌∙◌, subst}
-use mathlib.Core.Logic.{◌⊎◌, inl, inr, ◌≢◌, ◌↔◌}
+use Prim.Native.Nat.{ℕ, ◌+◌, ◌^◌, ◌≤◌, ◌<◌}
+use mathlib.Core.Path.{◌≡◌, refl, sym, ap, ◌∙◌}
+use mathlib.Core.Logic.{◌⊎◌, inl, inr, ◌≢◌}
 use mathlib.Core.Bool.{Bool, true, false, ◌&&◌, and-false, and-eq-true_iff, true≢false}
 use mathlib.Core.List.{List, [], ◌∷◌, ◌++◌, map, flat_map}
 use native.Mathlib.Nat.{zero-add}
 use native.Mathlib.Omega.{arith}
-use borrow.Author.Tests.{leb-true, leb-false, le-leb, lt-leb}
+use borrow.Author.Tests.{leb-true, leb-false}
 use lib.IntN.{ℤ, pos, negsuc}
 use lib.Signed.{mag}
 use lib.Dec.{leb}
@@ -27,7 +27,7 @@ use Rattle.contours.specs.Finished.{Position, Vertex, finished_of}
 use Rattle.contours.specs.Contours.{contours_of}
 use Rattle.units.specs.Whole.{whole_of, in_range, printable_of}
 use Rattle.plot.specs.Text.{move_of, contour_text, text_of}
-use Rattle.plot.specs.Plot.{all_printable, whole_vertex, whole_contours, plot_text, Plot, plot_in, plot_of}
+use Rattle.plot.specs.Plot.{all_printable, whole_vertex, whole_contours, plot_text, plot_in, plot_of}
 use Rattle.units.proofs.Nearest.{whole_range}
 use Rattle.plot.proofs.Room.{text_most}
 use Rattle.plot.specs.ReadBack.{read_of, blanks_right}

@@ -1,6 +1,5 @@
 -- Demand 3d. Equal words have equal pieces, and a piece determines its Start, its number of steps, their size and its flag. Assumes nothing.
-use mathlib.Core.Path.{◌≡◌, refl, sym, ap, ap₂, ◌∙◌, subst}
-use mathlib.Core.Logic.{◌↔◌}
+use mathlib.Core.Path.{◌≡◌, refl, sym, ap, ◌∙◌, subst}
 use mathlib.Core.Bool.{Bool, true, false, cond}
 use mathlib.Core.List.{List, [], ◌∷◌, ◌++◌}
 use Prim.Native.Nat.{ℕ, zero, suc, ◌<◌}
@@ -14,8 +13,8 @@ use Rattle.tables.proofs.Flags.{flag_at}
 use Rattle.walk.specs.Walk.{starts_of, step_size_of}
 use Rattle.flatten.specs.Flatten.{Flattening, walked}
 use Rattle.promises.specs.Words.{decoded, pieces_in, is_flagged}
-use Rattle.promises.specs.Accepted.{Job, flattening_of, Accepted, words_in, ContourLast, steps_of, piece_of}
-use Rattle.promises.specs.Demand3.{SameSpline, SameWalk, Demand3d}
+use Rattle.promises.specs.Accepted.{words_in, steps_of, piece_of}
+use Rattle.promises.specs.Demand3.{Demand3d}
 use Rattle.promises.proofs.Flattened.{world_of, finished_of, Passed, passed}
 use Rattle.promises.proofs.Decoding.{job_pieces}
 use Rattle.promises.proofs.Contours.{flag_last, piece_flag}

@@ -31,7 +31,7 @@ use Rattle.tables.proofs.Runs.{next_is, run_append}
 use Rattle.tables.proofs.Moves.{taken}
 use Rattle.tables.proofs.Owners.{owned_round, round_quads, not_both}
 use Rattle.tables.proofs.Rounds.{Rounds, rounds}
-use Rattle.tables.proofs.Drawn.{Drew, after_drawn, dropped}
+use Rattle.tables.proofs.Drawn.{Drew, after_drawn}
 use Rattle.tables.proofs.KindLaws.{kind_at, drawn_kind, kinds_run}
 use Rattle.walk.specs.Walk.{subdivisions_of}
 use Rattle.flatten.specs.Flatten.{Flattening, walked}

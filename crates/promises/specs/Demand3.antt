@@ -1,8 +1,7 @@
 -- The third demand, each sentence as a type: what holds of every accepted drawing, in both settings. Proved in proofs/. Assumes nothing.
-use Rattle.std.specs.Prelude.{ℕ, suc, ◌-◌, ◌*◌, ◌≤◌, ◌<◌, ◌≡◌, ◌≢◌, ◌↔◌, true, T, Float, length, get_or}
+use Rattle.std.specs.Prelude.{ℕ, suc, ◌*◌, ◌≤◌, ◌<◌, ◌≡◌, ◌≢◌, ◌↔◌, true, T, Float, length, get_or}
 use mathlib.Core.List.{List, [], map, Memᴰ}
 use Rattle.std.specs.Float.Ieee.Positive.{num, den}
-use Rattle.command.specs.declared.PointCommand.{PointCommand}
 use Rattle.point.specs.declared.Setting.{Setting}
 use Rattle.tables.specs.Tables.{quad_row_at}
 use Rattle.walk.specs.Walk.{Item, starts_of, step_size_of}

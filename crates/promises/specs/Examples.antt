@@ -12,14 +12,13 @@ use Rattle.command.specs.Packing.{pack_of}
 use Rattle.answer.specs.Number.{number_of}
 use Rattle.store.specs.declared.Call.{Call}
 use Rattle.store.specs.declared.Call.TheVariants.{Move, Line, Quad, Build}
-use Rattle.store.specs.Columns.{Columns, columns}
 use Rattle.store.specs.Drawing.{Outcome, fresh_of}
 use Rattle.store.specs.Replay.{replay_of}
 use Rattle.point.specs.declared.Setting.{Setting}
 use Rattle.point.specs.declared.Setting.TheVariants.{Screen, Knife}
 use Rattle.tables.specs.Tables.{QuadTable, quad_table, quad_row_at, SplineTable, spline_table}
-use Rattle.walk.specs.Walk.{Item, walk_of}
-use Rattle.flatten.specs.Flatten.{Flattening, Output, output, flatten_of}
+use Rattle.walk.specs.Walk.{walk_of}
+use Rattle.flatten.specs.Flatten.{Flattening, flatten_of}
 use Rattle.promises.specs.Room.{empty_columns, empty_quads, empty_splines, empty_output}
 
 -- the point (x, y)

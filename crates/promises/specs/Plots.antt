@@ -1,7 +1,6 @@
 -- 02, One: what every plot promises: its answers, each exactly when; that the text is read back; and its blanks. Proved in proofs/Plots. Assumes nothing.
-use Rattle.std.specs.Prelude.{ℕ, ◌+◌, ◌*◌, ◌≤◌, ◌<◌, ◌≡◌, ◌⊎◌, ◌≢◌, ◌↔◌, Bool, true, false, List, [], ◌∷◌, ◌++◌, ℤ, Float, length, take}
+use Rattle.std.specs.Prelude.{ℕ, ◌+◌, ◌*◌, ◌≤◌, ◌<◌, ◌≡◌, ◌⊎◌, ◌≢◌, ◌↔◌, true, false, List, [], ◌∷◌, ◌++◌, Float, length, take}
 use Rattle.std.specs.Float.{nan}
-use Rattle.facts.specs.Every.{All}
 use Rattle.leaves.specs.Single.{f32}
 use Rattle.leaves.specs.Small.{is_inf}
 use Rattle.answer.specs.declared.Answer.TheVariants.{Done, NotPrintable, BufferShort}

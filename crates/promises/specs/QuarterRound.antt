@@ -1,6 +1,6 @@
 -- Quarter rounds whose chord lies at forty-five degrees, the shape on which an earlier version lost a sign: the words and points are those of the original Rust
 -- (tests/rust/QUARTER-ROUND.md). Assumes nothing.
-use Rattle.std.specs.Prelude.{ℕ, List, [], ◌∷◌}
+use Rattle.std.specs.Prelude.{List, [], ◌∷◌}
 use Rattle.leaves.specs.Single.{f32, zero32}
 use Rattle.point.specs.Point.{point_at}
 use Rattle.store.specs.declared.Call.{Call}

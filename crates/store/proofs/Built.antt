@@ -3,7 +3,7 @@ use Prim.Native.Nat.{ℕ, ◌+◌, ◌-◌, ◌*◌, ◌<◌}
 use native.Mathlib.Omega.{arith}
 use native.Mathlib.Nat.{add-zero}
 use mathlib.Core.Path.{◌≡◌, refl, sym, ap, ◌∙◌, subst}
-use mathlib.Core.Bool.{Bool, true, false, not, true≢false}
+use mathlib.Core.Bool.{Bool, true, false, true≢false}
 use lib.ListN.{length}
 use lib.Seq.{get_or-set_same, get_or-set_other}
 use lib.Ieee.{Float, nan, inf, fin, eq, is_nan, up, down}
@@ -16,7 +16,7 @@ use Rattle.store.specs.declared.StoreState.{StoreState}
 use Rattle.store.specs.declared.Call.TheVariants.{Build}
 use Rattle.store.specs.Columns.{Columns, line_command, stored_point_of, put_point, put_command}
 use Rattle.store.specs.Closing.{unclosed_of}
-use Rattle.store.specs.Drawing.{Outcome, outcome, appended, closed, writes_of, put_points, put_commands, written, state_after, draw_of}
+use Rattle.store.specs.Drawing.{Outcome, appended, closed, writes_of, put_points, put_commands, written, state_after, draw_of}
 use Rattle.store.specs.Plan.{Room}
 use Rattle.store.proofs.Usable.{usable_counts}
 use Rattle.store.proofs.Deciding.{room_fits}

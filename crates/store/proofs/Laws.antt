@@ -21,7 +21,7 @@ use Rattle.point.specs.Point.{point_at, plain}
 use Rattle.store.specs.declared.StoreState.{StoreState}
 use Rattle.store.specs.declared.Call.{Call}
 use Rattle.store.specs.declared.Call.TheVariants.{Move, Line, Quad, Cubic, RatQuad, RatCubic, Build}
-use Rattle.store.specs.Columns.{Columns, columns, state_at, move_command, put_point, put_command, even_of, usable_of}
+use Rattle.store.specs.Columns.{Columns, state_at, move_command, put_point, put_command, even_of, usable_of}
 use Rattle.store.specs.Drawing.{Outcome, outcome, every, coordinate_ok_of, weight_ok_of, coordinates_of, weights_of, appended, closed, moved, writes_of}
 use Rattle.store.specs.Drawing.{written, state_after, room_of, answer_of, draw_of, fresh_of}
 use Rattle.store.specs.Replay.{replay_of}

@@ -1,18 +1,17 @@
 -- A coordinate in range times a weight in range lies within ±4,194,304, which is 65,536 · 64: rounding keeps order. Assumes nothing.
 use Prim.Native.Nat.{ℕ, zero, suc, ◌+◌, ◌*◌, ◌^◌, ◌≤◌, ◌<◌}
 use native.Mathlib.Omega.{arith}
-use native.Mathlib.Nat.{le_trans, le_of_eq, lt_of_lt_of_le, eq-or-lt_of_le, mul-one, one-mul, mul-le-mul, mul-le-mul_right, mul-pos, mul_assoc, mul_left_comm}
-use native.Mathlib.Nat.{le-add_right}
+use native.Mathlib.Nat.{le_trans, le_of_eq, eq-or-lt_of_le, mul-one, mul-le-mul, mul-pos, mul_assoc, mul_left_comm}
 use mathlib.Core.Logic.{inl, inr}
 use mathlib.Core.Path.{◌≡◌, refl, sym, ap, ◌∙◌, subst}
-use mathlib.Core.Bool.{Bool, true, false, not, ◌&&◌, ◌||◌, cond, false≢true}
-use lib.Dec.{T, ltb, eqb, eqb_refl}
-use lib.IntN.{ℤ, pos, negsuc}
+use mathlib.Core.Bool.{Bool, true, false, ◌&&◌, ◌||◌, cond, false≢true}
+use lib.Dec.{T, ltb, eqb}
+use lib.IntN.{ℤ, pos}
 use lib.Pow.{pow_pos}
-use lib.Ieee.{Float, nan, inf, fin, Format, binary32, low, emax, prec, up, down, size, units, odd, round, mul, le, of_bits, unlike}
-use lib.Ieee.Fits.{up_pos, down_pos, round_is}
+use lib.Ieee.{Float, nan, inf, fin, Format, binary32, low, emax, prec, up, down, units, odd, round, mul, le, of_bits, unlike}
+use lib.Ieee.Fits.{down_pos, round_is}
 use lib.Ieee.Order.{round_mono}
-use borrow.Author.Tests.{ltb-true, ltb-false, eqb-true, lt-ltb, eq-eqb}
+use borrow.Author.Tests.{ltb-true, eqb-true, lt-ltb, eq-eqb}
 use mathlib.Mathlib.Data.Bool.Basic.{and_elim_left, and_elim_right, and_intro, or_inr}
 use lib.Ieee.Bits.{is_true}
 use Rattle.leaves.specs.Single.{◌⊗◌, f32, one32, zero32}

@@ -1,5 +1,5 @@
 -- RULES, The store and Answers: each drawing call, as a function from state and columns to answer, state and columns. Assumes nothing.
-use Rattle.std.specs.Prelude.{ℕ, ◌+◌, ◌-◌, Bool, true, false, not, ◌&&◌, ◌||◌, cond, List, [], ◌∷◌, ◌++◌, leb, eqb, Float, length}
+use Rattle.std.specs.Prelude.{ℕ, ◌+◌, ◌-◌, Bool, true, false, not, ◌&&◌, ◌||◌, cond, List, [], ◌∷◌, leb, eqb, Float, length}
 use Rattle.std.specs.Float.Ieee.{le}
 use Rattle.leaves.specs.Single.{f32, zero32}
 use Rattle.answer.specs.declared.Answer.{Answer}
@@ -11,7 +11,7 @@ use Rattle.point.specs.Point.{point_at, plain, rational_of}
 use Rattle.store.specs.declared.StoreState.{StoreState}
 use Rattle.store.specs.declared.Call.{Call}
 use Rattle.store.specs.declared.Call.TheVariants.{Move, Line, Quad, Cubic, RatQuad, RatCubic, Build}
-use Rattle.store.specs.Columns.{Columns, columns, state_at, move_command, line_command, quad_command, cubic_command, stored_point_of, last_command_of, put_point, put_command, even_of, usable_of}
+use Rattle.store.specs.Columns.{Columns, state_at, move_command, line_command, quad_command, cubic_command, stored_point_of, last_command_of, put_point, put_command, even_of, usable_of}
 use Rattle.store.specs.Closing.{unclosed_of}
 
 -- what a call gives, and what the columns then hold

@@ -2,7 +2,6 @@
 -- of the other, numbered on, keep that, and no row before the contour changes. Assumes nothing.
 use Prim.Native.Nat.{ℕ, suc, ◌+◌, ◌-◌, ◌≤◌, ◌<◌, min}
 use mathlib.Core.Path.{◌≡◌, refl, sym, ap, ◌∙◌}
-use mathlib.Core.Logic.{◌≢◌}
 use mathlib.Core.Bool.{Bool, true, false, not, ◌||◌, true≢false}
 use native.Mathlib.Nat.{le_of_eq}
 use native.Mathlib.Numerals.{add-one}
@@ -20,7 +19,7 @@ use Rattle.primitives.specs.declared.SplineEdit.{SplineEdit}
 use Rattle.primitives.specs.Splines.{far_of, spline_kind_of, apart_of, opens_of, line_angle_of, sum_before, quad_count_of, spline_edit_of}
 use Rattle.primitives.proofs.Opening.{joins}
 use Rattle.tables.specs.Tables.{quad_capacity_of, spline_capacity_of, quad_row_at, spline_at}
-use Rattle.tables.specs.Run.{World, world}
+use Rattle.tables.specs.Run.{World}
 use Rattle.tables.proofs.Pushes.{last_of, spline_edit}
 use Rattle.tables.proofs.Sound.{last_is}
 use Rattle.tables.proofs.Standing.{spline_on, quad_on}

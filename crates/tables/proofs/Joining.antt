@@ -2,7 +2,7 @@
 -- each other. A Move forgets what the contour before left: in the whole the contour begins as it does alone. Assumes nothing.
 use Prim.Native.Nat.{ℕ, ◌+◌, ◌≤◌, zero-le}
 use mathlib.Core.Path.{◌≡◌, refl, sym, subst₂}
-use mathlib.Core.Bool.{true, false, true≢false}
+use mathlib.Core.Bool.{true≢false}
 use mathlib.Core.List.{List, [], ◌∷◌}
 use native.Mathlib.Nat.{le_trans, le_of_eq, add-zero, not-suc-le-zero}
 use native.Mathlib.Omega.{arith}

@@ -1,29 +1,28 @@
 -- The Moves that a run meets are those of the command list, and the number of splines never falls. Assumes nothing.
-use mathlib.Core.Path.{◌≡◌, refl, sym, ap, ap₂, ◌∙◌, subst}
+use mathlib.Core.Path.{◌≡◌, refl, sym, ap, ◌∙◌, subst}
 use mathlib.Core.Logic.{◌⊎◌, inl, inr}
 use mathlib.Core.List.{List, [], ◌∷◌, ◌++◌, append_assoc}
-use mathlib.Core.Bool.{Bool, true, false, cond, true≢false}
-use Prim.Native.Nat.{ℕ, zero, suc, ◌+◌, ◌-◌, ◌≤◌, ◌<◌, zero-le, suc-le-suc}
+use mathlib.Core.Bool.{Bool, true, false, cond}
+use Prim.Native.Nat.{ℕ, zero, suc, ◌+◌, ◌-◌, ◌≤◌, ◌<◌, suc-le-suc}
 use native.Mathlib.Nat.{le_trans, le_of_eq, le_refl, le_of_suc-le-suc, not-suc-le-zero, zero-lt-suc, suc-ne-zero, add_assoc, add-zero, zero-add, le-add_right}
 use lib.Dec.{T, leb}
 use lib.ListN.{length, get_or, take, drop}
-use lib.Seq.{take-add, take-take}
+use lib.Seq.{take-add}
 use Rattle.answer.specs.Number.{is_done}
 use Rattle.point.specs.declared.Setting.{Setting}
 use Rattle.primitives.specs.declared.Capacities.{Capacities}
 use Rattle.primitives.specs.declared.Cubic.{Cubic}
 use Rattle.primitives.specs.declared.Primitive.{Primitive}
-use Rattle.primitives.specs.declared.Primitive.TheVariants.{Contour, Line, Quad, Excess}
 use Rattle.primitives.specs.Cubics.{cubic_pieces_of, quads_from, cut_of, cubic_quads_of}
 use Rattle.primitives.specs.Splines.{spline_edit_of}
 use Rattle.primitives.specs.Plan.{refused_of, marked_of}
 use Rattle.point.specs.declared.Point.{Point}
 use Rattle.store.specs.Columns.{Columns, uses_of}
 use Rattle.store.specs.Drawable.{total_uses_of}
-use Rattle.tables.specs.Run.{World, world, apply_of, push_of, run_of}
+use Rattle.tables.specs.Run.{World, apply_of, push_of, run_of}
 use Rattle.tables.specs.Commands.{cubic_from, command_primitives_of, primitives_from}
 use Rattle.tables.proofs.Pushes.{is_mark, Pushed, kept, marked, lined, bent, pushed}
-use Rattle.tables.proofs.Flags.{Met, Now, next_of}
+use Rattle.tables.proofs.Flags.{Met, next_of}
 use Rattle.tables.proofs.Runs
 use lib.Ieee.{Float}
 

@@ -7,7 +7,7 @@ use Prim.Native.Nat.{ℕ, ◌+◌, ◌*◌, ◌≤◌, ◌<◌}
 use native.Mathlib.Nat.{mul-one, one-mul, zero-lt-suc, le_trans, le_of_lt}
 use native.Mathlib.Omega.{arith}
 use lib.Dec.{T, lit<, leb, ltb, eqb, nltb→le, lt→ltb, T_not}
-use lib.Ieee.{Float, nan, inf, fin, binary32, up, down, le, lt, eq, fits, of_bits}
+use lib.Ieee.{Float, nan, inf, fin, binary32, up, down, le, fits, of_bits}
 use lib.Ieee.Fits.{mul-fits, down_pos, eq→eqb}
 use lib.Ieee.Bits.{of_bits-fits}
 use lib.Ieee.Positive.{num, den, positive, first_pos}

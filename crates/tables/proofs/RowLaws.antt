@@ -6,14 +6,12 @@ use mathlib.Core.Logic.{◌≢◌, ◌⊎◌, inl, inr}
 use mathlib.Core.Bool.{Bool, true, false, cond}
 use mathlib.Core.List.{List, [], ◌∷◌}
 use native.Mathlib.Nat.{le_trans, lt_of_lt_of_le, min-le_left, min-le_right, not-suc-le-zero, le-add_right, eq-or-lt_of_le}
-use native.Mathlib.Numerals.{lt-add-one}
 use native.Mathlib.Omega.{arith}
 use lib.Dec.{ltb, lit<}
 use lib.Ieee.{Float, nan}
 use lib.ListN.{length, get_or, set, length-set}
 use lib.Seq.{sets, length-sets, get_or-set_same, get_or-set_other}
 use borrow.Author.Tests.{ltb-true, ltb-false, lt-ltb}
-use Rattle.primitives.specs.declared.Three.{Three}
 use Rattle.primitives.specs.declared.QuadRow.{QuadRow}
 use Rattle.tables.specs.Tables.{QuadTable, quad_table, quad_capacity_of, numbers_of, put_quad, number_at, quad_row_at}
 use Rattle.tables.specs.Past.{Past, QuadsPast}

@@ -1,7 +1,7 @@
 -- Laws of a spline's running sum: what a curvature above 1 makes of it when it is added and rounded, its whole number up, and the size of its steps.
 -- A value x that is finite and not negative is the fraction num x / den x. Assumes nothing.
 use mathlib.Core.Path.{◌≡◌, refl, sym, ap, ap₂, ◌∙◌, subst}
-use mathlib.Core.Bool.{Bool, true, false, not, ◌&&◌, cond, true≢false}
+use mathlib.Core.Bool.{Bool, true, false, ◌&&◌, cond, true≢false}
 use Prim.Native.Nat.{ℕ, zero, suc, ◌+◌, ◌-◌, ◌*◌, ◌/◌, ◌%◌, ◌^◌, ◌≤◌, ◌<◌, zero-le}
 use native.Mathlib.Nat.{le_trans, le_of_eq, le_of_lt, lt_of_le_of_lt, lt_of_lt_of_le, mul-pos, mul-one, one-mul, zero-mul, zero-add, mul_comm}
 use native.Mathlib.Nat.{mul_assoc, mul_right_comm, suc-mul, mul-le-mul_right, mul-lt-mul_of_pos_right, le_of_mul-le-mul_right}
@@ -17,7 +17,7 @@ use lib.Ieee.Exact.{HasValue, round_exact}
 use lib.Ieee.Back.{round_whole}
 use lib.Ieee.Order.{round_mono, le_of_values}
 use lib.Ieee.Positive.{num, den, positive, den_pos, own_value, value→cross, positive_of_value, values_of_le, between, above, above_of_le}
-use lib.Ieee.Scale.{finite, round_same}
+use lib.Ieee.Scale.{round_same}
 use Rattle.facts.proofs.Tests.{same}
 use Rattle.leaves.specs.Single.{◌⊕◌, ◌⊘◌, whole32, zero32, half32, one32}
 use Rattle.leaves.specs.Whole.{limit32, whole_up_of}

@@ -1,18 +1,17 @@
 -- What is printed in decimal is read back: its digits, its sign, and where it ends. Assumes nothing.
-use mathlib.Core.Path.{◌≡◌, refl, sym, ap, ap₂, ◌∙◌}
+use mathlib.Core.Path.{◌≡◌, refl, ap, ◌∙◌}
 use mathlib.Core.Bool.{Bool, true, false, cond}
 use mathlib.Core.List.{List, [], ◌∷◌, ◌++◌}
 use Prim.Native.Nat.{ℕ, zero, suc, ◌+◌, ◌-◌, ◌*◌, ◌/◌, ◌%◌, ◌^◌, ◌≤◌, ◌<◌}
 use native.Mathlib.Nat.{mod-lt, mod-eq_of_lt, pow-suc, not-suc-le-zero}
 use native.Mathlib.Omega.{arith}
-use borrow.Author.Tests.{ltb-true, ltb-false, eq-eqb, ne_eqb}
+use borrow.Author.Tests.{ltb-true, eq-eqb, ne_eqb}
 use lib.ListN.{length}
 use lib.IntN.{ℤ, pos, negsuc, neg_ℤ}
 use lib.Signed.{mag}
 use lib.Dec.{eqb, ltb}
 use Rattle.facts.specs.Every.{All}
 use Rattle.facts.proofs.Every.{all_append}
-use Rattle.text.specs.Bytes.{bytes}
 use Rattle.text.specs.Decimal.{decimal_in, decimal_of}
 use Rattle.text.specs.Signed.{signed_of}
 use Rattle.text.specs.ReadDecimal.{decimal_number, signed_number, up_to, past}

@@ -2,7 +2,6 @@
 use mathlib.Core.Path.{ap, ◌∙◌}
 use Prim.Native.Nat.{ℕ, min}
 use Rattle.contours.specs.Finished.{shortest_of}
-use borrow.Author.Rules.{rules}
 use Rattle.contours.proofs.shortest.Goals as goal
 
 pub returns : goal.returns

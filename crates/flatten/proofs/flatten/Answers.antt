@@ -2,8 +2,6 @@
 use mathlib.Core.Path.{sym, ◌∙◌}
 use borrow.Author.Tests.{not-true, not-false}
 use Rattle.flatten.proofs.Whole.{unusable, refused, too_short, done}
-use native.Mathlib.Omega.{arith}
-use borrow.Author.Rules.{rules}
 use Rattle.flatten.proofs.flatten.Goals as goal
 
 pub returns-then-not-drawable : goal.returns-then-not-drawable

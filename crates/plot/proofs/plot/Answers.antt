@@ -1,7 +1,6 @@
 -- `plot::plot` meets its contract: what was measured decides. Assumes nothing.
-use mathlib.Core.Path.{◌≡◌, sym, ◌∙◌}
+use mathlib.Core.Path.{sym, ◌∙◌}
 use mathlib.Core.List.{List}
-use borrow.Author.Rules.{rules}
 use lib.Ieee.{Float}
 use Rattle.contours.specs.Finished.{Vertex, finished_of}
 use Rattle.plot.proofs.Outcomes.{not_printable, too_short, fits_so, done}

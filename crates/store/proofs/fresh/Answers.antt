@@ -1,7 +1,6 @@
 -- `store::fresh` meets its contract: the two refusals, and the first point and command. Assumes nothing.
 use mathlib.Core.Path.{◌∙◌}
-use borrow.Author.Rules.{rules}
-use Rattle.store.proofs.Writing.{fresh_uneven, fresh_full, fresh_room, fresh_command, fresh_done}
+use Rattle.store.proofs.Writing.{fresh_uneven, fresh_full, fresh_room, fresh_done}
 use Rattle.store.specs.Columns.{columns}
 use Rattle.store.proofs.fresh.Goals as goal
 

@@ -9,7 +9,6 @@ use lib.Ieee.{Float, nan, lt}
 use lib.ListN.{get_or}
 use borrow.Author.Tests.{ltb-true}
 use Rattle.tables.specs.Tables.{whole_rows_of, number_at, sum_at_of}
-use borrow.Author.Rules.{rules}
 use Rattle.walk.proofs.cursor_at.Goals as goal
 
 -- a sum that a step exceeds is that of a whole row

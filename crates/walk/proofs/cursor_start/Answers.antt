@@ -1,6 +1,5 @@
 -- `walk::cursor_start` meets its contract. Assumes nothing.
 use Rattle.walk.specs.Walk.{cursor_start_of}
-use borrow.Author.Rules.{rules}
 use Rattle.walk.proofs.cursor_start.Goals as goal
 
 pub returns-in-Screen : goal.returns-in-Screen

@@ -2,7 +2,6 @@
 use Prim.Native.Nat.{ℕ, ◌≤◌}
 use mathlib.Core.Path.{sym, subst}
 use Rattle.walk.proofs.Lengths.{whole_up_bound, small_exact}
-use borrow.Author.Rules.{rules}
 use Rattle.walk.proofs.size.Goals as goal
 
 pub int_to_float-result : goal.int_to_float-result

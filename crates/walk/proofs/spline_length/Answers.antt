@@ -1,5 +1,4 @@
 -- `walk::spline_length` meets its contract. Assumes nothing.
-use borrow.Author.Rules.{rules}
 use Rattle.walk.specs.Length.{spline_length_of}
 use Rattle.walk.proofs.spline_length.Goals as goal
 

@@ -3,10 +3,8 @@ use Prim.Native.Nat.{ℕ, ◌≤◌}
 use mathlib.Core.Path.{◌≡◌}
 use Rattle.primitives.specs.declared.SplineRow.{SplineRow}
 use Rattle.walk.specs.Length.{spline_length_of}
-use Rattle.tables.specs.Tables.{spline_table}
-use borrow.Author.Rules.{rules}
 use native.Mathlib.Omega.{arith}
-use Rattle.walk.proofs.Lengths.{Counted, counted_start, counted_more, counted_end, spline_length_bound}
+use Rattle.walk.proofs.Lengths.{counted_start, counted_more, counted_end, spline_length_bound}
 use Rattle.walk.proofs.walk_length.Goals as goal
 
 total_fits : (k : ℕ) (last row : SplineRow) (len : ℕ) → len ≡ spline_length_of k last row → len ≤ 65538

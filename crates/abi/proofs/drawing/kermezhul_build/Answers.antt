@@ -1,5 +1,4 @@
 -- `abi::drawing::kermezhul_build` meets its contract: the library's call, its answer as a number. Assumes nothing.
-use borrow.Author.Rules.{rules}
 use Rattle.abi.proofs.Told.{told}
 use Rattle.abi.proofs.drawing.kermezhul_build.Goals as goal
 

@@ -1,5 +1,4 @@
 -- `abi::drawing::kermezhul_rat_cubic_to` meets its contract: the library's call, its answer as a number. Assumes nothing.
-use borrow.Author.Rules.{rules}
 use Rattle.abi.proofs.Told.{told}
 use Rattle.abi.proofs.drawing.kermezhul_rat_cubic_to.Goals as goal
 

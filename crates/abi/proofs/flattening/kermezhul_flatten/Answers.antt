@@ -1,6 +1,5 @@
 -- `abi::flattening::kermezhul_flatten` meets its contract: the library's flattening, its answer as a number. Assumes nothing.
 use mathlib.Core.Path.{◌∙◌}
-use borrow.Author.Rules.{rules}
 use Rattle.abi.proofs.Told.{flat_told, chosen}
 use Rattle.abi.proofs.flattening.kermezhul_flatten.Goals as goal
 

@@ -1,5 +1,4 @@
 -- `abi::plotting::kermezhul_plot` meets its contract: the library's plot, its answer as a number. Assumes nothing.
-use borrow.Author.Rules.{rules}
 use Rattle.abi.proofs.Told.{plot_told}
 use Rattle.abi.proofs.plotting.kermezhul_plot.Goals as goal
 

@@ -1,5 +1,4 @@
 -- `abi::plotting::kermezhul_whole` meets its contract: the library's rounding, its answer as a number. Assumes nothing.
-use borrow.Author.Rules.{rules}
 use Rattle.abi.proofs.Told.{whole_told}
 use Rattle.abi.proofs.plotting.kermezhul_whole.Goals as goal
 

@@ -4,7 +4,6 @@ use mathlib.Core.Bool.{Bool}
 use Rattle.command.specs.Packing.{pack_of}
 use Rattle.command.specs.declared.PointCommand.TheVariants.{End}
 use Rattle.command.proofs.Fields.{start, end_plain, end_flagged}
-use borrow.Author.Rules.{rules}
 use Rattle.command.proofs.PointCommand.pack.Goals as goal
 
 pub returns-in-Start : goal.returns-in-Start

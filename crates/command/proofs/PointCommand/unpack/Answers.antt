@@ -2,9 +2,7 @@
 use mathlib.Core.Path.{sym, subst}
 use mathlib.Core.Bool.{Bool, not}
 use native.Mathlib.Omega.{arith}
-use borrow.Author.Rules.{rules}
 use lib.Dec.{T}
-use lib.Bits.{and_le_l}
 use Rattle.leaves.specs.Bits.{float_of}
 use Rattle.command.proofs.Fields.{is_step, is_start, is_end_lem, step_real, marked, unmarked, index, plus, minus, flag}
 use Rattle.command.proofs.PointCommand.unpack.Goals as goal

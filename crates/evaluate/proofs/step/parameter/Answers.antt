@@ -1,7 +1,5 @@
 -- `evaluate::step::parameter` meets its contract. Assumes nothing.
-use Rattle.walk.proofs.Lengths.{small_exact}
 use Rattle.evaluate.specs.Evaluate.{parameter_of}
-use borrow.Author.Rules.{rules}
 use Rattle.evaluate.proofs.step.parameter.Goals as goal
 
 pub returns : goal.returns

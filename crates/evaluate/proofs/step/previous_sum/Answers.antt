@@ -8,7 +8,6 @@ use borrow.Author.Tests.{le-leb, eq-eqb, ne_eqb}
 use Rattle.leaves.specs.Single.{zero32}
 use Rattle.tables.specs.Tables.{QuadTable, quad_table, sum_at_of, quad_row_at}
 use Rattle.evaluate.specs.Evaluate.{previous_sum_of}
-use borrow.Author.Rules.{rules}
 use Rattle.evaluate.proofs.step.previous_sum.Lts as lts
 use Rattle.evaluate.proofs.step.previous_sum.Reads as reads
 use Rattle.evaluate.proofs.step.previous_sum.Tie as tie

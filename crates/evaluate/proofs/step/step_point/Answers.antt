@@ -1,6 +1,5 @@
 -- `evaluate::step::step_point` meets its contract. Assumes nothing.
 use Rattle.evaluate.specs.Evaluate.{step_point_of}
-use borrow.Author.Rules.{rules}
 use Rattle.evaluate.proofs.step.step_point.Goals as goal
 
 pub returns : goal.returns

@@ -1,9 +1,7 @@
 -- `evaluate::writing::deliver` meets its contract: the walk's length is tested before anything is written. Assumes nothing.
 use mathlib.Core.Path.{◌≡◌, sym, ◌∙◌}
 use mathlib.Core.Bool.{true}
-use borrow.Author.Tests.{not-true, not-false}
 use Rattle.evaluate.proofs.Passes.{delivered_not, delivered}
-use borrow.Author.Rules.{rules}
 use Rattle.evaluate.proofs.writing.deliver.Lts as lts
 use Rattle.evaluate.proofs.writing.deliver.Reads as reads
 use Rattle.evaluate.proofs.writing.deliver.Tie as tie

@@ -1,8 +1,6 @@
 -- `evaluate::writing::end_cursor` meets its contract. Assumes nothing.
-use native.Mathlib.Omega.{arith}
 use borrow.Author.Tests.{eq-eqb, ne_eqb}
 use Rattle.evaluate.specs.Writing.{end_cursor_of}
-use borrow.Author.Rules.{rules}
 use Rattle.evaluate.proofs.writing.end_cursor.Goals as goal
 
 pub returns-then-whole_up-eq0 : goal.returns-then-whole_up-eq0

@@ -1,6 +1,5 @@
 -- `evaluate::writing::write_entry` meets its contract. Assumes nothing.
 use Rattle.evaluate.specs.Writing.{write_entry_of}
-use borrow.Author.Rules.{rules}
 use Rattle.evaluate.proofs.writing.write_entry.Goals as goal
 
 pub returns : goal.returns

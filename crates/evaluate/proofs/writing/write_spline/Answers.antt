@@ -1,10 +1,9 @@
 -- `evaluate::writing::write_spline` meets its contract: the Start, the steps and the End, one after the other. Assumes nothing.
 use Prim.Native.Nat.{◌+◌, ◌≤◌}
 use native.Mathlib.Omega.{arith}
-use mathlib.Core.Path.{◌≡◌, ◌∙◌}
+use mathlib.Core.Path.{◌≡◌}
 use Rattle.point.specs.declared.Setting.TheVariants.{Screen}
 use Rattle.evaluate.proofs.Passes.{few, start_place, end_place, spline_passes}
-use borrow.Author.Rules.{rules}
 use Rattle.evaluate.proofs.writing.write_spline.Lts as lts
 use Rattle.evaluate.proofs.writing.write_spline.Reads as reads
 use Rattle.evaluate.proofs.writing.write_spline.Tie as tie

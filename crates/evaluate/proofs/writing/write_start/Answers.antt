@@ -1,7 +1,5 @@
 -- `evaluate::writing::write_start` meets its contract. Assumes nothing.
-use borrow.Author.Tests.{not-true, not-false}
 use Rattle.evaluate.specs.Writing.{write_start_of}
-use borrow.Author.Rules.{rules}
 use Rattle.evaluate.proofs.writing.write_start.Goals as goal
 
 pub returns-then-not-starts : goal.returns-then-not-starts

@@ -1,9 +1,6 @@
 -- `evaluate::writing::write_steps` meets its contract: the loop counts down the steps that are left. Assumes nothing.
-use native.Mathlib.Omega.{arith}
-use borrow.Author.Rules.{rules}
-use Rattle.tables.specs.Tables.{quad_table, quad_row_at}
-use Rattle.evaluate.specs.Output.{output}
-use Rattle.evaluate.proofs.Passes.{Stepping, stepping_start, stepping_more, stepping_end}
+use Rattle.tables.specs.Tables.{quad_row_at}
+use Rattle.evaluate.proofs.Passes.{stepping_start, stepping_more, stepping_end}
 use Rattle.evaluate.proofs.writing.write_steps.Goals as goal
 
 pub loop-left-init : goal.loop-left-init

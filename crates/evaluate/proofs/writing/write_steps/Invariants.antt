@@ -1,9 +1,7 @@
 -- `evaluate::writing::write_steps` meets its contract: the loop counts down the steps that are left. Assumes nothing.
-use native.Mathlib.Omega.{arith}
-use borrow.Author.Rules.{rules}
 use Rattle.tables.specs.Tables.{quad_table, quad_row_at}
 use Rattle.evaluate.specs.Output.{output}
-use Rattle.evaluate.proofs.Passes.{Stepping, stepping_start, stepping_more, stepping_end}
+use Rattle.evaluate.proofs.Passes.{Stepping}
 use Rattle.evaluate.proofs.writing.write_steps.Given as goal
 
 abbrev pub invariant-loop-left : goal.invariant-loop-left

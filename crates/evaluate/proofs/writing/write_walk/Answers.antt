@@ -1,9 +1,5 @@
 -- `evaluate::writing::write_walk` meets its contract: the loop counts down the splines that are left. Assumes nothing.
-use native.Mathlib.Omega.{arith}
-use borrow.Author.Rules.{rules}
-use Rattle.tables.specs.Tables.{quad_table, spline_table, quad_row_at}
-use Rattle.evaluate.specs.Output.{output}
-use Rattle.evaluate.proofs.Passes.{Walking, walking_start, walking_more, walking_end}
+use Rattle.evaluate.proofs.Passes.{walking_start, walking_more, walking_end}
 use Rattle.evaluate.proofs.writing.write_walk.Goals as goal
 
 pub loop-left-init : goal.loop-left-init

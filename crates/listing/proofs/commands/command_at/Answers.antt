@@ -1,9 +1,8 @@
 -- `listing::command_at` meets its contract: the end of the text, no op line, or the command of the first op line that matches. Assumes nothing.
-use mathlib.Core.Path.{◌≡◌, refl, sym, ap, ◌∙◌}
+use mathlib.Core.Path.{sym, ◌∙◌}
 use borrow.Author.Tests.{le-leb, lt-leb}
 use Rattle.listing.specs.Reading.{ops, command_at}
 use Rattle.listing.proofs.CommandLaws.{try_wrong, try_found}
-use borrow.Author.Rules.{rules}
 use Rattle.listing.proofs.commands.command_at.Goals as goal
 
 pub returns-then-listing-at : goal.returns-then-listing-at

@@ -10,7 +10,6 @@ use Rattle.listing.specs.declared.Op.TheVariants.{Move, Line, Quad, RatQuad, Cub
 use Rattle.listing.specs.Grammar.{op_line_of}
 use Rattle.listing.specs.Reading.{command_from}
 use Rattle.listing.proofs.CommandLaws.{behind_op}
-use borrow.Author.Rules.{rules}
 use Rattle.listing.proofs.commands.command_from.Goals as goal
 
 told_stands : (text : List ℕ) (at : ℕ) (op op' : Op) → op ≡ op' → stands_at text at (op_line_of op) ≡ true → stands_at text at (op_line_of op') ≡ true

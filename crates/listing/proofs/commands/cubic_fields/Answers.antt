@@ -4,7 +4,6 @@ use Rattle.listing.specs.declared.Op.TheVariants.{Cubic}
 use Rattle.listing.specs.Grammar.{keys_of, call_of}
 use Rattle.listing.proofs.PointLaws.{three_seen}
 use Rattle.listing.proofs.CommandLaws.{fields_fault, fields_drawn}
-use borrow.Author.Rules.{rules}
 use Rattle.listing.proofs.commands.cubic_fields.Goals as goal
 
 pub returns-in-Wrong : goal.returns-in-Wrong

@@ -1,12 +1,10 @@
 -- `listing::move_fields` meets its contract: the two fields are the point. Assumes nothing.
 use mathlib.Core.Path.{refl}
-use mathlib.Core.List.{[], ◌∷◌}
 use native.Mathlib.Omega.{arith}
 use Rattle.listing.specs.declared.Op.TheVariants.{Move}
 use Rattle.listing.specs.Grammar.{keys_of, call_of}
 use Rattle.listing.proofs.PointLaws.{pair_seen}
 use Rattle.listing.proofs.CommandLaws.{fields_fault, fields_drawn}
-use borrow.Author.Rules.{rules}
 use Rattle.listing.proofs.commands.move_fields.Goals as goal
 
 pub returns-in-Wrong : goal.returns-in-Wrong

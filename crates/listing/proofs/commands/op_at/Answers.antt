@@ -2,7 +2,6 @@
 use mathlib.Core.Path.{sym, ◌∙◌}
 use Rattle.listing.specs.Grammar.{op_line_of}
 use Rattle.listing.specs.Reading.{op_at_of}
-use borrow.Author.Rules.{rules}
 use Rattle.listing.proofs.commands.op_at.Goals as goal
 
 pub returns-then-stands_at : goal.returns-then-stands_at

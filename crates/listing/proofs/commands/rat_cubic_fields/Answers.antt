@@ -1,5 +1,5 @@
 -- `listing::rat_cubic_fields` meets its contract: three points, and the two weights after them. Assumes nothing.
-use mathlib.Core.Path.{refl, sym, ◌∙◌}
+use mathlib.Core.Path.{refl}
 use mathlib.Core.List.{[], ◌∷◌}
 use native.Mathlib.Omega.{arith}
 use Rattle.text.specs.Bytes.{bytes}
@@ -8,7 +8,6 @@ use Rattle.listing.specs.Grammar.{cubic_keys, keys_of, call_of}
 use Rattle.listing.proofs.FieldLaws.{part_wrong, part_read}
 use Rattle.listing.proofs.PointLaws.{pair_seen, three_seen, placed_behind}
 use Rattle.listing.proofs.CommandLaws.{fields_fault, fields_drawn}
-use borrow.Author.Rules.{rules}
 use Rattle.listing.proofs.commands.rat_cubic_fields.Goals as goal
 
 pub pair_at-requires : goal.pair_at-requires

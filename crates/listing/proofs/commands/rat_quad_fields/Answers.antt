@@ -7,7 +7,6 @@ use Rattle.listing.specs.Grammar.{quad_keys, keys_of, call_of}
 use Rattle.listing.proofs.FieldLaws.{part_wrong, part_read}
 use Rattle.listing.proofs.PointLaws.{two_seen}
 use Rattle.listing.proofs.CommandLaws.{fields_fault, fields_drawn, single_off, single_on}
-use borrow.Author.Rules.{rules}
 use Rattle.listing.proofs.commands.rat_quad_fields.Goals as goal
 
 pub returns-in_default : goal.returns-in_default

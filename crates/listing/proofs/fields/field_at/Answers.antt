@@ -1,22 +1,13 @@
 -- `listing::field_at` meets its contract: a field is refused at its first missing part. Assumes nothing.
-use mathlib.Core.Path.{◌≡◌, refl, sym, ap, ◌∙◌}
+use mathlib.Core.Path.{◌≡◌, sym, ap, ◌∙◌}
 use mathlib.Core.Bool.{Bool, true, false}
 use mathlib.Core.List.{List, [], ◌∷◌}
-use Prim.Native.Nat.{ℕ, ◌+◌, ◌≤◌}
+use Prim.Native.Nat.{ℕ, ◌+◌}
 use native.Mathlib.Omega.{arith}
-use borrow.Author.Tests.{not-true, not-false}
-use lib.ListN.{length}
-use Rattle.leaves.specs.Bits.{float_of}
-use Rattle.text.specs.declared.HexAt.{HexAt}
-use Rattle.text.specs.declared.HexAt.TheVariants as Hex
 use Rattle.text.specs.Bytes.{stands_at}
-use Rattle.text.specs.Hex.{hex_at_of}
 use Rattle.text.proofs.Standing.{stands_inside}
-use Rattle.listing.specs.declared.Field.{Field}
-use Rattle.listing.specs.declared.Field.TheVariants.{Value, Wrong}
-use Rattle.listing.specs.Reading.{field_at_of}
+use Rattle.listing.specs.declared.Field.TheVariants.{Value}
 use Rattle.listing.proofs.FieldLaws.{no_key, no_equals, no_number, no_end, all_there}
-use borrow.Author.Rules.{rules}
 use Rattle.listing.proofs.fields.field_at.Goals as goal
 
 -- the line end's place, eight after the digits' start

@@ -1,8 +1,7 @@
 -- `listing::pair_at` meets its contract: one field, then the other after it. Assumes nothing.
-use mathlib.Core.Path.{◌≡◌, refl, sym, ap, ◌∙◌}
+use mathlib.Core.Path.{sym, ◌∙◌}
 use native.Mathlib.Omega.{arith}
 use Rattle.listing.proofs.FieldLaws.{field_inside, first_off, second_off, both_on}
-use borrow.Author.Rules.{rules}
 use Rattle.listing.proofs.fields.pair_at.Goals as goal
 
 pub returns-in_default : goal.returns-in_default

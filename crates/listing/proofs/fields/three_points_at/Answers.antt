@@ -1,7 +1,6 @@
 -- `listing::three_points_at` meets its contract: two points, and one after them. Assumes nothing.
 use mathlib.Core.Path.{refl}
 use Rattle.listing.proofs.PointLaws.{pair_seen, two_seen, placed_behind, three_first_off, three_second_off, three_on}
-use borrow.Author.Rules.{rules}
 use Rattle.listing.proofs.fields.three_points_at.Goals as goal
 
 pub pair_at-requires : goal.pair_at-requires

@@ -1,7 +1,6 @@
 -- `listing::two_points_at` meets its contract: one point, and one after it. Assumes nothing.
 use native.Mathlib.Omega.{arith}
 use Rattle.listing.proofs.PointLaws.{pair_seen, placed_behind, two_first_off, two_second_off, two_on}
-use borrow.Author.Rules.{rules}
 use Rattle.listing.proofs.fields.two_points_at.Goals as goal
 
 pub pair_at-requires-in-Read : goal.pair_at-requires-in-Read

@@ -1,8 +1,6 @@
 -- `listing::built_from` meets its contract: the build is refused on line 0, or what it closed is ready. Assumes nothing.
 use mathlib.Core.Path.{sym, ◌∙◌}
-use borrow.Author.Tests.{not-true, not-false}
 use Rattle.listing.proofs.ProgramLaws.{build_refused, build_done}
-use borrow.Author.Rules.{rules}
 use Rattle.listing.proofs.program.built_from.Goals as goal
 
 pub returns-then-not-is_done : goal.returns-then-not-is_done

@@ -2,7 +2,6 @@
 use mathlib.Core.Path.{◌∙◌}
 use Rattle.listing.proofs.StepLaws.{progress_seen}
 use Rattle.listing.proofs.ProgramLaws.{too_long, after_stopped, after_finished, after_going}
-use borrow.Author.Rules.{rules}
 use Rattle.listing.proofs.program.drawn.Goals as goal
 
 -- ---- the needs

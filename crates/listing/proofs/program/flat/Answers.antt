@@ -1,7 +1,6 @@
 -- `listing::flat` meets its contract: the tables are the program's, and what is delivered is what the flattening delivers. Assumes nothing.
 use Rattle.listing.specs.Program.{zeros, program_quads, program_splines}
 use Rattle.listing.proofs.ToldLaws.{flat_told}
-use borrow.Author.Rules.{rules}
 use Rattle.listing.proofs.program.flat.Goals as goal
 
 pub returns : goal.returns

@@ -1,10 +1,8 @@
 -- `listing::listing` meets its contract: what is told in the program's own columns is listed. Assumes nothing.
 use mathlib.Core.Path.{sym, ◌∙◌}
-use borrow.Author.Tests.{not-true, not-false}
 use Rattle.listing.specs.Program.{zeros, program_output}
 use Rattle.listing.proofs.WritingLaws.{listed_seen}
 use Rattle.listing.proofs.ProgramLaws.{listed_few, listed_refusal, listed_report}
-use borrow.Author.Rules.{rules}
 use Rattle.listing.proofs.program.listing.Goals as goal
 
 pub returns-then-not-is_done : goal.returns-then-not-is_done

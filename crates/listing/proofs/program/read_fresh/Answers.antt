@@ -1,6 +1,5 @@
 -- `listing::read_fresh` meets its contract: a fresh drawing in the program's columns is done. Assumes nothing.
 use Rattle.listing.proofs.ProgramLaws.{read_fresh}
-use borrow.Author.Rules.{rules}
 use Rattle.listing.proofs.program.read_fresh.Goals as goal
 
 pub returns : goal.returns

@@ -2,7 +2,6 @@
 use mathlib.Core.Path.{refl}
 use Rattle.listing.specs.Program.{zeros, program_columns}
 use Rattle.listing.proofs.ToldLaws.{drawn_seen, refused_told, ready_told}
-use borrow.Author.Rules.{rules}
 use Rattle.listing.proofs.program.told.Goals as goal
 
 pub drawn-requires : goal.drawn-requires

@@ -1,16 +1,11 @@
 -- `listing::read` meets its contract: the steps that are left give what all of them give, and more steps than bytes are left. Assumes nothing.
-use mathlib.Core.Path.{◌≡◌, refl, sym, ap, ◌∙◌}
-use mathlib.Core.List.{List}
-use Prim.Native.Nat.{ℕ, ◌+◌, ◌-◌, ◌≤◌, ◌<◌}
-use native.Mathlib.Omega.{arith}
-use borrow.Author.Rules.{rules}
+use mathlib.Core.Path.{◌≡◌}
+use Prim.Native.Nat.{ℕ, ◌+◌, ◌-◌, ◌≤◌}
 use lib.ListN.{length}
 use Rattle.answer.specs.declared.Answer.TheVariants.{Done}
-use Rattle.store.specs.Columns.{Columns, columns}
+use Rattle.store.specs.Columns.{columns}
 use Rattle.store.specs.Drawing.{outcome}
-use Rattle.listing.specs.declared.Progress as Progresses
-use Rattle.listing.specs.Reading.{Placed, Progress, going, finished, stopped, step_of, steps_of, read_of, progress_of}
-use Rattle.listing.proofs.StepLaws.{Further, progress_seen, step_onward, steps_again, steps_end, steps_stop}
+use Rattle.listing.specs.Reading.{Placed, going, steps_of, read_of}
 use Rattle.listing.proofs.reading.read.Given as goal
 
 abbrev pub invariant-loop-s : goal.invariant-loop-s

@@ -1,8 +1,6 @@
 -- `listing::step` meets its contract: the end, a fault, or the call as the store answers it. Assumes nothing.
 use mathlib.Core.Path.{sym, ◌∙◌}
-use borrow.Author.Tests.{not-true, not-false}
 use Rattle.listing.proofs.StepLaws.{step_finish, step_fault, step_refused, step_drawn}
-use borrow.Author.Rules.{rules}
 use Rattle.listing.proofs.reading.step.Goals as goal
 
 pub returns-then-not-is_done : goal.returns-then-not-is_done

@@ -2,7 +2,6 @@
 use native.Mathlib.Omega.{arith}
 use Rattle.text.specs.Decimal.{decimal_of}
 use Rattle.listing.proofs.WritingLaws.{line-length, line_written}
-use borrow.Author.Rules.{rules}
 use Rattle.listing.proofs.writing.decimal_line.Goals as goal
 
 pub overflow_add-end : goal.overflow_add-end

@@ -1,9 +1,7 @@
 -- `listing::head_length` meets its contract. Assumes nothing.
-use mathlib.Core.Path.{sym, ◌∙◌}
 use native.Mathlib.Omega.{arith}
 use Rattle.text.proofs.Decimals.{decimal_short}
 use Rattle.listing.proofs.WritingLaws.{head_length_is}
-use borrow.Author.Rules.{rules}
 use Rattle.listing.proofs.writing.head_length.Goals as goal
 
 pub overflow_add-result : goal.overflow_add-result

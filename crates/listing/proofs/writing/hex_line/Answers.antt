@@ -1,13 +1,8 @@
 -- `listing::hex_line` meets its contract: key, equals sign, eight digits, line end. Assumes nothing.
-use mathlib.Core.Path.{sym, ap, ◌∙◌}
-use mathlib.Core.List.{List}
-use Prim.Native.Nat.{ℕ}
+use mathlib.Core.Path.{sym}
 use native.Mathlib.Omega.{arith}
-use lib.Seq.{sets}
 use Rattle.leaves.specs.Bits.{bits_of}
-use Rattle.text.specs.Hex.{hex_of}
 use Rattle.listing.proofs.WritingLaws.{hex_length, hex_line_length, hex_seen, line_written}
-use borrow.Author.Rules.{rules}
 use Rattle.listing.proofs.writing.hex_line.Goals as goal
 
 pub overflow_add-end : goal.overflow_add-end

@@ -1,6 +1,5 @@
 -- `listing::point_lines` meets its contract: three lines of 11, 11 and 6 bytes. Assumes nothing.
 use mathlib.Core.Path.{◌≡◌, ap, ◌∙◌}
-use mathlib.Core.List.{List, [], ◌∷◌}
 use Prim.Native.Nat.{ℕ}
 use native.Mathlib.Omega.{arith}
 use lib.ListN.{length}
@@ -11,7 +10,6 @@ use Rattle.text.specs.Decimal.{decimal_of}
 use Rattle.listing.specs.Writing.{line_of, point_lines}
 use Rattle.text.proofs.Written.{written_then, written_same}
 use Rattle.listing.proofs.WritingLaws.{flag_length, hex_line_length, line-length}
-use borrow.Author.Rules.{rules}
 use Rattle.listing.proofs.writing.point_lines.Goals as goal
 
 pub hex_line-second-requires : goal.hex_line-second-requires

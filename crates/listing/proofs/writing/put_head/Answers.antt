@@ -5,7 +5,6 @@ use Rattle.text.specs.Decimal.{decimal_of}
 use Rattle.listing.specs.Writing.{head_of}
 use Rattle.listing.proofs.WritingLaws.{head_length_is, line-length}
 use Rattle.text.proofs.Written.{written_then}
-use borrow.Author.Rules.{rules}
 use Rattle.listing.proofs.writing.put_head.Goals as goal
 
 pub decimal_line-second-requires : goal.decimal_line-second-requires

@@ -1,16 +1,9 @@
 -- `listing::put_points` meets its contract: the points that are left, written after those already written. Assumes nothing.
-use mathlib.Core.Path.{◌≡◌, refl, sym, ap, ◌∙◌}
-use mathlib.Core.List.{List}
-use Prim.Native.Nat.{ℕ, ◌+◌, ◌-◌, ◌*◌, ◌≤◌, ◌<◌}
-use native.Mathlib.Nat.{sub-zero}
+use mathlib.Core.Path.{◌∙◌}
 use native.Mathlib.Omega.{arith}
-use borrow.Author.Rules.{rules}
-use lib.ListN.{length}
-use lib.Seq.{sets}
 use Rattle.columns.specs.Flags.{is_flag_of}
 use Rattle.point.specs.Point.{point_at}
 use Rattle.evaluate.specs.Evaluate.{finished}
-use Rattle.listing.specs.Writing.{all_point_lines, column_points}
 use Rattle.text.proofs.Written.{written_same}
 use Rattle.listing.proofs.WritingLaws.{point_length, row_lines, point_on, points_end}
 use Rattle.listing.proofs.writing.put_points.Goals as goal

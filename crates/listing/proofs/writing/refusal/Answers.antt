@@ -4,7 +4,6 @@ use Rattle.text.specs.Bytes.{bytes}
 use Rattle.text.specs.Decimal.{decimal_of}
 use Rattle.text.proofs.Decimals.{decimal_short}
 use Rattle.listing.proofs.WritingLaws.{line-length, refusal_short, refusal_bytes}
-use borrow.Author.Rules.{rules}
 use Rattle.listing.proofs.writing.refusal.Goals as goal
 
 pub overflow_add-needed : goal.overflow_add-needed

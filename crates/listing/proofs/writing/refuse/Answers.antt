@@ -1,11 +1,7 @@
 -- `listing::refuse` meets its contract: the head alone, if it fits. Assumes nothing.
-use mathlib.Core.Path.{sym, ap, ◌∙◌}
-use mathlib.Core.List.{List}
-use Prim.Native.Nat.{ℕ}
 use native.Mathlib.Omega.{arith}
-use Rattle.listing.specs.Writing.{head_of, listed_as}
+use Rattle.listing.specs.Writing.{head_of}
 use Rattle.listing.proofs.WritingLaws.{refusal_report, listed_short, listed_bytes, listed_seen}
-use borrow.Author.Rules.{rules}
 use Rattle.listing.proofs.writing.refuse.Goals as goal
 
 pub returns-then-output-needed : goal.returns-then-output-needed

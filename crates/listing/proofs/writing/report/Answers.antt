@@ -2,7 +2,6 @@
 use native.Mathlib.Omega.{arith}
 use Rattle.text.proofs.Decimals.{decimal_short}
 use Rattle.listing.proofs.WritingLaws.{head_length_is, report_short, report_bytes}
-use borrow.Author.Rules.{rules}
 use Rattle.listing.proofs.writing.report.Goals as goal
 
 pub overflow_add-needed : goal.overflow_add-needed

@@ -1,16 +1,14 @@
 -- `plot::measuring::move_length` meets its contract. Assumes nothing.
-use mathlib.Core.Path.{◌≡◌, sym, ap, ◌∙◌}
+use mathlib.Core.Path.{◌≡◌, ap, ◌∙◌}
 use mathlib.Core.Bool.{true}
-use Prim.Native.Nat.{ℕ, ◌+◌, ◌≤◌}
 use native.Mathlib.Omega.{arith}
 use lib.IntN.{ℤ}
 use lib.ListN.{length}
 use Rattle.text.specs.Signed.{signed_of}
 use Rattle.text.proofs.Minus.{signed_short}
 use Rattle.contours.specs.Finished.{position}
-use Rattle.plot.proofs.Spots.{wide_fits, wide_back}
+use Rattle.plot.proofs.Spots.{wide_back}
 use Rattle.plot.proofs.Measure.{move_length_is}
-use borrow.Author.Rules.{rules}
 use Rattle.plot.proofs.measuring.move_length.Lts as lts
 use Rattle.plot.proofs.measuring.move_length.Reads as reads
 use Rattle.plot.proofs.measuring.move_length.Tie as tie

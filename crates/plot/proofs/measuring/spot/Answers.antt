@@ -1,6 +1,5 @@
 -- `plot::measuring::spot` meets its contract. Assumes nothing.
 use mathlib.Core.Path.{sym, ap₂, ◌∙◌}
-use borrow.Author.Rules.{rules}
 use Rattle.plot.specs.declared.Spot.TheVariants.{At}
 use Rattle.plot.proofs.Spots.{no_x, no_y, both, narrow_back}
 use Rattle.plot.proofs.measuring.spot.Goals as goal

@@ -2,7 +2,7 @@
 use mathlib.Core.Path.{◌≡◌, ap}
 use mathlib.Core.List.{[], ◌∷◌}
 use mathlib.Core.Bool.{true}
-use Prim.Native.Nat.{ℕ, ◌+◌, ◌≤◌}
+use Prim.Native.Nat.{◌+◌}
 use native.Mathlib.Omega.{arith}
 use lib.IntN.{ℤ}
 use lib.ListN.{length, length-append}
@@ -14,7 +14,6 @@ use Rattle.plot.specs.Text.{pen_of}
 use Rattle.plot.proofs.Measure.{pen_length, move_length_is}
 use Rattle.plot.proofs.Spots.{narrow_back}
 use Rattle.plot.proofs.Writes.{move_written}
-use borrow.Author.Rules.{rules}
 use Rattle.plot.proofs.writing.put_move.Lts as lts
 use Rattle.plot.proofs.writing.put_move.Reads as reads
 use Rattle.plot.proofs.writing.put_move.Tie as tie

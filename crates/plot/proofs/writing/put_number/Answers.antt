@@ -1,13 +1,6 @@
 -- `plot::writing::put_number` meets its contract. Assumes nothing.
-use mathlib.Core.Path.{◌≡◌, ap, ◌∙◌}
-use Prim.Native.Nat.{ℕ, ◌+◌, ◌≤◌}
-use native.Mathlib.Omega.{arith}
-use lib.IntN.{ℤ}
-use lib.ListN.{length}
-use Rattle.text.specs.Signed.{signed_of}
-use Rattle.plot.proofs.Spots.{wide_fits, wide_back}
+use Rattle.plot.proofs.Spots.{wide_back}
 use Rattle.plot.proofs.Writes.{number_written}
-use borrow.Author.Rules.{rules}
 use Rattle.plot.proofs.writing.put_number.Goals as goal
 
 pub returns : goal.returns

@@ -2,7 +2,6 @@
 use mathlib.Core.Bool.{true, false}
 use Rattle.plot.specs.Text.{pen_of}
 use Rattle.plot.proofs.Writes.{pen_written}
-use borrow.Author.Rules.{rules}
 use Rattle.plot.proofs.writing.put_pen.Goals as goal
 
 pub returns-then-up : goal.returns-then-up

@@ -1,5 +1,4 @@
 -- `plot::writing::put_text` meets its contract: the first three bytes, then the moves. Assumes nothing.
-use borrow.Author.Rules.{rules}
 use Rattle.contours.specs.Finished.{finished_of}
 use Rattle.plot.proofs.Filling.{moves_fit, text_written}
 use Rattle.plot.proofs.writing.put_text.Goals as goal

@@ -1,6 +1,5 @@
 -- `plotting::flags::chosen` meets its contract: the flag is compared with each name in turn. Assumes nothing.
 use mathlib.Core.Path.{sym, ◌∙◌}
-use borrow.Author.Rules.{rules}
 use Rattle.plotting.proofs.ChoiceLaws.{is_knife, is_screen, is_unknown}
 use Rattle.plotting.proofs.flags.chosen.Goals as goal
 

@@ -1,6 +1,5 @@
 -- `plotting::flags::is_all` meets its contract: texts of one length, and one stands at the start of the other. Assumes nothing.
 use mathlib.Core.Path.{◌∙◌}
-use borrow.Author.Rules.{rules}
 use Rattle.text.proofs.Standing.{stands_whole}
 use Rattle.plotting.proofs.ChoiceLaws.{other_length}
 use Rattle.plotting.proofs.flags.is_all.Goals as goal

@@ -1,8 +1,6 @@
 -- `plotting::program::plot_listing` meets its contract: what is told in the program's own columns is plotted. Assumes nothing.
 use mathlib.Core.Path.{sym, ◌∙◌}
 use native.Mathlib.Omega.{arith}
-use borrow.Author.Rules.{rules}
-use borrow.Author.Tests.{not-true, not-false}
 use Rattle.listing.specs.Program.{zeros, program_output}
 use Rattle.plotting.proofs.PlotLaws.{told_few, plot_refused, plot_done}
 use Rattle.plotting.proofs.program.plot_listing.Goals as goal

@@ -2,7 +2,6 @@
 use Rattle.leaves.specs.Single.{◌⊗◌}
 use Rattle.point.specs.Angle.{angle_of}
 use Rattle.point.specs.Point.{len_of}
-use borrow.Author.Rules.{rules}
 use Rattle.point.proofs.Lengths.{long_enough}
 use Rattle.point.proofs.Point.angle.Goals as goal
 

@@ -1,6 +1,5 @@
 -- `point::Point::len` meets its contract: one rounding for each operation. Assumes nothing.
 use Rattle.point.specs.Point.{len_of}
-use borrow.Author.Rules.{rules}
 use Rattle.point.proofs.Point.len.Goals as goal
 
 pub returns : goal.returns

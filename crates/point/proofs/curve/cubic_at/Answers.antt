@@ -1,6 +1,5 @@
 -- `point::curve::cubic_at` meets its contract: the lerp in the middle serves both quads. Assumes nothing.
 use Rattle.point.specs.Curve.{cubic_at_of, quad_at_of}
-use borrow.Author.Rules.{rules}
 use Rattle.point.proofs.curve.cubic_at.Goals as goal
 
 pub returns : goal.returns

@@ -1,5 +1,4 @@
 -- `point::curve::cubic_weight` meets its contract: if the tests hold, each lerp gives 1. Assumes nothing.
-use borrow.Author.Rules.{rules}
 use Rattle.point.proofs.Ones.{cubic_ones}
 use Rattle.point.proofs.curve.cubic_weight.Goals as goal
 

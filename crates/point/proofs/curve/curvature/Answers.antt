@@ -1,6 +1,5 @@
 -- `point::curve::curvature` meets its contract: each leaf is the definition's. Assumes nothing.
 use Rattle.point.specs.Curve.{curvature_of}
-use borrow.Author.Rules.{rules}
 use Rattle.point.proofs.curve.curvature.Goals as goal
 
 pub returns : goal.returns

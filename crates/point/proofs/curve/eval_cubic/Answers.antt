@@ -1,6 +1,5 @@
 -- `point::curve::eval_cubic` meets its contract: x and y by `cubic_at`, the weight by `cubic_weight`. Assumes nothing.
 use Rattle.point.specs.Curve.{eval_cubic_of}
-use borrow.Author.Rules.{rules}
 use Rattle.point.proofs.curve.eval_cubic.Goals as goal
 
 pub returns : goal.returns

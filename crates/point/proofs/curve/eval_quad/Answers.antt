@@ -1,6 +1,5 @@
 -- `point::curve::eval_quad` meets its contract: the weight by `quad_weight`, x and y by `quad_at`. Assumes nothing.
 use Rattle.point.specs.Curve.{eval_quad_of}
-use borrow.Author.Rules.{rules}
 use Rattle.point.proofs.curve.eval_quad.Goals as goal
 
 pub returns : goal.returns

@@ -1,6 +1,5 @@
 -- `point::curve::inv_curvature` meets its contract: each leaf is the definition's. Assumes nothing.
 use Rattle.point.specs.Curve.{inv_curvature_of}
-use borrow.Author.Rules.{rules}
 use Rattle.point.proofs.curve.inv_curvature.Goals as goal
 
 pub returns : goal.returns

@@ -1,6 +1,5 @@
 -- `point::curve::lerp` meets its contract: its two fused operations are the definition's. Assumes nothing.
 use Rattle.point.specs.Curve.{lerp_of}
-use borrow.Author.Rules.{rules}
 use Rattle.point.proofs.curve.lerp.Goals as goal
 
 pub returns : goal.returns

@@ -1,5 +1,4 @@
 -- `point::curve::lessened` meets its contract: if the tests hold, the product is the fused operation. Assumes nothing.
-use borrow.Author.Rules.{rules}
 use Rattle.point.proofs.Exact.{product_fused}
 use Rattle.point.proofs.curve.lessened.Goals as goal
 

@@ -1,6 +1,5 @@
 -- `point::curve::quad_at` meets its contract: each lerp is the definition's. Assumes nothing.
 use Rattle.point.specs.Curve.{quad_at_of}
-use borrow.Author.Rules.{rules}
 use Rattle.point.proofs.curve.quad_at.Goals as goal
 
 pub returns : goal.returns

@@ -1,5 +1,4 @@
 -- `point::curve::quad_weight` meets its contract: if the tests hold, each lerp gives 1. Assumes nothing.
-use borrow.Author.Rules.{rules}
 use Rattle.point.proofs.Ones.{quad_ones}
 use Rattle.point.proofs.curve.quad_weight.Goals as goal
 

@@ -1,5 +1,4 @@
 -- `point::curve::quarter_plus` meets its contract: if the tests hold, the product is exact. Assumes nothing.
-use borrow.Author.Rules.{rules}
 use Rattle.point.proofs.Quarter.{quarter_fused}
 use Rattle.point.proofs.curve.quarter_plus.Goals as goal
 

@@ -1,11 +1,9 @@
 -- `point::direction::approx_atan2` meets its contract: each leaf is the definition's, and so is the value where the arms of each test meet. Assumes nothing.
 use mathlib.Core.Path.{◌≡◌, refl}
-use mathlib.Core.Logic.{⊎_elim}
 use mathlib.Core.Bool.{cond}
 use lib.Ieee.{lt, neg, of_bits}
 use Rattle.leaves.specs.Single.{◌⊖◌, f32, zero32}
 use Rattle.point.specs.Angle.{pi, half_pi, approx_atan2_of}
-use borrow.Author.Rules.{rules}
 use Rattle.point.proofs.direction.approx_atan2.Goals.{else-x, else-y_abs-x_abs, then-x, then-y_abs-x_abs}
 use Rattle.point.proofs.direction.approx_atan2.Lts as lts
 use Rattle.point.proofs.direction.approx_atan2.Reads as reads

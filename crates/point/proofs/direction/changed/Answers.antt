@@ -1,6 +1,5 @@
 -- `point::direction::changed` meets its contract: both angles have to be known. Assumes nothing.
 use Rattle.point.specs.Angle.{changed_of}
-use borrow.Author.Rules.{rules}
 use Rattle.point.proofs.direction.changed.Goals as goal
 
 pub returns-in-Missing : goal.returns-in-Missing

@@ -1,11 +1,9 @@
 -- `point::direction::diff` meets its contract: where the arms meet, each fold is the definition's. Assumes nothing.
 use mathlib.Core.Path.{◌≡◌}
-use mathlib.Core.Logic.{⊎_elim}
 use mathlib.Core.Bool.{cond}
 use lib.Ieee.{lt}
 use Rattle.leaves.specs.Single.{◌⊖◌}
 use Rattle.point.specs.Angle.{pi, diff_of}
-use borrow.Author.Rules.{rules}
 use Rattle.point.proofs.direction.diff.Goals.{else-diff, then-diff}
 use Rattle.point.proofs.direction.diff.Lts as lts
 use Rattle.point.proofs.direction.diff.Reads as reads

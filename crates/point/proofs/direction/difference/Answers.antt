@@ -1,6 +1,5 @@
 -- `point::direction::difference` meets its contract: each setting has its own. Assumes nothing.
 use Rattle.point.specs.Angle.{difference_of}
-use borrow.Author.Rules.{rules}
 use Rattle.point.proofs.direction.difference.Goals as goal
 
 pub returns-in-Screen : goal.returns-in-Screen

@@ -1,6 +1,5 @@
 -- `point::direction::full_diff` meets its contract: the rest of the turn where it is smaller. Assumes nothing.
 use Rattle.point.specs.Angle.{full_diff_of}
-use borrow.Author.Rules.{rules}
 use Rattle.point.proofs.direction.full_diff.Goals as goal
 
 pub returns-then-rest-turn : goal.returns-then-rest-turn

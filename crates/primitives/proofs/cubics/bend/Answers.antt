@@ -1,6 +1,5 @@
 -- `primitives::cubics::bend` meets its contract. Assumes nothing.
 use Rattle.primitives.specs.Cubics.{bend_of}
-use borrow.Author.Rules.{rules}
 use Rattle.primitives.proofs.cubics.bend.Goals as goal
 
 pub returns : goal.returns

@@ -3,7 +3,6 @@ use mathlib.Core.Path.{◌≡◌, refl}
 use lib.Ieee.{neg, of_bits}
 use Rattle.leaves.specs.Single.{f32, half32}
 use Rattle.primitives.specs.Cubics.{control_of}
-use borrow.Author.Rules.{rules}
 use Rattle.primitives.proofs.cubics.control.Goals as goal
 
 minus_half : neg half32 ≡ f32 0xbf00_0000

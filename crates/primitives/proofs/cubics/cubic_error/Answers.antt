@@ -1,6 +1,5 @@
 -- `primitives::cubics::cubic_error` meets its contract. Assumes nothing.
 use Rattle.primitives.specs.Cubics.{cubic_error_of}
-use borrow.Author.Rules.{rules}
 use Rattle.primitives.proofs.cubics.cubic_error.Goals as goal
 
 pub returns : goal.returns

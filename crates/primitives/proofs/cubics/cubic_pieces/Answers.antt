@@ -1,6 +1,5 @@
 -- `primitives::cubics::cubic_pieces` meets its contract. Assumes nothing.
 use Rattle.primitives.specs.Cubics.{cubic_pieces_of}
-use borrow.Author.Rules.{rules}
 use Rattle.primitives.proofs.cubics.cubic_pieces.Goals as goal
 
 pub returns : goal.returns

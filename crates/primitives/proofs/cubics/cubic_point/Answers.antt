@@ -1,6 +1,5 @@
 -- `primitives::cubics::cubic_point` meets its contract. Assumes nothing.
 use Rattle.primitives.specs.Cubics.{cubic_point_of}
-use borrow.Author.Rules.{rules}
 use Rattle.primitives.proofs.cubics.cubic_point.Goals as goal
 
 pub returns : goal.returns

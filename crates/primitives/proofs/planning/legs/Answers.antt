@@ -1,6 +1,5 @@
 -- `primitives::planning::legs` meets its contract. Assumes nothing.
 use Rattle.primitives.specs.Shapes.{legs_of}
-use borrow.Author.Rules.{rules}
 use Rattle.primitives.proofs.planning.legs.Goals as goal
 
 pub returns-in-Missing-out_angle : goal.returns-in-Missing-out_angle

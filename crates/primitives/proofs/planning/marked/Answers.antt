@@ -1,6 +1,5 @@
 -- `primitives::planning::marked` meets its contract. Assumes nothing.
 use Rattle.primitives.specs.Plan.{marked_of}
-use borrow.Author.Rules.{rules}
 use Rattle.primitives.proofs.planning.marked.Goals as goal
 
 pub returns : goal.returns

@@ -1,6 +1,5 @@
 -- `primitives::planning::plan` meets its contract. Assumes nothing.
 use Rattle.primitives.proofs.Shapes.{plan_shape_of, planned}
-use borrow.Author.Rules.{rules}
 use Rattle.primitives.proofs.planning.plan.Goals as goal
 
 pub returns-in-Nothing : goal.returns-in-Nothing

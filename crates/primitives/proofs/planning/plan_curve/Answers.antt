@@ -1,8 +1,6 @@
 -- `primitives::planning::plan_curve` meets its contract. Assumes nothing.
-use Rattle.primitives.proofs.Refusals.{countable}
 use borrow.Author.Tests.{le-leb, lt-leb}
 use Rattle.primitives.specs.Plan.{plan_curve_of}
-use borrow.Author.Rules.{rules}
 use Rattle.primitives.proofs.planning.plan_curve.Goals as goal
 
 pub returns-then-caps-st : goal.returns-then-caps-st

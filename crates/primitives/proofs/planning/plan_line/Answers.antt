@@ -1,7 +1,5 @@
 -- `primitives::planning::plan_line` meets its contract. Assumes nothing.
-use Rattle.primitives.proofs.Refusals.{countable}
 use Rattle.primitives.specs.Plan.{plan_line_of}
-use borrow.Author.Rules.{rules}
 use Rattle.primitives.proofs.planning.plan_line.Goals as goal
 
 pub returns-then-opens-caps : goal.returns-then-opens-caps

@@ -1,6 +1,5 @@
 -- `primitives::planning::quad_shape` meets its contract. Assumes nothing.
 use Rattle.primitives.specs.Shapes.{quad_shape_of}
-use borrow.Author.Rules.{rules}
 use Rattle.primitives.proofs.planning.quad_shape.Goals as goal
 
 pub returns : goal.returns

@@ -1,6 +1,5 @@
 -- `primitives::planning::shape` meets its contract. Assumes nothing.
 use Rattle.primitives.specs.Shapes.{shape_of}
-use borrow.Author.Rules.{rules}
 use Rattle.primitives.proofs.planning.shape.Goals as goal
 
 pub returns-in-Contour : goal.returns-in-Contour

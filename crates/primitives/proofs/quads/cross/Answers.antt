@@ -1,6 +1,5 @@
 -- `primitives::quads::cross` meets its contract. Assumes nothing.
 use Rattle.primitives.specs.Quads.{cross_of}
-use borrow.Author.Rules.{rules}
 use Rattle.primitives.proofs.quads.cross.Goals as goal
 
 pub returns : goal.returns

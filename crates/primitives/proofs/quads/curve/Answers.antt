@@ -1,6 +1,5 @@
 -- `primitives::quads::curve` meets its contract. Assumes nothing.
 use Rattle.primitives.specs.Quads.{curve_of}
-use borrow.Author.Rules.{rules}
 use Rattle.primitives.proofs.quads.curve.Goals as goal
 
 pub returns-then-straight : goal.returns-then-straight

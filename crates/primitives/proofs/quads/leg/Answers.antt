@@ -1,6 +1,5 @@
 -- `primitives::quads::leg` meets its contract. Assumes nothing.
 use Rattle.primitives.specs.Quads.{leg_of}
-use borrow.Author.Rules.{rules}
 use Rattle.primitives.proofs.quads.leg.Goals as goal
 
 pub returns : goal.returns

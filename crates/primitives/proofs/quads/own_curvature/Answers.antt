@@ -1,6 +1,5 @@
 -- `primitives::quads::own_curvature` meets its contract. Assumes nothing.
 use Rattle.primitives.specs.Quads.{own_curvature_of}
-use borrow.Author.Rules.{rules}
 use Rattle.primitives.proofs.quads.own_curvature.Goals as goal
 
 pub returns : goal.returns

@@ -1,6 +1,5 @@
 -- `primitives::splines::apart` meets its contract. Assumes nothing.
 use Rattle.primitives.specs.Splines.{apart_of}
-use borrow.Author.Rules.{rules}
 use Rattle.primitives.proofs.splines.apart.Goals as goal
 
 pub returns-in-Screen : goal.returns-in-Screen

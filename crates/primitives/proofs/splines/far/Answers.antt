@@ -3,7 +3,6 @@ use Rattle.leaves.specs.Single.{◌⊗◌}
 use Rattle.point.specs.Point.{len_of, minus_of}
 use Rattle.point.proofs.Lengths.{far_enough}
 use Rattle.primitives.specs.Splines.{far_of}
-use borrow.Author.Rules.{rules}
 use Rattle.primitives.proofs.splines.far.Goals as goal
 
 pub returns : goal.returns

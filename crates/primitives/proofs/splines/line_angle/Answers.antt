@@ -1,6 +1,5 @@
 -- `primitives::splines::line_angle` meets its contract. Assumes nothing.
 use Rattle.primitives.specs.Splines.{line_angle_of}
-use borrow.Author.Rules.{rules}
 use Rattle.primitives.proofs.splines.line_angle.Goals as goal
 
 pub returns-in-Screen : goal.returns-in-Screen

@@ -1,6 +1,5 @@
 -- `primitives::splines::opens` meets its contract. Assumes nothing.
 use Rattle.primitives.specs.Splines.{opens_of}
-use borrow.Author.Rules.{rules}
 use Rattle.primitives.proofs.splines.opens.Goals as goal
 
 pub returns : goal.returns

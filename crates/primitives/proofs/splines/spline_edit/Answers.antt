@@ -1,7 +1,5 @@
 -- `primitives::splines::spline_edit` meets its contract. Assumes nothing.
-use native.Mathlib.Omega.{arith}
 use Rattle.primitives.specs.Splines.{spline_edit_of}
-use borrow.Author.Rules.{rules}
 use Rattle.primitives.proofs.splines.spline_edit.Goals as goal
 
 pub returns-then-opens : goal.returns-then-opens

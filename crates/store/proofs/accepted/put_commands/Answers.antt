@@ -1,8 +1,5 @@
 -- `store::accepted::put_commands` meets its contract: by the case of the marks, each write is the definition's. Assumes nothing.
-use native.Mathlib.Omega.{arith}
 use mathlib.Core.Path.{refl}
-use lib.ListN.{length-set}
-use borrow.Author.Rules.{rules}
 use Rattle.store.proofs.Writing.{marks_told}
 use Rattle.store.specs.Columns.{put_command}
 use Rattle.store.specs.Drawing.{put_commands}

@@ -1,8 +1,6 @@
 -- `store::accepted::put_points` meets its contract: by the case of the batch, one `put_point` after another, which keeps the lengths. Assumes nothing.
-use native.Mathlib.Omega.{arith}
-use mathlib.Core.Path.{refl, ◌∙◌}
-use borrow.Author.Rules.{rules}
-use Rattle.store.proofs.Writing.{room_kept, two_put, three_put, batch_told}
+use mathlib.Core.Path.{refl}
+use Rattle.store.proofs.Writing.{two_put, three_put, batch_told}
 use Rattle.store.specs.Drawing.{put_points}
 use Rattle.store.proofs.accepted.put_points.Goals as goal
 

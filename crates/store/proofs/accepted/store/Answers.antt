@@ -1,5 +1,4 @@
 -- `store::accepted::store` meets its contract: the points, then the commands, then the counts. Assumes nothing.
-use borrow.Author.Rules.{rules}
 use Rattle.store.proofs.Writing.{stored}
 use Rattle.store.specs.Columns.{columns}
 use Rattle.store.proofs.accepted.store.Goals as goal

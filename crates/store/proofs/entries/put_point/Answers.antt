@@ -1,6 +1,5 @@
 -- `store::entries::put_point` meets its contract: three writes, whatever the commands are. Assumes nothing.
 use mathlib.Core.Path.{refl}
-use borrow.Author.Rules.{rules}
 use Rattle.store.specs.Columns.{put_point}
 use Rattle.store.proofs.entries.put_point.Goals as goal
 

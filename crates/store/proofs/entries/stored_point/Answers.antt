@@ -1,5 +1,4 @@
 -- `store::entries::stored_point` meets its contract: three reads. Assumes nothing.
-use borrow.Author.Rules.{rules}
 use Rattle.store.specs.Columns.{stored_point_of}
 use Rattle.store.proofs.entries.stored_point.Goals as goal
 

@@ -1,5 +1,4 @@
 -- `store::entries::unclosed` meets its contract: both points are read, applied and compared. Assumes nothing.
-use borrow.Author.Rules.{rules}
 use Rattle.store.specs.Closing.{unclosed_of}
 use Rattle.store.proofs.entries.unclosed.Goals as goal
 

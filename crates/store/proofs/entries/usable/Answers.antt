@@ -1,8 +1,6 @@
 -- `store::entries::usable` meets its contract: the counts are tested before the last command is read. Assumes nothing.
-use native.Mathlib.Omega.{arith}
-use borrow.Author.Rules.{rules}
-use Rattle.store.proofs.Usable.{counted_by, uncounted, last_decides}
-use Rattle.store.specs.Columns.{columns, last_command_of}
+use Rattle.store.proofs.Usable.{uncounted, last_decides}
+use Rattle.store.specs.Columns.{last_command_of}
 use Rattle.store.proofs.entries.usable.Goals as goal
 
 pub returns-then-not-counted : goal.returns-then-not-counted

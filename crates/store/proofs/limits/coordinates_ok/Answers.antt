@@ -1,5 +1,4 @@
 -- `store::limits::coordinates_ok` meets its contract: by the case of the call, point after point. Assumes nothing.
-use borrow.Author.Rules.{rules}
 use Rattle.store.proofs.Tests.{joined}
 use Rattle.store.specs.Drawing.{every, coordinates_of}
 use Rattle.store.proofs.limits.coordinates_ok.Goals as goal

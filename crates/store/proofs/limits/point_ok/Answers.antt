@@ -1,5 +1,4 @@
 -- `store::limits::point_ok` meets its contract: both coordinates. Assumes nothing.
-use borrow.Author.Rules.{rules}
 use mathlib.Core.Bool.{and-true}
 use Rattle.store.specs.Drawing.{every}
 use Rattle.store.proofs.limits.point_ok.Goals as goal

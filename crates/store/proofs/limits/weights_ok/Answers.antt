@@ -1,5 +1,4 @@
 -- `store::limits::weights_ok` meets its contract: by the case of the call. Assumes nothing.
-use borrow.Author.Rules.{rules}
 use mathlib.Core.Bool.{and-true}
 use Rattle.store.specs.Drawing.{every, weights_of}
 use Rattle.store.proofs.limits.weights_ok.Goals as goal

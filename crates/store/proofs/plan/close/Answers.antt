@@ -1,6 +1,4 @@
 -- `store::plan::close` meets its contract: nothing where the contour is closed, else the open point and a Line. Assumes nothing.
-use borrow.Author.Rules.{rules}
-use borrow.Author.Tests.{not-true, not-false}
 use Rattle.store.specs.Drawing.{closed}
 use Rattle.store.proofs.plan.close.Goals as goal
 

@@ -1,7 +1,5 @@
 -- `store::plan::decide` meets its contract: each test that fails gives its answer, and where none does the plan is the definition's. Assumes nothing.
 use mathlib.Core.Path.{sym, ◌∙◌}
-use borrow.Author.Rules.{rules}
-use borrow.Author.Tests.{not-true, not-false}
 use Rattle.store.proofs.Deciding.{unusable, bad_coordinate, bad_weight, plan_within, room_told, store_full, accepted}
 use Rattle.store.proofs.plan.decide.Goals as goal
 

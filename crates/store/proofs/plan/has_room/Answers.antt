@@ -1,5 +1,4 @@
 -- `store::plan::has_room` meets its contract: what is left is tested in place of the sums. Assumes nothing.
-use borrow.Author.Rules.{rules}
 use Rattle.store.proofs.Tests.{fit_test}
 use Rattle.store.specs.Drawing.{room_of}
 use Rattle.store.proofs.plan.has_room.Goals as goal

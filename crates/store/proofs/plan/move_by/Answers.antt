@@ -1,7 +1,6 @@
 -- `store::plan::move_by` meets its contract: the last point again after a Move, else `move_on`. Assumes nothing.
 use native.Mathlib.Omega.{arith}
 use mathlib.Core.List.{[]}
-use borrow.Author.Rules.{rules}
 use Rattle.store.proofs.Planning.{moving_again, moving_on}
 use Rattle.store.proofs.Usable.{usable_counts, standing}
 use Rattle.store.specs.Columns.{last_command_of}

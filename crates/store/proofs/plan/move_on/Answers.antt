@@ -1,6 +1,4 @@
 -- `store::plan::move_on` meets its contract: with and without a closing line. Assumes nothing.
-use borrow.Author.Rules.{rules}
-use borrow.Author.Tests.{not-true, not-false}
 use Rattle.store.specs.Drawing.{moved}
 use Rattle.store.proofs.plan.move_on.Goals as goal
 

@@ -1,6 +1,5 @@
 -- `store::plan::plan_of` meets its contract: by the case of the call. Assumes nothing.
 use mathlib.Core.List.{[]}
-use borrow.Author.Rules.{rules}
 use Rattle.store.proofs.Planning.{closing}
 use Rattle.store.proofs.Usable.{standing}
 use Rattle.store.specs.Drawing.{writes_of}

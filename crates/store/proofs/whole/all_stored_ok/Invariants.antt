@@ -1,10 +1,6 @@
 -- `store::whole::all_stored_ok` meets its contract. The loop's invariant: what is left to test gives what the whole gives. Assumes nothing.
 use Prim.Native.Nat.{◌-◌}
-use native.Mathlib.Omega.{arith}
-use mathlib.Core.Path.{refl, sym, ◌∙◌}
-use borrow.Author.Rules.{rules}
-use borrow.Author.Tests.{not-true, not-false}
-use Rattle.store.proofs.Loops.{Passed, every_more, every_bad, every_end}
+use Rattle.store.proofs.Loops.{Passed}
 use Rattle.store.specs.Drawable.{stored_ok_of}
 use Rattle.store.specs.Drawing.{every}
 use Rattle.store.proofs.whole.all_stored_ok.Given as goal

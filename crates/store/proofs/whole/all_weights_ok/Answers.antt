@@ -1,11 +1,6 @@
 -- `store::whole::all_weights_ok` meets its contract. The loop's invariant: what is left to test gives what the whole gives. Assumes nothing.
-use Prim.Native.Nat.{◌-◌}
-use native.Mathlib.Omega.{arith}
-use mathlib.Core.Path.{refl, sym, ◌∙◌}
-use borrow.Author.Rules.{rules}
-use borrow.Author.Tests.{not-true, not-false}
-use Rattle.store.proofs.Loops.{Passed, every_more, every_bad, every_end}
-use Rattle.store.specs.Drawing.{every, weight_ok_of}
+use mathlib.Core.Path.{sym, ◌∙◌}
+use Rattle.store.proofs.Loops.{every_more, every_bad, every_end}
 use Rattle.store.proofs.whole.all_weights_ok.Goals as goal
 
 pub returns-then-not-weight_ok : goal.returns-then-not-weight_ok

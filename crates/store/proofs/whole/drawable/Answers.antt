@@ -1,8 +1,6 @@
 -- `store::whole::drawable` meets its contract: a usable store has all that the loops require, and their results joined are the definition. Assumes nothing.
 use native.Mathlib.Omega.{arith}
 use mathlib.Core.Path.{sym, ◌∙◌}
-use borrow.Author.Rules.{rules}
-use borrow.Author.Tests.{not-true, not-false}
 use Rattle.store.proofs.Loops.{undrawable, drawn}
 use Rattle.store.proofs.Usable.{usable_counts}
 use Rattle.store.proofs.whole.drawable.Goals as goal

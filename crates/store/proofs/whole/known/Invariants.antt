@@ -1,9 +1,6 @@
 -- `store::whole::known` meets its contract. The loop's invariant: what is left to test gives what the whole gives. Assumes nothing.
 use Prim.Native.Nat.{◌-◌}
-use native.Mathlib.Omega.{arith}
-use mathlib.Core.Path.{refl}
-use borrow.Author.Tests.{le-leb, lt-leb}
-use Rattle.store.proofs.Loops.{Passed, known_more, known_bad, known_end}
+use Rattle.store.proofs.Loops.{Passed}
 use Rattle.store.specs.Drawable.{known_of}
 use Rattle.store.proofs.whole.known.Given as goal
 

@@ -1,9 +1,6 @@
 -- `store::whole::uses_all` meets its contract. The loop's invariant: the commands left use `left` points exactly where all use `points`. Assumes nothing.
 use Prim.Native.Nat.{◌-◌}
-use native.Mathlib.Omega.{arith}
-use mathlib.Core.Path.{refl}
-use borrow.Author.Rules.{rules}
-use Rattle.store.proofs.Loops.{Using, using_more, using_bad, using_end}
+use Rattle.store.proofs.Loops.{Using}
 use Rattle.store.proofs.whole.uses_all.Given as goal
 
 abbrev pub invariant-loop-i : goal.invariant-loop-i

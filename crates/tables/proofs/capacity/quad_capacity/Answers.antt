@@ -1,6 +1,5 @@
 -- `tables::capacity::quad_capacity` meets its contract: the lesser of the whole rows and the spline numbers. Assumes nothing.
 use Rattle.tables.specs.Tables.{quad_capacity_of}
-use borrow.Author.Rules.{rules}
 use Rattle.tables.proofs.capacity.quad_capacity.Goals as goal
 
 pub returns : goal.returns

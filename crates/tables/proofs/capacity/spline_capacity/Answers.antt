@@ -1,7 +1,5 @@
 -- `tables::capacity::spline_capacity` meets its contract: the least of the columns, two at a time, and of the index limit. Assumes nothing.
 use Rattle.tables.specs.Tables.{spline_capacity_of}
-use native.Mathlib.Omega.{arith}
-use borrow.Author.Rules.{rules}
 use Rattle.tables.proofs.capacity.spline_capacity.Goals as goal
 
 pub returns : goal.returns

@@ -1,5 +1,4 @@
 -- `tables::commands::command_primitive` meets its contract. Assumes nothing.
-use borrow.Author.Rules.{rules}
 use Rattle.tables.specs.Commands.{command_primitives_of}
 use mathlib.Core.Path.{◌≡◌}
 use Prim.Native.Nat.{ℕ, ◌<◌}

@@ -1,5 +1,4 @@
 -- `tables::commands::cubic_from` meets its contract. Assumes nothing.
-use borrow.Author.Rules.{rules}
 use Rattle.tables.specs.Commands.{cubic_from}
 use Rattle.tables.proofs.commands.cubic_from.Goals as goal
 

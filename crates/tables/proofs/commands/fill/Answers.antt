@@ -1,11 +1,6 @@
 -- `tables::commands::fill` meets its contract: each iteration runs one command more. Assumes nothing.
-use mathlib.Core.Path.{refl}
-use Prim.Native.Nat.{ℕ, ◌+◌, ◌-◌, ◌^◌, ◌<◌}
-use native.Mathlib.Omega.{arith}
-use Rattle.store.specs.Columns.{columns}
 use Rattle.tables.specs.Tables.{quad_table, spline_table}
-use Rattle.tables.specs.Run.{world}
-use Rattle.tables.proofs.Taken.{Taking, turns, counted, take_start, take_on, least_fits, filled}
+use Rattle.tables.proofs.Taken.{take_on, least_fits, filled}
 use Rattle.tables.proofs.commands.fill.Goals as goal
 
 pub loop-i-preserved : goal.loop-i-preserved

@@ -1,11 +1,9 @@
 -- `tables::commands::fill` meets its contract: each iteration runs one command more. Assumes nothing.
-use mathlib.Core.Path.{refl}
-use Prim.Native.Nat.{ℕ, ◌+◌, ◌-◌, ◌^◌, ◌<◌}
-use native.Mathlib.Omega.{arith}
+use Prim.Native.Nat.{◌-◌}
 use Rattle.store.specs.Columns.{columns}
 use Rattle.tables.specs.Tables.{quad_table, spline_table}
 use Rattle.tables.specs.Run.{world}
-use Rattle.tables.proofs.Taken.{Taking, turns, counted, take_start, take_on, least_fits, filled}
+use Rattle.tables.proofs.Taken.{Taking}
 use Rattle.tables.proofs.commands.fill.Given as goal
 
 abbrev pub invariant-loop-i : goal.invariant-loop-i

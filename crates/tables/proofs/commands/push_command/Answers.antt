@@ -1,7 +1,5 @@
 -- `tables::commands::push_command` meets its contract. Assumes nothing.
-use Prim.Native.Nat.{ℕ, ◌-◌, ◌^◌, ◌<◌}
-use native.Mathlib.Omega.{arith}
-use Rattle.tables.proofs.Taken.{one_command, cubic_command_lem}
+use Rattle.tables.proofs.Taken.{cubic_command_lem}
 use Rattle.tables.proofs.commands.push_command.Goals as goal
 
 pub returns : goal.returns

@@ -1,6 +1,5 @@
 -- `tables::rows::clear_flag` meets its contract. Assumes nothing.
 use Rattle.tables.specs.Tables.{clear_flag}
-use borrow.Author.Rules.{rules}
 use Rattle.tables.proofs.rows.clear_flag.Goals as goal
 
 pub returns-then-clears : goal.returns-then-clears

@@ -1,7 +1,6 @@
 -- `tables::rows::last_spline` meets its contract. Assumes nothing.
 use borrow.Author.Tests.{eq-eqb, ne_eqb}
 use Rattle.tables.specs.Tables.{last_spline_of}
-use borrow.Author.Rules.{rules}
 use Rattle.tables.proofs.rows.last_spline.Goals as goal
 
 pub returns-then-n-eq0 : goal.returns-then-n-eq0

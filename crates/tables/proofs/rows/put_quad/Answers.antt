@@ -5,7 +5,6 @@ use lib.ListN.{length}
 use borrow.Author.Tests.{le-ltb}
 use Rattle.tables.specs.Tables.{QuadTable, quad_table, quad_capacity_of}
 use Rattle.tables.proofs.RowLaws.{within, put_is, put_not}
-use borrow.Author.Rules.{rules}
 use Rattle.tables.proofs.rows.put_quad.Lts as lts
 use Rattle.tables.proofs.rows.put_quad.Reads as reads
 use Rattle.tables.proofs.rows.put_quad.Tie as tie

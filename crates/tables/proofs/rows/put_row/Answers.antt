@@ -1,6 +1,5 @@
 -- `tables::rows::put_row` meets its contract: five times three numbers are a row's 15. Assumes nothing.
 use Rattle.tables.proofs.Written.{threes_put}
-use borrow.Author.Rules.{rules}
 use Rattle.tables.proofs.rows.put_row.Goals as goal
 
 pub returns : goal.returns

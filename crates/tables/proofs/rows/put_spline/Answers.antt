@@ -1,6 +1,5 @@
 -- `tables::rows::put_spline` meets its contract, column by column. Assumes nothing.
 use Rattle.tables.proofs.Written.{spline_put}
-use borrow.Author.Rules.{rules}
 use Rattle.tables.proofs.rows.put_spline.Goals as goal
 
 pub returns : goal.returns

@@ -2,7 +2,6 @@
 use borrow.Author.Tests.{le-ltb}
 use Rattle.tables.specs.Tables.{quad_table, whole_rows_of}
 use Rattle.tables.proofs.Written.{row_read, row_not_whole}
-use borrow.Author.Rules.{rules}
 use Rattle.tables.proofs.rows.quad_row_at.Goals as goal
 
 pub returns-then-i-whole_rows : goal.returns-then-i-whole_rows

@@ -1,6 +1,5 @@
 -- `tables::rows::spline_at` meets its contract, column by column. Assumes nothing.
 use Rattle.tables.specs.Tables.{spline_at}
-use borrow.Author.Rules.{rules}
 use Rattle.tables.proofs.rows.spline_at.Goals as goal
 
 pub returns : goal.returns

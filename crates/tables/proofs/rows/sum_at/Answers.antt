@@ -2,7 +2,6 @@
 use lib.Ieee.{div, of_bits}
 use borrow.Author.Tests.{lt-ltb, le-ltb}
 use Rattle.tables.specs.Tables.{whole_rows_of, number_at}
-use borrow.Author.Rules.{rules}
 use Rattle.tables.proofs.rows.sum_at.Goals as goal
 
 pub returns-then-i-whole_rows : goal.returns-then-i-whole_rows

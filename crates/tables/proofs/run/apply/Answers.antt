@@ -1,6 +1,5 @@
 -- `tables::run::apply` meets its contract: each arm is its edit. Assumes nothing.
 use Rattle.tables.proofs.Runs.{keeps, extends, bends}
-use borrow.Author.Rules.{rules}
 use Rattle.tables.proofs.run.apply.Goals as goal
 
 pub returns-in-Keep : goal.returns-in-Keep

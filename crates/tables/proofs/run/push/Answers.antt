@@ -1,8 +1,6 @@
 -- `tables::run::push` meets its contract: what is planned is applied, unless something was refused before. Assumes nothing.
 use mathlib.Core.Path.{sym, ◌∙◌}
-use borrow.Author.Tests.{not-true, not-false}
 use Rattle.tables.proofs.Runs.{refused_before, pushes}
-use borrow.Author.Rules.{rules}
 use Rattle.tables.proofs.run.push.Goals as goal
 
 pub returns-then-not-is_done : goal.returns-then-not-is_done

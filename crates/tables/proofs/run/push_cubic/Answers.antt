@@ -1,8 +1,5 @@
 -- `tables::run::push_cubic` meets its contract: each iteration runs one piece more. Assumes nothing.
-use Prim.Native.Nat.{◌+◌, ◌-◌}
-use Rattle.tables.specs.Tables.{quad_table, spline_table}
-use Rattle.tables.specs.Run.{world}
-use Rattle.tables.proofs.Cuts.{Cutting, small_exact, exact, turns, counted, cut_start, cut_on, cut_end, excess, cut}
+use Rattle.tables.proofs.Cuts.{cut_on, cut_end, excess, cut}
 use Rattle.tables.proofs.run.push_cubic.Goals as goal
 
 pub returns-then-n-gt-MAX_PIECES : goal.returns-then-n-gt-MAX_PIECES

@@ -2,7 +2,7 @@
 use Prim.Native.Nat.{◌+◌, ◌-◌}
 use Rattle.tables.specs.Tables.{quad_table, spline_table}
 use Rattle.tables.specs.Run.{world}
-use Rattle.tables.proofs.Cuts.{Cutting, small_exact, exact, turns, counted, cut_start, cut_on, cut_end, excess, cut}
+use Rattle.tables.proofs.Cuts.{Cutting}
 use Rattle.tables.proofs.run.push_cubic.Given as goal
 
 abbrev pub invariant-loop-i : goal.invariant-loop-i

@@ -2,7 +2,6 @@
 use mathlib.Core.Path.{sym}
 use native.Mathlib.Omega.{arith}
 use Rattle.text.proofs.Standing.{byte_stands, byte_past}
-use borrow.Author.Rules.{rules}
 use Rattle.text.proofs.fixed.byte_stands_at.Goals as goal
 
 pub returns-then-n-at : goal.returns-then-n-at

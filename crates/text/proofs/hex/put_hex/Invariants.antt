@@ -1,14 +1,9 @@
 -- `text::put_hex` meets its contract: the digits left are those of what is left of the number. Assumes nothing.
-use mathlib.Core.Path.{◌≡◌, refl, sym, ap, ◌∙◌}
-use mathlib.Core.List.{List, [], ◌∷◌}
-use Prim.Native.Nat.{ℕ, suc, ◌+◌, ◌-◌, ◌*◌, ◌/◌, ◌%◌, ◌≤◌, ◌<◌}
-use native.Mathlib.Omega.{arith}
-use borrow.Author.Rules.{rules}
-use lib.ListN.{length, set}
+use mathlib.Core.Path.{◌≡◌}
+use Prim.Native.Nat.{◌≤◌}
+use lib.ListN.{length}
 use lib.Seq.{sets}
-use Rattle.text.specs.Hex.{hex_digit_of, hex_digits, hex_of}
-use Rattle.text.proofs.Hexes.{hex_digits-length}
-use Rattle.text.proofs.Stores.{sets_last}
+use Rattle.text.specs.Hex.{hex_digits, hex_of}
 use Rattle.text.proofs.hex.put_hex.Given as goal
 
 abbrev pub invariant-loop-left : goal.invariant-loop-left

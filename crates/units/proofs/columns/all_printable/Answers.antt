@@ -1,9 +1,6 @@
 -- `units::columns::all_printable` meets its contract. The loop's invariant: what is left to test gives what the whole gives. Assumes nothing.
-use mathlib.Core.Path.{refl, sym, ◌∙◌}
-use Prim.Native.Nat.{◌-◌}
-use native.Mathlib.Omega.{arith}
-use borrow.Author.Rules.{rules}
-use Rattle.units.proofs.Points.{unit_whole, unit_beyond, Passed, passed_more, passed_bad, passed_end}
+use mathlib.Core.Path.{sym, ◌∙◌}
+use Rattle.units.proofs.Points.{unit_whole, unit_beyond, passed_more, passed_bad, passed_end}
 use Rattle.units.proofs.columns.all_printable.Goals as goal
 
 pub returns-in-Beyond : goal.returns-in-Beyond

@@ -1,11 +1,8 @@
 -- `units::columns::put_wholes` meets its contract. The loop's invariant: with what is left to write, the column becomes what it has to become. Assumes nothing.
-use mathlib.Core.Path.{refl, sym, subst, ◌∙◌}
-use mathlib.Core.Logic.{inl, inr}
-use Prim.Native.Nat.{◌+◌, ◌-◌}
-use native.Mathlib.Omega.{arith}
-use borrow.Author.Rules.{rules}
+use mathlib.Core.Path.{sym, subst, ◌∙◌}
+use Prim.Native.Nat.{◌+◌}
 use Rattle.leaves.proofs.Comparisons.{no}
-use Rattle.units.proofs.Points.{unit_beyond, unit_written, Putting, next_printable, put_more, put_end}
+use Rattle.units.proofs.Points.{unit_beyond, unit_written, Putting, next_printable, put_more}
 use Rattle.units.proofs.columns.put_wholes.Goals.{in-Whole, in-Beyond}
 use Rattle.units.proofs.columns.put_wholes.Goals as goal
 

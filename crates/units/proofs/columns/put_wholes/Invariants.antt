@@ -1,11 +1,6 @@
 -- `units::columns::put_wholes` meets its contract. The loop's invariant: with what is left to write, the column becomes what it has to become. Assumes nothing.
-use mathlib.Core.Path.{refl, sym, subst, ◌∙◌}
-use mathlib.Core.Logic.{inl, inr}
-use Prim.Native.Nat.{◌+◌, ◌-◌}
-use native.Mathlib.Omega.{arith}
-use borrow.Author.Rules.{rules}
-use Rattle.leaves.proofs.Comparisons.{no}
-use Rattle.units.proofs.Points.{unit_beyond, unit_written, Putting, next_printable, put_more, put_end}
+use Prim.Native.Nat.{◌-◌}
+use Rattle.units.proofs.Points.{Putting}
 use Rattle.units.proofs.columns.put_wholes.Given as goal
 
 abbrev pub invariant-loop-i : goal.invariant-loop-i

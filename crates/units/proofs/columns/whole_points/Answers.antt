@@ -4,9 +4,8 @@ use mathlib.Core.Bool.{true}
 use mathlib.Core.Logic.{inl, inr}
 use Prim.Native.Nat.{min}
 use lib.ListN.{length, take}
-use borrow.Author.Tests.{not-true, not-false}
 use Rattle.units.specs.Columns.{all_printable}
-use Rattle.units.proofs.Points.{shorter, short_x, short_y, refused_x, refused_y, room_for, too_short, all_written}
+use Rattle.units.proofs.Points.{shorter, refused_x, refused_y, too_short, all_written}
 use Rattle.units.proofs.columns.whole_points.Lts as lts
 use Rattle.units.proofs.columns.whole_points.Reads as reads
 use Rattle.units.proofs.columns.whole_points.Tie as tie

@@ -1,10 +1,9 @@
 -- `units::coordinate::whole` meets its contract. Assumes nothing.
 use mathlib.Core.Path.{sym, ap, ◌∙◌}
 use mathlib.Core.Bool.{true, false}
-use borrow.Author.Rules.{rules}
 use borrow.Author.Tests.{le-leb, lt-leb}
 use Rattle.units.specs.declared.Unit.TheVariants.{Whole}
-use Rattle.units.proofs.Units.{range_above, range_below, size_yes, size_no, unit_is, negated_fits, negative_is, positive_is}
+use Rattle.units.proofs.Units.{range_above, range_below, size_yes, size_no, unit_is, negative_is, positive_is}
 use Rattle.units.proofs.coordinate.whole.Goals as goal
 
 pub returns-then-size-gt32768 : goal.returns-then-size-gt32768
