@@ -1,6 +1,7 @@
 // Numbers from a list. A number is eight lowercase hex digits and one byte after them, so each takes nine bytes, and no line end has to be looked for. What a
 // contract says holds of a reader whose bytes are known, as one over a slice; of standard input nothing is known, and tests/replay tries these functions.
-ghost use Rattle.std.specs.Prelude.{◌≡◌, ◌*◌, IfOk, OnOk, IfSome, Some, drop, slice_index};
+ghost use Rattle.std.specs.Prelude.{◌≡◌, ◌*◌, ℕ, ◌<◌, List, IfOk, OnOk, OnErr, IfSome, Some, drop, length, slice_index};
+ghost use Rattle.std.specs.Io.KnownBytes.{Consumes};
 ghost use Rattle.leaves.specs.Bits.{float_of};
 ghost use Rattle.replay.specs.Reading.{number_in, followed_by};
 
@@ -13,6 +14,7 @@ use text::HexAt;
 pub fn number<R: Read>(list: &mut R) -> io::Result<u32>
     ensures value { IfOk result (λ n. IfSome (R.remaining list.old) (λ bytes. n ≡ number_in bytes)) }
     ensures rest { OnOk result (IfSome (R.remaining list.old) (λ bytes. R.remaining list.new ≡ Some (drop 9 bytes))) }
+    ensures err { OnErr result ((bs : List ℕ) × Consumes (R.remaining list.old) (R.remaining list.new) bs × (length bs < 9)) }
 {
     let mut digits = [0u8; 9];
     let n = input::read_full(list, &mut digits)?;
@@ -26,6 +28,7 @@ pub fn number<R: Read>(list: &mut R) -> io::Result<u32>
 pub fn float<R: Read>(list: &mut R) -> io::Result<f32>
     ensures value { IfOk result (λ x. IfSome (R.remaining list.old) (λ bytes. x ≡ float_of (number_in bytes))) }
     ensures rest { OnOk result (IfSome (R.remaining list.old) (λ bytes. R.remaining list.new ≡ Some (drop 9 bytes))) }
+    ensures err { OnErr result ((bs : List ℕ) × Consumes (R.remaining list.old) (R.remaining list.new) bs × (length bs < 9)) }
 {
     let bits = number(list)?;
     Ok(leaves::from_bits(bits))
@@ -35,6 +38,7 @@ pub fn float<R: Read>(list: &mut R) -> io::Result<f32>
 pub fn letter<R: Read>(list: &mut R) -> io::Result<u8>
     ensures value { IfOk result (λ b. IfSome (R.remaining list.old) (λ bytes. b ≡ slice_index bytes 0)) }
     ensures rest { OnOk result (IfSome (R.remaining list.old) (λ bytes. R.remaining list.new ≡ Some (drop 2 bytes))) }
+    ensures err { OnErr result ((bs : List ℕ) × Consumes (R.remaining list.old) (R.remaining list.new) bs × (length bs < 2)) }
 {
     let mut start = [0u8; 2];
     let n = input::read_full(list, &mut start)?;
@@ -48,6 +52,7 @@ pub fn letter<R: Read>(list: &mut R) -> io::Result<u8>
 pub fn follow<R: Read>(list: &mut R, numbers: &[u32], at: usize, n: usize) -> io::Result<bool>
     ensures value { IfOk result (λ b. IfSome (R.remaining list.old) (λ bytes. b ≡ followed_by n at numbers.now bytes)) }
     ensures rest { OnOk result (IfSome (R.remaining list.old) (λ bytes. R.remaining list.new ≡ Some (drop (9 * n) bytes))) }
+    ensures err { OnErr result ((bs : List ℕ) × Consumes (R.remaining list.old) (R.remaining list.new) bs × (length bs < 9 * n)) }
 {
     let mut good = true;
     for i in 0..n {
