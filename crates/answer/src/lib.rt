@@ -2,12 +2,11 @@
 #![tactic(auto)]
 
 ghost use Rattle.std.specs.Prelude.{◌≡◌};
-ghost use Rattle.answer.specs.Number.{number_of, is_done};
+ghost use Rattle.answer.specs.Number.{number_of, refusal_number_of};
 
-#[derive(Clone, Copy)]
-pub enum Answer {
-    // 0
-    Done,
+// Each refusal, with its number.
+#[derive(Clone, Copy, PartialEq, Eq)]
+pub enum Refusal {
     // 1: a coordinate is NaN or beyond ±65,536
     BadCoordinate,
     // 2: a weight is NaN or outside 1/64..64
@@ -36,30 +35,38 @@ pub enum Answer {
     BufferShort,
 }
 
-// The only match on an answer: all other code goes by its number.
+// Done, or why not.
+pub type Answer = Result<(), Refusal>;
+
+impl Refusal {
+    // The only match on a refusal: all other code goes by its number.
+    pub fn number(self) -> u32
+        ensures { result ≡ refusal_number_of self }
+    {
+        match self {
+            Refusal::BadCoordinate => 1,
+            Refusal::BadWeight => 2,
+            Refusal::Unusable => 3,
+            Refusal::StoreFull => 4,
+            Refusal::TooManyPieces => 5,
+            Refusal::QuadsFull => 6,
+            Refusal::SplinesFull => 7,
+            Refusal::SumTooLarge => 8,
+            Refusal::OutputShort => 9,
+            Refusal::BadText => 10,
+            Refusal::InputTooLong => 11,
+            Refusal::NotPrintable => 12,
+            Refusal::BufferShort => 13,
+        }
+    }
+}
+
+// 0, or the refusal's number.
 pub fn number(a: Answer) -> u32
     ensures { result ≡ number_of a }
 {
     match a {
-        Answer::Done => 0,
-        Answer::BadCoordinate => 1,
-        Answer::BadWeight => 2,
-        Answer::Unusable => 3,
-        Answer::StoreFull => 4,
-        Answer::TooManyPieces => 5,
-        Answer::QuadsFull => 6,
-        Answer::SplinesFull => 7,
-        Answer::SumTooLarge => 8,
-        Answer::OutputShort => 9,
-        Answer::BadText => 10,
-        Answer::InputTooLong => 11,
-        Answer::NotPrintable => 12,
-        Answer::BufferShort => 13,
+        Ok(()) => 0,
+        Err(refusal) => refusal.number(),
     }
-}
-
-pub fn is_done(a: Answer) -> bool
-    ensures { result ≡ is_done a }
-{
-    number(a) == 0
 }

@@ -5,7 +5,7 @@ use mathlib.Core.Path.{◌≡◌, ◌∙◌, ap}
 use mathlib.Core.Bool.{Bool, true, false, cond}
 use mathlib.Core.List.{List}
 use lib.ListN.{length}
-use Rattle.answer.specs.declared.Answer.TheVariants.{Done, Unusable, OutputShort}
+use Rattle.answer.specs.Answer.{Done, Unusable, OutputShort}
 use Rattle.answer.specs.Number.{is_done}
 use Rattle.point.specs.declared.Setting.{Setting}
 use Rattle.primitives.specs.declared.State.{State}

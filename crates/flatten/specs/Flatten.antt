@@ -1,7 +1,7 @@
 -- RULES, Flattening and Answers 11: the whole flattening, from all that is lent to the result and what the lent columns then hold. Assumes nothing.
 use Rattle.std.specs.Prelude.{ℕ, Bool, true, false, List, length}
-use Rattle.answer.specs.declared.Answer.{Answer}
-use Rattle.answer.specs.declared.Answer.TheVariants.{Done, Unusable, OutputShort}
+use Rattle.answer.specs.Answer.{Answer}
+use Rattle.answer.specs.Answer.{Done, Unusable, OutputShort}
 use Rattle.answer.specs.Number.{is_done}
 use Rattle.point.specs.declared.Setting.{Setting}
 use Rattle.store.specs.declared.StoreState.{StoreState}

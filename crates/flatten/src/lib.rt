@@ -7,7 +7,7 @@ ghost use Rattle.tables.specs.Tables.{quad_table, spline_table};
 ghost use Rattle.evaluate.specs.Output.{output};
 ghost use Rattle.flatten.specs.Flatten.{flattened, flattening, flatten_of};
 
-use answer::Answer;
+use answer::{Answer, Refusal};
 use point::Setting;
 use store::StoreState;
 
@@ -46,7 +46,7 @@ pub fn flatten(
     ensures { flattening result (quad_table quad_rows.new partial_splines.new) (spline_table curvature.new p0x.new p0y.new p2x.new p2y.new contour.new first_quad.new quad_count.new) (output words.new out_x.new out_y.new out_end.new) ≡ flatten_of setting st (columns x.now y.now weight.now commands.now) (quad_table quad_rows.old partial_splines.old) (spline_table curvature.old p0x.old p0y.old p2x.old p2y.old contour.old first_quad.old quad_count.old) (output words.old out_x.old out_y.old out_end.old) }
 {
     if !store::drawable(x, y, weight, commands, st) {
-        return refused(Answer::Unusable, 0, 0);
+        return refused(Err(Refusal::Unusable), 0, 0);
     }
     let state = tables::fill(
         x,
@@ -67,7 +67,7 @@ pub fn flatten(
         st,
     );
     let answer = state.answer;
-    if !answer::is_done(answer) {
+    if answer.is_err() {
         return refused(answer, state.splines, state.quads);
     }
     let delivered = evaluate::deliver(
@@ -89,11 +89,11 @@ pub fn flatten(
         state.splines,
     );
     if !delivered.fits {
-        return refused(Answer::OutputShort, state.splines, state.quads);
+        return refused(Err(Refusal::OutputShort), state.splines, state.quads);
     }
     let splines = state.splines as usize;
     Flattened {
-        answer: Answer::Done,
+        answer: Ok(()),
         splines,
         quads: state.quads,
         points: delivered.points,

@@ -43,7 +43,7 @@ pub fn draw(
         let st = drawn.state;
         let answer = drawn.answer;
         let call = call(list)?;
-        let done = answer::is_done(answer);
+        let done = answer.is_ok();
         let next = store::draw(x, y, weight, commands, st, call);
         if done {
             drawn = next;

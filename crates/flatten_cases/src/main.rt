@@ -82,7 +82,7 @@ fn setting_of(number: u32) -> Setting {
 // Done, with as many of each as expected.
 fn is_expected(r: flatten::Flattened, due: Expected) -> bool {
     let answer = r.answer;
-    let done = answer::is_done(answer);
+    let done = answer.is_ok();
     done & (r.quads == due.quads as usize)
         & (r.splines == due.splines as usize)
         & (r.points == due.words as usize)
@@ -166,7 +166,7 @@ fn case(list: &mut impl Read, k: u32) -> io::Result<Replayed> {
     let drawn = calls::draw(list, &mut x, &mut y, &mut weight, &mut commands, due.calls)?;
     let st = drawn.state;
     let answer = drawn.answer;
-    let done = answer::is_done(answer);
+    let done = answer.is_ok();
     let held = holds(list, &x, &y, &weight, &commands, st, due)?;
     let mut runs = replay::none();
     let mut others = replay::none();

@@ -232,7 +232,7 @@ pub fn each_enough(
         let place = needed(r, short);
         let e = flattened(x, y, weight, commands, st, setting, short, place, &mut got);
         let answer = e.answer;
-        let done = answer::is_done(answer);
+        let done = answer.is_ok();
         let same = same_results(&got, &whole);
         tally = replay::counted(tally, done & same);
     }

@@ -7,8 +7,8 @@ use native.Mathlib.Omega.{arith}
 use borrow.Author.Tests.{le-leb, lt-leb}
 use lib.ListN.{length}
 use Rattle.text.proofs.Decimals.{decimal_short}
-use Rattle.answer.specs.declared.Answer.{Answer}
-use Rattle.answer.specs.declared.Answer.TheVariants.{Done, InputTooLong}
+use Rattle.answer.specs.Answer.{Answer}
+use Rattle.answer.specs.Answer.{Done, InputTooLong}
 use Rattle.answer.specs.Number.{number_of, is_done}
 use Rattle.answer.proofs.Laws.{done_is}
 use Rattle.point.specs.declared.Setting.TheVariants.{Screen}

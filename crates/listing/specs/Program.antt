@@ -2,8 +2,8 @@
 -- defined for either setting, since other programs read the same texts. Assumes nothing.
 use Rattle.std.specs.Prelude.{ℕ, Bool, true, false, List, [], leb, Float, length, replicate}
 use Rattle.leaves.specs.Single.{zero32}
-use Rattle.answer.specs.declared.Answer.{Answer}
-use Rattle.answer.specs.declared.Answer.TheVariants.{Done, InputTooLong}
+use Rattle.answer.specs.Answer.{Answer}
+use Rattle.answer.specs.Answer.{Done, InputTooLong}
 use Rattle.answer.specs.Number.{is_done}
 use Rattle.point.specs.declared.Setting.{Setting}
 use Rattle.point.specs.declared.Setting.TheVariants.{Screen}

@@ -1,8 +1,8 @@
 -- RULES, The program: reading. Every line has a fixed width, so a place in the text and its line number are all that reading keeps. Assumes nothing.
 use Rattle.std.specs.Prelude.{ℕ, zero, suc, ◌+◌, ◌≤◌, Bool, ◌&&◌, cond, List, [], ◌∷◌, ◌++◌, leb, Float, length}
 use Rattle.leaves.specs.Bits.{float_of}
-use Rattle.answer.specs.declared.Answer.{Answer}
-use Rattle.answer.specs.declared.Answer.TheVariants.{Done, BadText}
+use Rattle.answer.specs.Answer.{Answer}
+use Rattle.answer.specs.Answer.{Done, BadText}
 use Rattle.answer.specs.Number.{is_done}
 use Rattle.store.specs.Columns.{Columns}
 use Rattle.store.specs.Drawing.{Outcome, outcome, draw_of}

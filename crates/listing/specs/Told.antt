@@ -1,7 +1,7 @@
 -- The front half of the program, for programs that share it: from a text to its answer and line, and to its words and points in columns that the caller lends. The
 -- columns may have any length; on a refusal they are as they came. Assumes nothing.
 use Rattle.std.specs.Prelude.{ℕ, List}
-use Rattle.answer.specs.declared.Answer.{Answer}
+use Rattle.answer.specs.Answer.{Answer}
 use Rattle.point.specs.declared.Setting.{Setting}
 use Rattle.flatten.specs.Flatten.{Flattening, Output, flatten_of}
 use Rattle.listing.specs.declared.Account.{Account}

@@ -5,7 +5,7 @@ use Rattle.std.specs.Float.{nan}
 use Rattle.std.proofs.lemmas.List.Edits.{sets}
 use Rattle.columns.specs.Flags.{flag_byte_of, is_flag_of}
 use Rattle.leaves.specs.Bits.{bits_of}
-use Rattle.answer.specs.declared.Answer.{Answer}
+use Rattle.answer.specs.Answer.{Answer}
 use Rattle.answer.specs.Number.{number_of}
 use Rattle.point.specs.Point.{point_at}
 use Rattle.evaluate.specs.Evaluate.{Finished, finished}

@@ -1,7 +1,7 @@
 // The program on slices: a listing in, points out. Its columns are its own, of the lengths that the program has room for; `told` alone delivers into lent ones.
 
 ghost use Rattle.std.specs.Prelude.{◌≡◌};
-ghost use Rattle.answer.specs.declared.Answer.TheVariants.{Done};
+ghost use Rattle.answer.specs.Answer.{Done};
 ghost use Rattle.store.specs.Columns.{columns};
 ghost use Rattle.store.specs.Drawing.{outcome, fresh_of};
 ghost use Rattle.evaluate.specs.Output.{output};
@@ -11,7 +11,7 @@ ghost use Rattle.listing.specs.Program.{program_columns, ready, drawn_as, built_
 ghost use Rattle.listing.specs.Told.{telling, told_from, told_of};
 
 use crate::{Account, Drawn, Listed, Progress, reading, writing};
-use answer::Answer;
+use answer::Refusal;
 use point::Setting;
 use store::StoreState;
 
@@ -46,7 +46,7 @@ fn built_from(
 {
     let built = store::build(x, y, weight, commands, st);
     let answer = built.answer;
-    if !answer::is_done(answer) {
+    if answer.is_err() {
         return Drawn::Refused(answer, 0);
     }
     let state = built.state;
@@ -65,7 +65,7 @@ fn drawn(
     ensures { drawn_as result (columns x.new y.new weight.new commands.new) ≡ drawn_of listing.now }
 {
     if listing.len() > LONGEST {
-        return Drawn::Refused(Answer::InputTooLong, 0);
+        return Drawn::Refused(Err(Refusal::InputTooLong), 0);
     }
     match read_fresh(listing, x, y, weight, commands) {
         Progress::Stopped(answer, line) => Drawn::Refused(answer, line),
@@ -166,7 +166,7 @@ pub fn listing(input: &[u8], output: &mut [u8]) -> Listed
     let mut end = [0u8; 512];
     let said = told(Setting::Screen, input, &mut words, &mut x, &mut y, &mut end);
     let answer = said.answer;
-    if !answer::is_done(answer) {
+    if answer.is_err() {
         return writing::refuse(output, answer, said.line);
     }
     writing::report(output, said.points, &x, &y, &end)

@@ -1,14 +1,14 @@
 // The text, command by command, drawn on the store.
 
 ghost use Rattle.std.specs.Prelude.{◌≡◌};
-ghost use Rattle.answer.specs.declared.Answer.TheVariants.{Done};
+ghost use Rattle.answer.specs.Answer.{Done};
 ghost use Rattle.store.specs.Columns.{columns};
 ghost use Rattle.store.specs.Drawing.{outcome};
 ghost use Rattle.listing.specs.Reading.{Placed, going, step_of, read_of, progress_of};
 
 use crate::commands::command_at;
 use crate::{Command, Progress};
-use answer::Answer;
+use answer::Refusal;
 use store::StoreState;
 
 fn step(
@@ -26,11 +26,11 @@ fn step(
 {
     match command_at(listing, at, line) {
         Command::Finish => Progress::Finished(state),
-        Command::Fault(l) => Progress::Stopped(Answer::BadText, l),
+        Command::Fault(l) => Progress::Stopped(Err(Refusal::BadText), l),
         Command::Drawing(call, next, next_line) => {
             let drawn = store::draw(x, y, weight, commands, state, call);
             let answer = drawn.answer;
-            if !answer::is_done(answer) {
+            if answer.is_err() {
                 return Progress::Stopped(answer, line);
             }
             let after = drawn.state;

@@ -115,7 +115,7 @@ pub fn refusal(output: &mut [u8], answer: Answer, line: usize) -> Listed
 // The report of a flattened drawing, from its columns of points.
 pub fn report(output: &mut [u8], points: usize, x: &[f32], y: &[f32], end: &[u8]) -> Listed
     requires { points ≤ 512 }
-    ensures { listed result output.new ≡ listed_as (report_of Answer.Done 0 (column_points 0 points x.now y.now end.now)) output.old }
+    ensures { listed result output.new ≡ listed_as (report_of Done 0 (column_points 0 points x.now y.now end.now)) output.old }
 {
     let head = head_length(0, 0, points as u64);
     let needed = head + 28 * points;

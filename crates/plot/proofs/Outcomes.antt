@@ -8,7 +8,7 @@ use borrow.Author.Tests.{leb-true}
 use lib.Dec.{leb}
 use lib.Ieee.{Float}
 use lib.ListN.{length}
-use Rattle.answer.specs.declared.Answer.TheVariants.{Done, NotPrintable, BufferShort}
+use Rattle.answer.specs.Answer.{Done, NotPrintable, BufferShort}
 use Rattle.text.specs.Written.{WrittenAs}
 use Rattle.contours.specs.Finished.{Vertex}
 use Rattle.plot.specs.declared.Measured.{Measured}

@@ -2,8 +2,8 @@
 -- neither writes a byte." Assumes nothing.
 use Rattle.std.specs.Prelude.{ℕ, Bool, true, false, ◌&&◌, cond, List, [], ◌∷◌, map, ℤ, leb, Float, length}
 use Rattle.std.proofs.lemmas.List.Edits.{sets}
-use Rattle.answer.specs.declared.Answer.{Answer}
-use Rattle.answer.specs.declared.Answer.TheVariants.{Done, NotPrintable, BufferShort}
+use Rattle.answer.specs.Answer.{Answer}
+use Rattle.answer.specs.Answer.{Done, NotPrintable, BufferShort}
 use Rattle.contours.specs.Finished.{Position, position, Vertex, vertex}
 use Rattle.contours.specs.Contours.{contours_of}
 use Rattle.units.specs.Whole.{whole_of, printable_of}

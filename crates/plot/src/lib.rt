@@ -5,7 +5,7 @@ ghost use Rattle.std.specs.Prelude.{◌≡◌};
 ghost use Rattle.contours.specs.Finished.{finished_of};
 ghost use Rattle.plot.specs.Plot.{plot, plot_of};
 
-use answer::Answer;
+use answer::{Answer, Refusal};
 use measuring::measured;
 use writing::put_text;
 
@@ -40,17 +40,17 @@ pub fn plot(x: &[f32], y: &[f32], end: &[u8], text: &mut [u8]) -> Plotted
 {
     match measured(x, y, end, text.len()) {
         Measured::Unprintable => Plotted {
-            answer: Answer::NotPrintable,
+            answer: Err(Refusal::NotPrintable),
             written: 0,
         },
         Measured::Short => Plotted {
-            answer: Answer::BufferShort,
+            answer: Err(Refusal::BufferShort),
             written: 0,
         },
         Measured::Fits => {
             let written = put_text(x, y, end, text);
             Plotted {
-                answer: Answer::Done,
+                answer: Ok(()),
                 written,
             }
         }

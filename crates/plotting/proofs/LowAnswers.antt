@@ -8,14 +8,14 @@ use lib.Ieee.{Float, le}
 use lib.ListN.{length}
 use Rattle.leaves.specs.Single.{◌⊕◌}
 use Rattle.leaves.specs.Whole.{limit32}
-use Rattle.answer.specs.declared.Answer.{Answer}
-use Rattle.answer.specs.declared.Answer.TheVariants.{Done, BadCoordinate, BadWeight, Unusable, StoreFull, QuadsFull, SplinesFull, SumTooLarge}
+use Rattle.answer.specs.Answer.{Answer}
+use Rattle.answer.specs.Answer.{Done, BadCoordinate, BadWeight, Unusable, StoreFull, QuadsFull, SplinesFull, SumTooLarge}
 use Rattle.answer.specs.Number.{number_of, is_done}
 use Rattle.point.specs.declared.Setting.{Setting}
 use Rattle.point.specs.declared.Point.{Point}
 use Rattle.point.specs.declared.WeightedPoint.{WeightedPoint}
-use Rattle.point.specs.declared.Angle.{Angle}
-use Rattle.point.specs.declared.Angle.TheVariants.{Missing, Known}
+use Rattle.point.specs.Angle.{Angle}
+use Rattle.std.specs.Prelude.{None, Some}
 use Rattle.point.specs.Point.{applied_of, minus_of}
 use Rattle.point.specs.Angle.{angle_of}
 use Rattle.store.specs.declared.StoreState.{StoreState}
@@ -109,10 +109,10 @@ module _ (setting : Setting) (caps : Capacities) (st : State) (last : SplineRow)
 
   legs_low : (p0 p1 p2 : WeightedPoint) (a b : Angle) → Low st.answer → LowEdit (plan_legs_of setting caps st last p0 p1 p2 a b)
   unfolding plan_legs_of
-  legs_low p0 p1 p2 Missing Missing h = h
-  legs_low p0 p1 p2 Missing (Known b) h = line_low (applied_of p0) (applied_of p2)
-  legs_low p0 p1 p2 (Known a) Missing h = line_low (applied_of p0) (applied_of p2)
-  legs_low p0 p1 p2 (Known a) (Known b) h = curve_low p0 p1 p2 (Known a) (Known b)
+  legs_low p0 p1 p2 None None h = h
+  legs_low p0 p1 p2 None (Some b) h = line_low (applied_of p0) (applied_of p2)
+  legs_low p0 p1 p2 (Some a) None h = line_low (applied_of p0) (applied_of p2)
+  legs_low p0 p1 p2 (Some a) (Some b) h = curve_low p0 p1 p2 (Some a) (Some b)
 
   plan_low : (p : Primitive) → Low st.answer → LowEdit (plan_of setting caps st last p)
   unfolding plan_of marked_of refused_of plan_quad_of

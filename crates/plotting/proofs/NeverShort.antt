@@ -9,8 +9,8 @@ use borrow.Author.Tests.{leb-false}
 use lib.Dec.{leb}
 use lib.Ieee.{Float}
 use lib.ListN.{length, length-map}
-use Rattle.answer.specs.declared.Answer.{Answer}
-use Rattle.answer.specs.declared.Answer.TheVariants.{BufferShort}
+use Rattle.answer.specs.Answer.{Answer}
+use Rattle.answer.specs.Answer.{BufferShort}
 use Rattle.answer.specs.Number.{number_of, is_done}
 use Rattle.point.specs.declared.Setting.{Setting}
 use Rattle.contours.specs.Finished.{Vertex}

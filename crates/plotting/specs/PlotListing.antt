@@ -1,6 +1,6 @@
 -- RULES, The plotter: a listing to HP-GL. What the program says of a text is plotted; a refusal writes nothing. Assumes nothing.
 use Rattle.std.specs.Prelude.{ℕ, Bool, true, false, List, map, Float}
-use Rattle.answer.specs.declared.Answer.{Answer}
+use Rattle.answer.specs.Answer.{Answer}
 use Rattle.answer.specs.Number.{is_done}
 use Rattle.point.specs.declared.Setting.{Setting}
 use Rattle.evaluate.specs.Evaluate.{Finished}

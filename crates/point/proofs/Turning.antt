@@ -21,8 +21,8 @@ use Rattle.leaves.specs.Single.{◌⊕◌, ◌⊖◌, ◌⊗◌, f32, zero32, on
 use Rattle.leaves.specs.Small.{abs_of, is_zero, negative_of, less_of, min_of, max_of}
 use Rattle.leaves.specs.Sqrt.{sqrt32, sqrt_of}
 use Rattle.point.specs.declared.Point.{Point}
-use Rattle.point.specs.declared.Angle.{Angle}
-use Rattle.point.specs.declared.Angle.TheVariants.{Missing, Known}
+use Rattle.point.specs.Angle.{Angle}
+use Rattle.std.specs.Prelude.{None, Some}
 use Rattle.point.specs.declared.Setting.TheVariants.{Knife}
 use Rattle.point.specs.Point.{point_at, minus_of, len_of}
 use Rattle.point.specs.Angle.{pi, two_pi, approx_atan2_of, angle_of, turn_of, diff_of, full_diff_of, difference_of, changed_of}
@@ -113,19 +113,19 @@ known_long : (d : Point) → T (known_of (angle_of d)) → long d ≡ true
 unfolding angle_of
 known_long d = go (long d)
   where
-    go : (l : Bool) → T (known_of (cond l (Known (approx_atan2_of d.y d.x)) Missing)) → l ≡ true
+    go : (l : Bool) → T (known_of (cond l (Some (approx_atan2_of d.y d.x)) None)) → l ≡ true
     go true h = refl
     go false h = absurd h
 
-long_known : (d : Point) → long d ≡ true → angle_of d ≡ Known (approx_atan2_of d.y d.x)
+long_known : (d : Point) → long d ≡ true → angle_of d ≡ Some (approx_atan2_of d.y d.x)
 unfolding angle_of
-long_known d h = ap (λ (l : Bool). cond l (Known (approx_atan2_of d.y d.x)) Missing) h
+long_known d h = ap (λ (l : Bool). cond l (Some (approx_atan2_of d.y d.x)) None) h
 
 abbrev value_of : Angle → Float
-value_of Missing = zero32
-value_of (Known a) = a
+value_of None = zero32
+value_of (Some a) = a
 
-within : (d : Point) (a : Float) → T (finite_of d) → angle_of d ≡ Known a → T (angled a)
+within : (d : Point) (a : Float) → T (finite_of d) → angle_of d ≡ Some a → T (angled a)
 within d a F h =
     let l = known_long d (subst (λ (b : Angle). T (known_of b)) (sym h) tt) in
     subst (λ (b : Float). T (angled b)) (ap value_of (sym (long_known d l) ∙ h))
@@ -156,12 +156,12 @@ around_none : (a : Float) → T (angled a) → full_diff_of a a ≡ zero32
 unfolding full_diff_of
 around_none a h = ap around_of (turn_none a (angled_finite a h)) ∙ around_short 0 (pos 0) (lit≤ tt) ∙ sym zero_is
 
-no_angle : angle_of (point_at (inf false) (inf false)) ≡ Known nan
+no_angle : angle_of (point_at (inf false) (inf false)) ≡ Some nan
 unfolding angle_of approx_atan2_of len_of root_in root rooted fma_of negative_of abs_of less_of min_of max_of sqrt_of count_trailing_zeros size span climb odd units round neg
     sum add sub mul div lt eq le is_nan of_fields of_bits to_bits
 no_angle = refl
 
-reached : (angle_of under_left ≡ Known (neg pi)) × (angle_of (point_at (neg one32) zero32) ≡ Known pi) × (turn_of (neg pi) pi ≡ two_pi)
+reached : (angle_of under_left ≡ Some (neg pi)) × (angle_of (point_at (neg one32) zero32) ≡ Some pi) × (turn_of (neg pi) pi ≡ two_pi)
 unfolding angle_of approx_atan2_of len_of root_in root rooted fma_of negative_of abs_of less_of min_of max_of sqrt_of count_trailing_zeros size span climb odd units round neg
     sum add sub mul div lt eq le is_nan of_fields of_bits to_bits
 reached = (refl, refl, refl)

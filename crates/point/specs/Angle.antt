@@ -1,15 +1,17 @@
 -- RULES, Angles: by `approx_atan2` of point.rs, and when an angle has changed. Assumes nothing.
-use Rattle.std.specs.Prelude.{Bool, false, cond, Float}
+use Rattle.std.specs.Prelude.{Bool, false, cond, Float, Option, None, Some}
 use Rattle.std.specs.Float.Ieee.{lt, le, neg}
 use Rattle.leaves.specs.Single.{◌⊖◌, ◌⊗◌, ◌⊘◌, f32, zero32}
 use Rattle.leaves.specs.Fma.{fma32}
 use Rattle.leaves.specs.Small.{abs_of, min_of, max_of}
 use Rattle.point.specs.declared.Point.{Point}
-use Rattle.point.specs.declared.Angle.{Angle}
 use Rattle.point.specs.declared.Setting.{Setting}
 use Rattle.point.specs.declared.Setting.TheVariants.{Screen, Knife}
-use Rattle.point.specs.declared.Angle.TheVariants.{Missing, Known}
 use Rattle.point.specs.Point.{len_of}
+
+-- the Rust's Option<f32>: a direction too short has no angle
+abbrev pub Angle : Type 0
+Angle = Option Float
 
 -- π and π/2 as f32, 3.1415927 and 1.5707964
 abbrev pub pi : Float
@@ -40,7 +42,7 @@ approx_atan2_of y x =
 
 -- "Angle is missing below 2^-23, otherwise `approx_atan2`"; it is missing too if the length is a NaN
 unfoldable pub angle_of : Point → Angle
-angle_of d = cond (le (f32 0x3400_0000) (len_of d)) (Known (approx_atan2_of d.y d.x)) Missing
+angle_of d = cond (le (f32 0x3400_0000) (len_of d)) (Some (approx_atan2_of d.y d.x)) None
 
 -- "|a1-a0|"
 abbrev pub turn_of : Float → Float → Float
@@ -67,6 +69,6 @@ difference_of Knife a0 a1 = full_diff_of a0 a1
 
 -- "Changed means both angles known and diff over 0.001." On the screen a full reversal is no change, for the knife it is one.
 unfoldable pub changed_of : Setting → Angle → Angle → Bool
-changed_of setting Missing a1 = false
-changed_of setting (Known a0) Missing = false
-changed_of setting (Known a0) (Known a1) = lt max_angle_error (difference_of setting a0 a1)
+changed_of setting None a1 = false
+changed_of setting (Some a0) None = false
+changed_of setting (Some a0) (Some a1) = lt max_angle_error (difference_of setting a0 a1)

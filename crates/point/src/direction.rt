@@ -2,7 +2,7 @@
 ghost use Rattle.std.specs.Prelude.{◌≡◌};
 ghost use Rattle.point.specs.Angle.{approx_atan2_of, diff_of, full_diff_of, difference_of, changed_of};
 
-use crate::{Angle, Setting};
+use crate::Setting;
 
 const PI: f32 = 3.1415927;
 
@@ -75,14 +75,14 @@ fn difference(setting: Setting, a0: f32, a1: f32) -> f32
 }
 
 // A slit goes out and back: the knife has to see the reversal, which the screen folds away.
-pub fn changed(setting: Setting, a0: Angle, a1: Angle) -> bool
+pub fn changed(setting: Setting, a0: Option<f32>, a1: Option<f32>) -> bool
     ensures { result ≡ changed_of setting a0 a1 }
 {
     match a0 {
-        Angle::Missing => false,
-        Angle::Known(last) => match a1 {
-            Angle::Missing => false,
-            Angle::Known(next) => difference(setting, last, next) > MAX_ANGLE_ERROR,
+        None => false,
+        Some(last) => match a1 {
+            None => false,
+            Some(next) => difference(setting, last, next) > MAX_ANGLE_ERROR,
         },
     }
 }

@@ -26,13 +26,6 @@ pub enum Setting {
     Knife,
 }
 
-// The Rust's Option<f32>: a direction too short has no angle.
-#[derive(Clone, Copy)]
-pub enum Angle {
-    Missing,
-    Known(f32),
-}
-
 impl Point {
     // The square of f32::EPSILON, which is 2^-23: a shorter direction has no angle.
     const EPSILON_SQUARED: f32 = 1.4210855e-14;
@@ -73,14 +66,14 @@ impl Point {
         leaves::sqrt(self.squared())
     }
 
-    pub fn angle(self) -> Angle
+    pub fn angle(self) -> Option<f32>
         ensures { result ≡ angle_of self }
     {
         // The rounded root reaches 2^-23 exactly when the square reaches 2^-46, so no root is needed.
         if self.squared() >= Self::EPSILON_SQUARED {
-            return Angle::Known(approx_atan2(self.y, self.x));
+            return Some(approx_atan2(self.y, self.x));
         }
-        Angle::Missing
+        None
     }
 }
 

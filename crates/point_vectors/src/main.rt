@@ -3,7 +3,7 @@
 #![tactic(auto)]
 
 use command::PointCommand;
-use point::{Angle, Point, Setting, WeightedPoint};
+use point::{Point, Setting, WeightedPoint};
 use replay::{Tally, float, number as word};
 use std::io;
 use std::io::Read;
@@ -45,19 +45,19 @@ fn angle(list: &mut impl Read) -> io::Result<Check> {
     let d = Point::new(x, y);
     let len = against_float(list, d.len())?;
     let (known, value) = match d.angle() {
-        Angle::Missing => (against(list, 0)?, against(list, 0)?),
-        Angle::Known(a) => (against(list, 1)?, against_float(list, a)?),
+        None => (against(list, 0)?, against(list, 0)?),
+        Some(a) => (against(list, 1)?, against_float(list, a)?),
     };
     Ok(len.and(known).and(value))
 }
 
-fn angle_read(list: &mut impl Read) -> io::Result<Angle> {
+fn angle_read(list: &mut impl Read) -> io::Result<Option<f32>> {
     let known = word(list)?;
     let a = float(list)?;
     if known == 0 {
-        return Ok(Angle::Missing);
+        return Ok(None);
     }
-    Ok(Angle::Known(a))
+    Ok(Some(a))
 }
 
 fn changed(list: &mut impl Read, setting: Setting) -> io::Result<Check> {

@@ -11,9 +11,9 @@ use Rattle.leaves.specs.Fma.{fma_of}
 use Rattle.leaves.specs.Small.{negative_of, abs_of, less_of, min_of, max_of}
 use Rattle.leaves.specs.Sqrt.{sqrt_of}
 use Rattle.leaves.specs.Whole.{limit32}
-use Rattle.answer.specs.declared.Answer.TheVariants.{Done, SumTooLarge}
+use Rattle.answer.specs.Answer.{Done, SumTooLarge}
 use Rattle.point.specs.declared.Point.{Point}
-use Rattle.point.specs.declared.Angle.TheVariants.{Missing, Known}
+use Rattle.std.specs.Prelude.{None, Some}
 use Rattle.point.specs.Point.{point_at, plain, applied_of, minus_of, len_of}
 use Rattle.point.specs.Angle.{half_pi, approx_atan2_of, angle_of, diff_of, full_diff_of, difference_of, changed_of}
 use Rattle.point.specs.Curve.{curvature_of}
@@ -69,12 +69,12 @@ spline_of (Extend edit) = edit.at
 spline_of (Bend edit i row) = edit.at
 
 pub numbered_on_lem :
-    spline_of (plan_of Screen room (state_after (plan_of Screen room (state_of Done 2 0 false Missing) (ended (P 10 0) zero32) Contour)) (ended (P 10 0) zero32) (Line (plain (P 0 0)) (plain (P 10 0)))) ≡ 2
+    spline_of (plan_of Screen room (state_after (plan_of Screen room (state_of Done 2 0 false None) (ended (P 10 0) zero32) Contour)) (ended (P 10 0) zero32) (Line (plain (P 0 0)) (plain (P 10 0)))) ≡ 2
 unfolding state_after spline_of plan_of plan_line_of marked_of opens_of spline_edit_of
 numbered_on_lem = refl
 
 -- ---- "The mark moves to the new spline."
-pub mark_moves : (state_after (plan_of Screen room (state_of Done 2 0 true Missing) (ended (P 10 0) zero32) (Line (plain (P 0 0)) (plain (P 10 0))))).mark ≡ false
+pub mark_moves : (state_after (plan_of Screen room (state_of Done 2 0 true None) (ended (P 10 0) zero32) (Line (plain (P 0 0)) (plain (P 10 0))))).mark ≡ false
 unfolding state_after plan_of plan_line_of opens_of spline_edit_of
 mark_moves = refl
 
@@ -89,17 +89,17 @@ unfolding far_of minus_of len_of sqrt_of root_in root rooted count_trailing_zero
 near_enough = refl
 
 -- ---- a line without angle: the screen setting forgets the last angle, the knife setting keeps it
-pub screen_forgets : line_angle_of Screen (Known half_pi) Missing ≡ Missing
+pub screen_forgets : line_angle_of Screen (Some half_pi) None ≡ None
 unfolding line_angle_of
 screen_forgets = refl
 
-pub knife_keeps : line_angle_of Knife (Known half_pi) Missing ≡ Known half_pi
+pub knife_keeps : line_angle_of Knife (Some half_pi) None ≡ Some half_pi
 unfolding line_angle_of
 knife_keeps = refl
 
 -- ---- "a line and a quad must never share a spline": at (10,0), where the last spline ends with a sum of 0 or 2, with no mark and no last angle; quads are stored
 abbrev opens_after : Setting → Kind → Float → Bool
-opens_after setting kind sum = opens_of setting kind (state_of Done 2 1 false Missing) (ended (P 10 0) sum) Missing (P 10 0)
+opens_after setting kind sum = opens_of setting kind (state_of Done 2 1 false None) (ended (P 10 0) sum) None (P 10 0)
 
 -- it goes by the last spline, not by the quad table; and on the screen they share
 pub kinds_apart :
@@ -111,7 +111,7 @@ kinds_apart = (refl, refl, refl, refl, refl, refl)
 
 -- ---- a straight quad, whose curvature is 2, on a spline whose sum is 65,536: refused with 8, and nothing is stored
 pub sum_refused :
-    plan_of Screen room (state_of Done 1 1 false Missing) (ended (P 10 0) limit32) (Quad (plain (P 10 0)) (plain (P 15 0)) (plain (P 20 0)))
-    ≡ Keep (state_of SumTooLarge 1 1 false Missing)
+    plan_of Screen room (state_of Done 1 1 false None) (ended (P 10 0) limit32) (Quad (plain (P 10 0)) (plain (P 15 0)) (plain (P 20 0)))
+    ≡ Keep (state_of SumTooLarge 1 1 false None)
 unfolding plan_of plan_quad_of plan_legs_of plan_curve_of refused_of quad_row_of cross_of leg_of own_curvature_of straight_of curve_of far_of spline_kind_of apart_of opens_of sum_before spline_edit_of applied_of minus_of len_of approx_atan2_of angle_of diff_of full_diff_of difference_of changed_of curvature_of negative_of abs_of less_of min_of max_of fma_of sqrt_of root_in root rooted count_trailing_zeros size span climb odd units round neg sum add sub mul div lt eq le of_int is_nan of_fields of_bits to_bits
 sum_refused = refl

@@ -1,8 +1,8 @@
 -- A primitive is planned as what it comes to. Assumes nothing.
 use mathlib.Core.Path.{◌≡◌, refl}
-use Rattle.answer.specs.declared.Answer.TheVariants.{TooManyPieces}
-use Rattle.point.specs.declared.Angle.{Angle}
-use Rattle.point.specs.declared.Angle.TheVariants.{Missing, Known}
+use Rattle.answer.specs.Answer.{TooManyPieces}
+use Rattle.point.specs.Angle.{Angle}
+use Rattle.std.specs.Prelude.{None, Some}
 use Rattle.point.specs.declared.Setting.{Setting}
 use Rattle.point.specs.declared.WeightedPoint.{WeightedPoint}
 use Rattle.primitives.specs.declared.Capacities.{Capacities}
@@ -27,10 +27,10 @@ plan_shape_of setting caps st last (Curved p0 p1 p2 in-angle out-angle) = plan_c
 legs_planned : (setting : Setting) (caps : Capacities) (st : State) (last : SplineRow) (p0 p1 p2 : WeightedPoint) (a b : Angle)
     → plan_legs_of setting caps st last p0 p1 p2 a b ≡ plan_shape_of setting caps st last (legs_of p0 p1 p2 a b)
 unfolding plan_legs_of plan_shape_of legs_of
-legs_planned setting caps st last p0 p1 p2 Missing Missing = refl
-legs_planned setting caps st last p0 p1 p2 Missing (Known b) = refl
-legs_planned setting caps st last p0 p1 p2 (Known a) Missing = refl
-legs_planned setting caps st last p0 p1 p2 (Known a) (Known b) = refl
+legs_planned setting caps st last p0 p1 p2 None None = refl
+legs_planned setting caps st last p0 p1 p2 None (Some b) = refl
+legs_planned setting caps st last p0 p1 p2 (Some a) None = refl
+legs_planned setting caps st last p0 p1 p2 (Some a) (Some b) = refl
 
 pub planned : (setting : Setting) (caps : Capacities) (st : State) (last : SplineRow) (p : Primitive)
     → plan_of setting caps st last p ≡ plan_shape_of setting caps st last (shape_of p)

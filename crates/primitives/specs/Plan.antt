@@ -4,12 +4,12 @@ use Rattle.std.specs.Prelude.{◌+◌, true, not, ◌&&◌, cond, leb}
 use Rattle.std.specs.Float.Ieee.{le}
 use Rattle.leaves.specs.Single.{◌⊕◌, recip}
 use Rattle.leaves.specs.Whole.{limit32}
-use Rattle.answer.specs.declared.Answer.{Answer}
-use Rattle.answer.specs.declared.Answer.TheVariants.{TooManyPieces, QuadsFull, SplinesFull, SumTooLarge}
+use Rattle.answer.specs.Answer.{Answer}
+use Rattle.answer.specs.Answer.{TooManyPieces, QuadsFull, SplinesFull, SumTooLarge}
 use Rattle.point.specs.declared.Point.{Point}
 use Rattle.point.specs.declared.WeightedPoint.{WeightedPoint}
-use Rattle.point.specs.declared.Angle.{Angle}
-use Rattle.point.specs.declared.Angle.TheVariants.{Missing, Known}
+use Rattle.point.specs.Angle.{Angle}
+use Rattle.std.specs.Prelude.{None, Some}
 use Rattle.point.specs.Point.{applied_of, minus_of}
 use Rattle.point.specs.Angle.{angle_of}
 use Rattle.point.specs.declared.Setting.{Setting}
@@ -74,10 +74,10 @@ plan_curve_of setting caps st last p0 p1 p2 in-angle out-angle =
 
 -- "A quad with both legs' angles missing is dropped. With one missing it is a line."
 unfoldable pub plan_legs_of : Setting → Capacities → State → SplineRow → WeightedPoint → WeightedPoint → WeightedPoint → Angle → Angle → Edit
-plan_legs_of setting caps st last p0 p1 p2 Missing Missing = Keep st
-plan_legs_of setting caps st last p0 p1 p2 Missing (Known a) = plan_line_of setting caps st last (applied_of p0) (applied_of p2)
-plan_legs_of setting caps st last p0 p1 p2 (Known a) Missing = plan_line_of setting caps st last (applied_of p0) (applied_of p2)
-plan_legs_of setting caps st last p0 p1 p2 (Known a) (Known b) = plan_curve_of setting caps st last p0 p1 p2 (Known a) (Known b)
+plan_legs_of setting caps st last p0 p1 p2 None None = Keep st
+plan_legs_of setting caps st last p0 p1 p2 None (Some a) = plan_line_of setting caps st last (applied_of p0) (applied_of p2)
+plan_legs_of setting caps st last p0 p1 p2 (Some a) None = plan_line_of setting caps st last (applied_of p0) (applied_of p2)
+plan_legs_of setting caps st last p0 p1 p2 (Some a) (Some b) = plan_curve_of setting caps st last p0 p1 p2 (Some a) (Some b)
 
 -- `push_quad`
 unfoldable pub plan_quad_of : Setting → Capacities → State → SplineRow → WeightedPoint → WeightedPoint → WeightedPoint → Edit

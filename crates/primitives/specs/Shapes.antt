@@ -1,6 +1,6 @@
 -- Scaffolding: what a primitive comes to, for the contracts of private functions in src/planning.rt; no promise rests on it. Assumes nothing.
-use Rattle.point.specs.declared.Angle.{Angle}
-use Rattle.point.specs.declared.Angle.TheVariants.{Missing, Known}
+use Rattle.point.specs.Angle.{Angle}
+use Rattle.std.specs.Prelude.{None, Some}
 use Rattle.point.specs.declared.WeightedPoint.{WeightedPoint}
 use Rattle.point.specs.Point.{minus_of, applied_of}
 use Rattle.point.specs.Angle.{angle_of}
@@ -10,10 +10,10 @@ use Rattle.primitives.specs.declared.Shape.{Shape}
 use Rattle.primitives.specs.declared.Shape.TheVariants as shape
 
 unfoldable pub legs_of : WeightedPoint → WeightedPoint → WeightedPoint → Angle → Angle → Shape
-legs_of p0 p1 p2 Missing Missing = shape.Nothing
-legs_of p0 p1 p2 Missing (Known a) = shape.Straight (applied_of p0) (applied_of p2)
-legs_of p0 p1 p2 (Known a) Missing = shape.Straight (applied_of p0) (applied_of p2)
-legs_of p0 p1 p2 (Known a) (Known b) = shape.Curved p0 p1 p2 (Known a) (Known b)
+legs_of p0 p1 p2 None None = shape.Nothing
+legs_of p0 p1 p2 None (Some a) = shape.Straight (applied_of p0) (applied_of p2)
+legs_of p0 p1 p2 (Some a) None = shape.Straight (applied_of p0) (applied_of p2)
+legs_of p0 p1 p2 (Some a) (Some b) = shape.Curved p0 p1 p2 (Some a) (Some b)
 
 unfoldable pub quad_shape_of : WeightedPoint → WeightedPoint → WeightedPoint → Shape
 quad_shape_of p0 p1 p2 = legs_of p0 p1 p2 (angle_of (minus_of (applied_of p1) (applied_of p0))) (angle_of (minus_of (applied_of p2) (applied_of p1)))

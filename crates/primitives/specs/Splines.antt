@@ -2,11 +2,11 @@
 use Rattle.std.specs.Prelude.{ℕ, ◌+◌, ◌-◌, min, Bool, true, false, not, ◌||◌, cond, Float}
 use Rattle.std.specs.Float.Ieee.{le, eq}
 use Rattle.leaves.specs.Single.{f32, zero32}
-use Rattle.answer.specs.declared.Answer.{Answer}
-use Rattle.answer.specs.declared.Answer.TheVariants.{Done}
+use Rattle.answer.specs.Answer.{Answer}
+use Rattle.answer.specs.Answer.{Done}
 use Rattle.point.specs.declared.Point.{Point}
-use Rattle.point.specs.declared.Angle.{Angle}
-use Rattle.point.specs.declared.Angle.TheVariants.{Missing, Known}
+use Rattle.point.specs.Angle.{Angle}
+use Rattle.std.specs.Prelude.{None, Some}
 use Rattle.point.specs.Point.{minus_of, len_of}
 use Rattle.point.specs.Angle.{changed_of}
 use Rattle.point.specs.declared.Setting.{Setting}
@@ -49,13 +49,13 @@ opens_of setting kind st last angle start =
 -- "A line sets the last angle to its own, missing or not. Knife setting: a line without angle keeps the last angle."
 unfoldable pub line_angle_of : Setting → Angle → Angle → Angle
 line_angle_of Screen last angle = angle
-line_angle_of Knife last Missing = last
-line_angle_of Knife last (Known a) = Known a
+line_angle_of Knife last None = last
+line_angle_of Knife last (Some a) = Some a
 
 -- The last angle after a Move. 02, Eight: "a stale angle from the contour before can decide a merge, so there a Move forgets the last angle."
 unfoldable pub move_angle_of : Setting → Angle → Angle
 move_angle_of Screen last = last
-move_angle_of Knife last = Missing
+move_angle_of Knife last = None
 
 -- "A spline's sum starts at 0."
 unfoldable pub sum_before : Bool → SplineRow → Float

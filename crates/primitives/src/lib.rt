@@ -9,7 +9,7 @@ mod splines;
 use answer::Answer;
 pub use cubics::{cubic_pieces, cubic_point, piece};
 pub use planning::plan;
-use point::{Angle, Point, WeightedPoint};
+use point::{Point, WeightedPoint};
 pub use splines::below;
 
 // How many quads and splines the tables take.
@@ -26,7 +26,7 @@ pub struct State {
     pub splines: u32,
     pub quads: usize,
     pub mark: bool,
-    pub last: Angle,
+    pub last: Option<f32>,
 }
 
 #[derive(Clone, Copy)]
@@ -78,7 +78,7 @@ pub enum Shape {
     Mark,
     Excess,
     Straight(Point, Point),
-    Curved(WeightedPoint, WeightedPoint, WeightedPoint, Angle, Angle),
+    Curved(WeightedPoint, WeightedPoint, WeightedPoint, Option<f32>, Option<f32>),
 }
 
 // One row of the quad table: partial_curvature is the running sum of its spline.

@@ -8,8 +8,8 @@ use crate::splines::{line_angle, move_angle, opens, spline_edit, sum_before};
 use crate::{
     Capacities, Edit, Kind, Primitive, QuadRow, Shape, SplineEdit, SplineRow, State, Three,
 };
-use answer::Answer;
-use point::{Angle, Point, Setting, WeightedPoint};
+use answer::{Answer, Refusal};
+use point::{Point, Setting, WeightedPoint};
 
 const SUM_LIMIT: f32 = 65536.0;
 
@@ -57,7 +57,7 @@ fn plan_line(
     let angle = end.minus(start).angle();
     let opens = opens(setting, Kind::Straight, st, last, angle, start);
     if opens & (caps.splines <= st.splines) {
-        return Edit::Keep(refused(st, Answer::SplinesFull));
+        return Edit::Keep(refused(st, Err(Refusal::SplinesFull)));
     }
     let sum = sum_before(opens, last);
     let before = st.last;
@@ -109,24 +109,24 @@ fn plan_curve(
     p0: WeightedPoint,
     p1: WeightedPoint,
     p2: WeightedPoint,
-    in_angle: Angle,
-    out_angle: Angle,
+    in_angle: Option<f32>,
+    out_angle: Option<f32>,
 ) -> Edit
     ensures { result ≡ plan_curve_of setting caps st last p0 p1 p2 in_angle out_angle }
 {
     if caps.quads <= st.quads {
-        return Edit::Keep(refused(st, Answer::QuadsFull));
+        return Edit::Keep(refused(st, Err(Refusal::QuadsFull)));
     }
     let start = p0.applied();
     let end = p2.applied();
     let opens = opens(setting, Kind::Round, st, last, in_angle, start);
     if opens & (caps.splines <= st.splines) {
-        return Edit::Keep(refused(st, Answer::SplinesFull));
+        return Edit::Keep(refused(st, Err(Refusal::SplinesFull)));
     }
     let curve = curve(start, p1.applied(), end);
     let sum = sum_before(opens, last) + curve.curvature;
     if !(sum <= SUM_LIMIT) {
-        return Edit::Keep(refused(st, Answer::SumTooLarge));
+        return Edit::Keep(refused(st, Err(Refusal::SumTooLarge)));
     }
     let quads = st.quads + 1;
     let edit = spline_edit(opens, st, last, start, end, sum, quads, out_angle);
@@ -138,19 +138,19 @@ fn legs(
     p0: WeightedPoint,
     p1: WeightedPoint,
     p2: WeightedPoint,
-    in_angle: Angle,
-    out_angle: Angle,
+    in_angle: Option<f32>,
+    out_angle: Option<f32>,
 ) -> Shape
     ensures { result ≡ legs_of p0 p1 p2 in_angle out_angle }
 {
     match in_angle {
-        Angle::Missing => match out_angle {
-            Angle::Missing => Shape::Nothing,
-            Angle::Known(_) => Shape::Straight(p0.applied(), p2.applied()),
+        None => match out_angle {
+            None => Shape::Nothing,
+            Some(_) => Shape::Straight(p0.applied(), p2.applied()),
         },
-        Angle::Known(_) => match out_angle {
-            Angle::Missing => Shape::Straight(p0.applied(), p2.applied()),
-            Angle::Known(_) => Shape::Curved(p0, p1, p2, in_angle, out_angle),
+        Some(_) => match out_angle {
+            None => Shape::Straight(p0.applied(), p2.applied()),
+            Some(_) => Shape::Curved(p0, p1, p2, in_angle, out_angle),
         },
     }
 }
@@ -184,7 +184,7 @@ pub fn plan(setting: Setting, caps: Capacities, st: State, last: SplineRow, p: P
     match shape {
         Shape::Nothing => Edit::Keep(st),
         Shape::Mark => Edit::Keep(marked(setting, st)),
-        Shape::Excess => Edit::Keep(refused(st, Answer::TooManyPieces)),
+        Shape::Excess => Edit::Keep(refused(st, Err(Refusal::TooManyPieces))),
         Shape::Straight(start, end) => plan_line(setting, caps, st, last, start, end),
         Shape::Curved(p0, p1, p2, in_angle, out_angle) => {
             plan_curve(setting, caps, st, last, p0, p1, p2, in_angle, out_angle)

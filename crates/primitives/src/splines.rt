@@ -3,8 +3,7 @@ ghost use Rattle.std.specs.Prelude.{true, ◌≡◌, ◌-◌, ◌<◌};
 ghost use Rattle.primitives.specs.Splines.{far_of, spline_kind_of, apart_of, opens_of, line_angle_of, move_angle_of, sum_before, quad_count_of, spline_edit_of};
 
 use crate::{Kind, SplineEdit, SplineRow, State};
-use answer::Answer;
-use point::{Angle, Point, Setting, changed};
+use point::{Point, Setting, changed};
 
 // The square of MAX_ERROR, 0.0625.
 const MAX_ERROR_SQUARED: f32 = 0.00390625;
@@ -54,7 +53,7 @@ pub fn opens(
     kind: Kind,
     st: State,
     last: SplineRow,
-    angle: Angle,
+    angle: Option<f32>,
     start: Point,
 ) -> bool
     ensures { result ≡ opens_of setting kind st last angle start }
@@ -67,25 +66,25 @@ pub fn opens(
 }
 
 // The last angle after a line: the knife keeps the one before where a line has none.
-pub fn line_angle(setting: Setting, last: Angle, angle: Angle) -> Angle
+pub fn line_angle(setting: Setting, last: Option<f32>, angle: Option<f32>) -> Option<f32>
     ensures { result ≡ line_angle_of setting last angle }
 {
     match setting {
         Setting::Screen => angle,
         Setting::Knife => match angle {
-            Angle::Missing => last,
-            Angle::Known(a) => Angle::Known(a),
+            None => last,
+            Some(a) => Some(a),
         },
     }
 }
 
 // The last angle after a Move: the knife forgets it, so that no contour knows the one before.
-pub fn move_angle(setting: Setting, last: Angle) -> Angle
+pub fn move_angle(setting: Setting, last: Option<f32>) -> Option<f32>
     ensures { result ≡ move_angle_of setting last }
 {
     match setting {
         Setting::Screen => last,
-        Setting::Knife => Angle::Missing,
+        Setting::Knife => None,
     }
 }
 
@@ -125,7 +124,7 @@ pub fn spline_edit(
     end: Point,
     sum: f32,
     quads: usize,
-    angle: Angle,
+    angle: Option<f32>,
 ) -> SplineEdit
     requires { opens ≡ true → st.splines < 4294967295 }
     ensures { result ≡ spline_edit_of opens st last start end sum quads angle }
@@ -141,7 +140,7 @@ pub fn spline_edit(
         };
         let splines = st.splines + 1;
         let next = State {
-            answer: Answer::Done,
+            answer: Ok(()),
             splines,
             quads,
             mark: false,
@@ -165,7 +164,7 @@ pub fn spline_edit(
         quad_count: quad_count(last.first_quad, quads),
     };
     let next = State {
-        answer: Answer::Done,
+        answer: Ok(()),
         splines: st.splines,
         quads,
         mark: false,

@@ -7,8 +7,8 @@ use mathlib.Core.Bool.{Bool, true, false, not, cond, true≢false}
 use mathlib.Core.List.{List}
 use native.Mathlib.Nat.{le_trans}
 use lib.Dec.{lit≤}
-use Rattle.answer.specs.declared.Answer.{Answer}
-use Rattle.answer.specs.declared.Answer.TheVariants.{Done, BadCoordinate, BadWeight, Unusable, StoreFull, OutputShort}
+use Rattle.answer.specs.Answer.{Answer}
+use Rattle.answer.specs.Answer.{Done, BadCoordinate, BadWeight, Unusable, StoreFull, OutputShort}
 use Rattle.answer.specs.Number.{number_of, is_done}
 use Rattle.answer.proofs.Laws.{done_is}
 use Rattle.store.specs.declared.StoreState.{StoreState}

@@ -4,7 +4,7 @@ use mathlib.Core.Bool.{Bool, true, false, cond}
 use mathlib.Core.List.{List, [], ◌∷◌, Memᴰ}
 use Rattle.answer.specs.Number.{is_done}
 use Rattle.point.specs.declared.Point.{Point}
-use Rattle.point.specs.declared.Angle.{Angle}
+use Rattle.point.specs.Angle.{Angle}
 use Rattle.point.specs.declared.Setting.{Setting}
 use Rattle.point.specs.Point.{applied_of}
 use Rattle.primitives.specs.declared.Capacities.{Capacities}

@@ -12,8 +12,8 @@ use borrow.Author.Tests.{eqb-false}
 use mathlib.Mathlib.Data.Bool.Basic.{eq-false_of_not-eq-true}
 use Rattle.store.proofs.Laws.{draw_answer, refused_keeps as store_keeps}
 use Rattle.answer.proofs.Laws.{done_is}
-use Rattle.answer.specs.declared.Answer.{Answer}
-use Rattle.answer.specs.declared.Answer.TheVariants.{Done, BadCoordinate, BadWeight, Unusable, StoreFull}
+use Rattle.answer.specs.Answer.{Answer}
+use Rattle.answer.specs.Answer.{Done, BadCoordinate, BadWeight, Unusable, StoreFull}
 use Rattle.answer.specs.Number.{number_of}
 use Rattle.leaves.specs.Single.{f32, zero32}
 use Rattle.point.specs.Point.{point_at, plain}

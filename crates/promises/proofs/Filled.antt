@@ -11,8 +11,8 @@ use native.Mathlib.Omega.{arith, by_contra}
 use Rattle.answer.specs.Number.{is_done}
 use Rattle.point.specs.declared.Point.{Point}
 use Rattle.point.specs.declared.WeightedPoint.{WeightedPoint}
-use Rattle.point.specs.declared.Angle.{Angle}
-use Rattle.point.specs.declared.Angle.TheVariants.{Missing, Known}
+use Rattle.point.specs.Angle.{Angle}
+use Rattle.std.specs.Prelude.{None, Some}
 use Rattle.point.specs.declared.Setting.{Setting}
 use Rattle.primitives.specs.declared.Capacities.{Capacities}
 use Rattle.primitives.specs.declared.Kind.{Kind}
@@ -41,10 +41,10 @@ record Drawn (p : Primitive) : Type 0 where
   drawn : DrawnAs p is from to
 
 quad_drawn : (a b c : WeightedPoint) (x y : Angle) → leg_of a b ≡ x → leg_of b c ≡ y → Drawn (Quad a b c) ⊎ Dropped (Quad a b c)
-quad_drawn a b c Missing Missing e f = inr (both_missing a b c e f)
-quad_drawn a b c Missing (Known y) e f = inl (record { is = _; from = _; to = _; drawn = as_line a b c (first_missing y e f) })
-quad_drawn a b c (Known x) Missing e f = inl (record { is = _; from = _; to = _; drawn = as_line a b c (second_missing x e f) })
-quad_drawn a b c (Known x) (Known y) e f =
+quad_drawn a b c None None e f = inr (both_missing a b c e f)
+quad_drawn a b c None (Some y) e f = inl (record { is = _; from = _; to = _; drawn = as_line a b c (first_missing y e f) })
+quad_drawn a b c (Some x) None e f = inl (record { is = _; from = _; to = _; drawn = as_line a b c (second_missing x e f) })
+quad_drawn a b c (Some x) (Some y) e f =
     inl (record { is = _; from = _; to = _; drawn = quad a b c (record { first = x; second = y; first_leg = e; second_leg = f }) })
 
 more : (n : ℕ) → n ≤ suc n

@@ -13,8 +13,8 @@ use lib.Ieee.{Float}
 use lib.ListN.{length, length-map}
 use borrow.Author.Tests.{eqb-false}
 use Rattle.answer.proofs.Laws.{done_is}
-use Rattle.answer.specs.declared.Answer.{Answer}
-use Rattle.answer.specs.declared.Answer.TheVariants.{Done, Unusable, TooManyPieces, QuadsFull, SplinesFull, SumTooLarge, OutputShort}
+use Rattle.answer.specs.Answer.{Answer}
+use Rattle.answer.specs.Answer.{Done, Unusable, TooManyPieces, QuadsFull, SplinesFull, SumTooLarge, OutputShort}
 use Rattle.answer.specs.Number.{number_of, is_done}
 use Rattle.point.specs.declared.Setting.{Setting}
 use Rattle.point.specs.declared.Point.{Point}

@@ -7,7 +7,7 @@ use Prim.Native.Nat.{ℕ}
 use native.Mathlib.Omega.{arith}
 use lib.ListN.{length, length-map}
 use lib.Seq.{take_at}
-use Rattle.answer.specs.declared.Answer.TheVariants.{Done, Unusable, OutputShort}
+use Rattle.answer.specs.Answer.{Done, Unusable, OutputShort}
 use Rattle.answer.specs.Number.{number_of, is_done}
 use Rattle.point.specs.declared.Setting.{Setting}
 use Rattle.store.specs.Drawable.{drawable_of}

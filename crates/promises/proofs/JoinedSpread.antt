@@ -7,7 +7,7 @@ use mathlib.Core.List.{List, [], ◌∷◌}
 use native.Mathlib.Nat.{le_trans, le_of_eq, le_of_lt, le_refl, lt_of_lt_of_le, lt_irrefl, add-suc, add_left_cancel, add-sub_of_le, le-add_right}
 use native.Mathlib.Decide.{dec_lt}
 use native.Mathlib.Omega.{arith, by_contra}
-use Rattle.answer.specs.declared.Answer.TheVariants.{Done}
+use Rattle.answer.specs.Answer.{Done}
 use Rattle.tables.specs.Tables.{QuadTable, quad_row_at}
 use Rattle.tables.specs.Run.{World}
 use Rattle.tables.proofs.Spans.{sum_at, owner_at, same_sum, same_owner}

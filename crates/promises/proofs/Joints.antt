@@ -12,8 +12,8 @@ use lib.Dec.{T}
 use Rattle.answer.specs.Number.{is_done}
 use Rattle.point.specs.declared.Point.{Point}
 use Rattle.point.specs.declared.WeightedPoint.{WeightedPoint}
-use Rattle.point.specs.declared.Angle.{Angle}
-use Rattle.point.specs.declared.Angle.TheVariants.{Missing, Known}
+use Rattle.point.specs.Angle.{Angle}
+use Rattle.std.specs.Prelude.{None, Some}
 use Rattle.point.specs.declared.Setting.{Setting}
 use Rattle.point.specs.declared.Setting.TheVariants.{Screen, Knife}
 use Rattle.point.specs.Point.{applied_of, minus_of}
@@ -251,9 +251,9 @@ now A = record { mark = A.mark; last = refl; ends = A.ends }
 -- ---- two lines that turn
 changed_known : (setting : Setting) (last a b : Angle) → changed_of setting a b ≡ true → line_angle_of setting last a ≡ a
 unfolding changed_of line_angle_of
-changed_known setting last Missing b h = absurd (true≢false (sym h))
-changed_known Screen last (Known a) b h = refl
-changed_known Knife last (Known a) b h = refl
+changed_known setting last None b h = absurd (true≢false (sym h))
+changed_known Screen last (Some a) b h = refl
+changed_known Knife last (Some a) b h = refl
 
 module _ (setting : Setting) (caps : Capacities) (a b c : WeightedPoint) where
   abbrev pub out : Angle

@@ -15,8 +15,8 @@ use Rattle.leaves.specs.Whole.{limit32}
 use Rattle.answer.specs.Number.{is_done}
 use Rattle.point.specs.declared.Point.{Point}
 use Rattle.point.specs.declared.WeightedPoint.{WeightedPoint}
-use Rattle.point.specs.declared.Angle.{Angle}
-use Rattle.point.specs.declared.Angle.TheVariants.{Missing, Known}
+use Rattle.point.specs.Angle.{Angle}
+use Rattle.std.specs.Prelude.{None, Some}
 use Rattle.point.specs.Point.{applied_of, minus_of}
 use Rattle.point.specs.Angle.{angle_of}
 use Rattle.point.specs.declared.Setting.{Setting}
@@ -76,10 +76,10 @@ module _ (setting : Setting) (caps : Capacities) (st : State) (last : SplineRow)
 
   legs_planned : (p0 p1 p2 : WeightedPoint) (a b : Angle) → Planned caps st (plan_legs_of setting caps st last p0 p1 p2 a b)
   unfolding plan_legs_of
-  legs_planned p0 p1 p2 Missing Missing = keeps st refl
-  legs_planned p0 p1 p2 Missing (Known b) = line_planned (applied_of p0) (applied_of p2)
-  legs_planned p0 p1 p2 (Known a) Missing = line_planned (applied_of p0) (applied_of p2)
-  legs_planned p0 p1 p2 (Known a) (Known b) = curve_planned p0 p1 p2 (Known a) (Known b)
+  legs_planned p0 p1 p2 None None = keeps st refl
+  legs_planned p0 p1 p2 None (Some b) = line_planned (applied_of p0) (applied_of p2)
+  legs_planned p0 p1 p2 (Some a) None = line_planned (applied_of p0) (applied_of p2)
+  legs_planned p0 p1 p2 (Some a) (Some b) = curve_planned p0 p1 p2 (Some a) (Some b)
 
   planned : (p : Primitive) → Planned caps st (plan_of setting caps st last p)
   unfolding plan_of plan_quad_of marked_of refused_of

@@ -5,7 +5,7 @@ use mathlib.Core.Bool.{Bool, true, false, cond}
 use mathlib.Core.List.{List}
 use native.Mathlib.Nat.{le_refl, le_of_eq, not-suc-le-zero}
 use lib.ListN.{length}
-use Rattle.answer.specs.declared.Answer.TheVariants.{Unusable}
+use Rattle.answer.specs.Answer.{Unusable}
 use Rattle.answer.specs.Number.{is_done}
 use Rattle.primitives.specs.declared.Primitive.{Primitive}
 use Rattle.store.specs.Drawable.{drawable_of}

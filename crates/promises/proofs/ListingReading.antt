@@ -7,8 +7,8 @@ use mathlib.Core.List.{List, [], ◌∷◌, ◌++◌, append_assoc}
 use native.Mathlib.Nat.{add-zero, suc-add, zero-add, le_refl}
 use native.Mathlib.Omega.{arith}
 use lib.ListN.{length, drop, length-append}
-use Rattle.answer.specs.declared.Answer.{Answer}
-use Rattle.answer.specs.declared.Answer.TheVariants.{Done, BadText}
+use Rattle.answer.specs.Answer.{Answer}
+use Rattle.answer.specs.Answer.{Done, BadText}
 use Rattle.answer.specs.Number.{is_done}
 use Rattle.answer.proofs.Laws.{done_is}
 use Rattle.store.specs.Drawing.{Outcome}

@@ -16,9 +16,9 @@ use lib.Seq.{sets}
 use Rattle.facts.specs.Every.{All}
 use Rattle.columns.specs.Flags.{is_flag_of}
 use Rattle.leaves.specs.Small.{is_inf, negative_of}
-use Rattle.answer.specs.declared.Answer.{Answer}
+use Rattle.answer.specs.Answer.{Answer}
 use Rattle.answer.specs.Number.{number_of}
-use Rattle.answer.specs.declared.Answer.TheVariants.{Done, NotPrintable, BufferShort}
+use Rattle.answer.specs.Answer.{Done, NotPrintable, BufferShort}
 use Rattle.store.proofs.Written.{take_sets}
 use Rattle.contours.specs.Cutting.{behind, cut_after}
 use Rattle.text.specs.Decimal.{decimal_in, decimal_of}

@@ -14,8 +14,8 @@ use lib.ListN.{length, get_or, take}
 use lib.Seq.{get_or-take, length-take-le}
 use mathlib.Mathlib.Data.Bool.Basic.{and_elim_left}
 use Rattle.answer.proofs.Laws.{done_is}
-use Rattle.answer.specs.declared.Answer.{Answer}
-use Rattle.answer.specs.declared.Answer.TheVariants.{Done}
+use Rattle.answer.specs.Answer.{Answer}
+use Rattle.answer.specs.Answer.{Done}
 use Rattle.answer.specs.Number.{is_done}
 use Rattle.leaves.specs.Single.{f32}
 use Rattle.point.specs.declared.Setting.{Setting}

@@ -9,12 +9,12 @@ use lib.Ieee.Bits.{is_true}
 use lib.Ieee.Scale.{finite}
 use borrow.Author.Tests.{le-leb, lt-leb}
 use Rattle.leaves.specs.Whole.{limit32}
-use Rattle.answer.specs.declared.Answer.{Answer}
-use Rattle.answer.specs.declared.Answer.TheVariants.{Done, TooManyPieces, QuadsFull, SplinesFull, SumTooLarge}
+use Rattle.answer.specs.Answer.{Answer}
+use Rattle.answer.specs.Answer.{Done, TooManyPieces, QuadsFull, SplinesFull, SumTooLarge}
 use Rattle.answer.specs.Number.{is_done}
 use Rattle.point.specs.declared.WeightedPoint.{WeightedPoint}
-use Rattle.point.specs.declared.Angle.{Angle}
-use Rattle.point.specs.declared.Angle.TheVariants.{Missing, Known}
+use Rattle.point.specs.Angle.{Angle}
+use Rattle.std.specs.Prelude.{None, Some}
 use Rattle.point.specs.Point.{applied_of}
 use Rattle.point.specs.declared.Setting.{Setting}
 use Rattle.primitives.specs.declared.Capacities.{Capacities}
@@ -60,10 +60,10 @@ module _ (setting : Setting) (caps : Capacities) (w : World) where
       (cond (curve_opens p0 a && full) SplinesFull (cond (not (sum_fits p0 p1 p2 a)) SumTooLarge Done))
 
   quad_answer : WeightedPoint → WeightedPoint → WeightedPoint → Angle → Angle → Answer
-  quad_answer p0 p1 p2 Missing Missing = w.state.answer
-  quad_answer p0 p1 p2 Missing (Known b) = line_answer p0 p2
-  quad_answer p0 p1 p2 (Known a) Missing = line_answer p0 p2
-  quad_answer p0 p1 p2 (Known a) (Known b) = curve_answer p0 p1 p2 (Known a)
+  quad_answer p0 p1 p2 None None = w.state.answer
+  quad_answer p0 p1 p2 None (Some b) = line_answer p0 p2
+  quad_answer p0 p1 p2 (Some a) None = line_answer p0 p2
+  quad_answer p0 p1 p2 (Some a) (Some b) = curve_answer p0 p1 p2 (Some a)
 
   push_answer : Primitive → Answer
   push_answer Contour = w.state.answer
@@ -103,10 +103,10 @@ module _ (setting : Setting) (caps : Capacities) (w : World) where
 
   legs_is : (p0 p1 p2 : WeightedPoint) (a b : Angle) → (apply_of (plan_legs_of setting caps w.state (last_of w) p0 p1 p2 a b) w.quads w.splines).state.answer ≡ quad_answer p0 p1 p2 a b
   unfolding plan_legs_of apply_of quad_answer
-  legs_is p0 p1 p2 Missing Missing = refl
-  legs_is p0 p1 p2 Missing (Known b) = line_is p0 p2
-  legs_is p0 p1 p2 (Known a) Missing = line_is p0 p2
-  legs_is p0 p1 p2 (Known a) (Known b) = curve_is p0 p1 p2 (Known a) (Known b)
+  legs_is p0 p1 p2 None None = refl
+  legs_is p0 p1 p2 None (Some b) = line_is p0 p2
+  legs_is p0 p1 p2 (Some a) None = line_is p0 p2
+  legs_is p0 p1 p2 (Some a) (Some b) = curve_is p0 p1 p2 (Some a) (Some b)
 
   push_answer_lem : (p : Primitive) → (push_of setting caps p w).state.answer ≡ push_answer p
   unfolding push_of plan_of plan_quad_of apply_of marked_of refused_of push_answer
@@ -233,10 +233,10 @@ module _ (setting : Setting) (caps : Capacities) (w : World) where
 
     quad_told : (p0 p1 p2 : WeightedPoint) (a b : Angle) → leg_of p0 p1 ≡ a → leg_of p1 p2 ≡ b → Cause p0 p1 p2 (quad_answer p0 p1 p2 a b)
     unfolding quad_answer Cause
-    quad_told p0 p1 p2 Missing Missing e f = inl D
-    quad_told p0 p1 p2 Missing (Known b) e f = straight_told p0 p1 p2 (first_missing b e f)
-    quad_told p0 p1 p2 (Known a) Missing e f = straight_told p0 p1 p2 (second_missing a e f)
-    quad_told p0 p1 p2 (Known a) (Known b) e f =
+    quad_told p0 p1 p2 None None e f = inl D
+    quad_told p0 p1 p2 None (Some b) e f = straight_told p0 p1 p2 (first_missing b e f)
+    quad_told p0 p1 p2 (Some a) None e f = straight_told p0 p1 p2 (second_missing a e f)
+    quad_told p0 p1 p2 (Some a) (Some b) e f =
         subst (λ (x : Angle). Cause p0 p1 p2 (curve_answer p0 p1 p2 x)) e
         (curve_told p0 p1 p2 (record { first = a; second = b; first_leg = e; second_leg = f }) (sum_is_number p0 p1 p2 (leg_of p0 p1)))
 

@@ -14,8 +14,8 @@ use lib.ListN.{length}
 use lib.Ieee.{Float}
 use lib.Ieee.Positive.{num, den, den_pos}
 use Rattle.facts.proofs.Numbers.{shift_one}
-use Rattle.answer.specs.declared.Answer.{Answer}
-use Rattle.answer.specs.declared.Answer.TheVariants.{Done, Unusable, OutputShort}
+use Rattle.answer.specs.Answer.{Answer}
+use Rattle.answer.specs.Answer.{Done, Unusable, OutputShort}
 use Rattle.answer.specs.Number.{is_done}
 use Rattle.command.specs.declared.PointCommand.{PointCommand}
 use Rattle.command.specs.Packing.{pack_of}

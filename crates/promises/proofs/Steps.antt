@@ -12,7 +12,7 @@ use lib.Dec.{T}
 use lib.Ieee.{Float}
 use lib.Ieee.Positive.{num, den}
 use lib.ListN.{get_or}
-use Rattle.answer.specs.declared.Answer.TheVariants.{Done}
+use Rattle.answer.specs.Answer.{Done}
 use Rattle.command.specs.declared.PointCommand.TheVariants.{Start, Incr, End}
 use Rattle.point.specs.declared.Setting.{Setting}
 use Rattle.point.specs.declared.Setting.TheVariants.{Knife}

@@ -1,7 +1,7 @@
 -- An accepted drawing is one whose flattening answers 0, in either setting, with any tables and buffers lent. Then its words, walk and tables; and its
 -- contours, which are defined by the Moves of the command list, not by flags. Assumes nothing.
 use Rattle.std.specs.Prelude.{ℕ, suc, ◌-◌, ◌≤◌, ◌<◌, ◌≡◌, ◌⊎◌, ◌≢◌, List, ◌++◌, [], ◌∷◌, cond, take, get_or, replicate}
-use Rattle.answer.specs.declared.Answer.TheVariants.{Done}
+use Rattle.answer.specs.Answer.{Done}
 use Rattle.command.specs.declared.PointCommand.{PointCommand}
 use Rattle.command.specs.declared.PointCommand.TheVariants.{Start, Incr, End}
 use Rattle.point.specs.declared.Setting.{Setting}

@@ -5,12 +5,12 @@ use Rattle.std.specs.Float.{nan}
 use Rattle.std.specs.Float.Ieee.{lt}
 use Rattle.leaves.specs.Single.{f32, ◌⊕◌}
 use Rattle.leaves.specs.Whole.{limit32}
-use Rattle.answer.specs.declared.Answer.{Answer}
-use Rattle.answer.specs.declared.Answer.TheVariants.{Done, Unusable, TooManyPieces, QuadsFull, SplinesFull, SumTooLarge, OutputShort}
+use Rattle.answer.specs.Answer.{Answer}
+use Rattle.answer.specs.Answer.{Done, Unusable, TooManyPieces, QuadsFull, SplinesFull, SumTooLarge, OutputShort}
 use Rattle.answer.specs.Number.{is_done}
 use Rattle.point.specs.declared.WeightedPoint.{WeightedPoint}
-use Rattle.point.specs.declared.Angle.{Angle}
-use Rattle.point.specs.declared.Angle.TheVariants.{Missing, Known}
+use Rattle.point.specs.Angle.{Angle}
+use Rattle.std.specs.Prelude.{None, Some}
 use Rattle.point.specs.Point.{applied_of, minus_of}
 use Rattle.point.specs.Angle.{angle_of}
 use Rattle.point.specs.declared.Setting.{Setting}
@@ -53,13 +53,13 @@ leg_of from to = angle_of (minus_of (applied_of to) (applied_of from))
 pub record Curved (p0 p1 p2 : WeightedPoint) : Type 0 where
   pub first : Float
   pub second : Float
-  pub first_leg : leg_of p0 p1 ≡ Known first
-  pub second_leg : leg_of p1 p2 ≡ Known second
+  pub first_leg : leg_of p0 p1 ≡ Some first
+  pub second_leg : leg_of p1 p2 ≡ Some second
 
 -- "With one missing it is a line."
 pub data Straight (p0 p1 p2 : WeightedPoint) : Type 0 where
-  first_missing : (b : Float) → leg_of p0 p1 ≡ Missing → leg_of p1 p2 ≡ Known b → Straight p0 p1 p2
-  second_missing : (a : Float) → leg_of p0 p1 ≡ Known a → leg_of p1 p2 ≡ Missing → Straight p0 p1 p2
+  first_missing : (b : Float) → leg_of p0 p1 ≡ None → leg_of p1 p2 ≡ Some b → Straight p0 p1 p2
+  second_missing : (a : Float) → leg_of p0 p1 ≡ Some a → leg_of p1 p2 ≡ None → Straight p0 p1 p2
 
 -- RULES, Opening: whether a primitive of this kind opens a spline, for one that begins at p0 with this angle
 abbrev pub opens_at : Setting → Kind → World → Angle → WeightedPoint → Bool

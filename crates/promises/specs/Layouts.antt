@@ -3,7 +3,7 @@
 -- reads none of it. Assumes nothing.
 use Rattle.std.specs.Prelude.{ℕ, ◌+◌, ◌*◌, ◌/◌, ◌<◌, min, ◌≡◌, ◌≢◌, Bool, true, false, cond, List, [], ◌∷◌, Float, length, get_or, set}
 use Rattle.std.specs.Float.{nan}
-use Rattle.answer.specs.declared.Answer.TheVariants.{Done, Unusable, OutputShort}
+use Rattle.answer.specs.Answer.{Done, Unusable, OutputShort}
 use Rattle.answer.specs.Number.{is_done}
 use Rattle.point.specs.declared.Setting.{Setting}
 use Rattle.primitives.specs.declared.Three.{Three}

@@ -3,8 +3,8 @@
 -- flattening does. "11 is tested first, then the first fault in text order wins; a command is drawn once its last line is read. Lines count from 1." Assumes
 -- nothing.
 use Rattle.std.specs.Prelude.{ℕ, ◌+◌, ◌≤◌, ◌<◌, ◌≡◌, ◌⊎◌, ◌≢◌, ◌↔◌, cond, List, [], ◌∷◌, ◌++◌, length}
-use Rattle.answer.specs.declared.Answer.{Answer}
-use Rattle.answer.specs.declared.Answer.TheVariants.{Done, BadCoordinate, BadWeight, Unusable, StoreFull, TooManyPieces, QuadsFull, SplinesFull, SumTooLarge, OutputShort, BadText, InputTooLong, NotPrintable, BufferShort}
+use Rattle.answer.specs.Answer.{Answer}
+use Rattle.answer.specs.Answer.{Done, BadCoordinate, BadWeight, Unusable, StoreFull, TooManyPieces, QuadsFull, SplinesFull, SumTooLarge, OutputShort, BadText, InputTooLong, NotPrintable, BufferShort}
 use Rattle.answer.specs.Number.{is_done}
 use Rattle.point.specs.declared.Setting.TheVariants.{Screen}
 use Rattle.store.specs.declared.Call.{Call}

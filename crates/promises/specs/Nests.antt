@@ -3,7 +3,7 @@
 use Rattle.std.specs.Prelude.{ℕ, suc, ◌+◌, ◌≤◌, ◌≡◌, ◌≢◌, ◌↔◌, Float, length, take}
 use mathlib.Core.List.{List, [], ◌∷◌, ◌++◌, map, flat_map}
 use Rattle.facts.specs.Every.{All}
-use Rattle.answer.specs.declared.Answer.TheVariants.{Unusable}
+use Rattle.answer.specs.Answer.{Unusable}
 use Rattle.point.specs.declared.Setting.{Setting}
 use Rattle.point.specs.declared.Setting.TheVariants.{Screen}
 use Rattle.command.specs.declared.PointCommand.{PointCommand}

@@ -3,7 +3,7 @@ use Rattle.std.specs.Prelude.{ℕ, ◌+◌, ◌*◌, ◌≤◌, ◌<◌, ◌≡�
 use Rattle.std.specs.Float.{nan}
 use Rattle.leaves.specs.Single.{f32}
 use Rattle.leaves.specs.Small.{is_inf}
-use Rattle.answer.specs.declared.Answer.TheVariants.{Done, NotPrintable, BufferShort}
+use Rattle.answer.specs.Answer.{Done, NotPrintable, BufferShort}
 use Rattle.text.specs.Bytes.{bytes}
 use Rattle.contours.specs.Finished.{Vertex, finished_of}
 use Rattle.units.specs.Whole.{whole_of, in_range}

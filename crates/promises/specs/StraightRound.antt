@@ -6,7 +6,7 @@ use mathlib.Core.List.{List, [], ◌∷◌, ◌++◌, Memᴰ}
 use Rattle.command.specs.declared.PointCommand.TheVariants.{Start, End}
 use Rattle.point.specs.declared.Point.{Point}
 use Rattle.point.specs.declared.WeightedPoint.{WeightedPoint}
-use Rattle.point.specs.declared.Angle.TheVariants.{Missing}
+use Rattle.std.specs.Prelude.{None}
 use Rattle.point.specs.declared.Setting.TheVariants.{Knife}
 use Rattle.point.specs.Point.{applied_of}
 use Rattle.primitives.specs.declared.Kind.{Kind}
@@ -35,7 +35,7 @@ pub data DrawnAs : Primitive → Kind → Point → Point → Type 0 where
 
 -- "A quad with both legs' angles missing is dropped."
 pub data Dropped : Primitive → Type 0 where
-  both_missing : (a b c : WeightedPoint) → leg_of a b ≡ Missing → leg_of b c ≡ Missing → Dropped (Quad a b c)
+  both_missing : (a b c : WeightedPoint) → leg_of a b ≡ None → leg_of b c ≡ None → Dropped (Quad a b c)
 
 -- how many splines are open once these primitives are pushed
 unfoldable pub splines_after : Job → List Primitive → ℕ

@@ -10,7 +10,7 @@ use lib.Seq.{length-sets, take-suc-set}
 use lib.Dec.{eqb}
 use lib.Ieee.{le, of_bits}
 use borrow.Author.Tests.{le-leb, ne_eqb}
-use Rattle.answer.specs.declared.Answer.TheVariants.{Done, Unusable, StoreFull}
+use Rattle.answer.specs.Answer.{Done, Unusable, StoreFull}
 use Rattle.answer.specs.Number.{is_done}
 use Rattle.leaves.specs.Single.{zero32, one32}
 use Rattle.point.specs.declared.Point.{Point}

@@ -9,7 +9,7 @@ use lib.Dec.{leb}
 use lib.ListN.{length}
 use borrow.Author.Tests.{leb-true}
 use mathlib.Mathlib.Data.Bool.Basic.{and_elim_left, and_elim_right}
-use Rattle.answer.specs.declared.Answer.TheVariants.{BadCoordinate, BadWeight, Unusable, StoreFull}
+use Rattle.answer.specs.Answer.{BadCoordinate, BadWeight, Unusable, StoreFull}
 use Rattle.point.specs.declared.Point.{Point}
 use Rattle.store.specs.declared.StoreState.{StoreState}
 use Rattle.store.specs.declared.Call.{Call}

@@ -11,8 +11,8 @@ use lib.ListN.{length, length-set}
 use lib.Seq.{take-suc-set, get_or-set_same}
 use borrow.Author.Tests.{eqb-true, eqb-false}
 use mathlib.Mathlib.Data.Bool.Basic.{and_elim_left, and_elim_right, or-eq-false-eq-eq-false-and-eq-false}
-use Rattle.answer.specs.declared.Answer.{Answer}
-use Rattle.answer.specs.declared.Answer.TheVariants.{Done, BadCoordinate, BadWeight, Unusable, StoreFull}
+use Rattle.answer.specs.Answer.{Answer}
+use Rattle.answer.specs.Answer.{Done, BadCoordinate, BadWeight, Unusable, StoreFull}
 use Rattle.answer.specs.Number.{is_done}
 use Rattle.answer.proofs.Laws.{done_is}
 use Rattle.leaves.specs.Single.{zero32, one32}

@@ -9,7 +9,7 @@ use lib.ListN.{length, set}
 use lib.Ieee.{Float}
 use borrow.Author.Tests.{eqb-true, eqb-false}
 use mathlib.Mathlib.Data.Bool.Basic.{and_elim_left, and_elim_right, or-eq-false-eq-eq-false-and-eq-false}
-use Rattle.answer.specs.declared.Answer.TheVariants.{Done, Unusable, StoreFull}
+use Rattle.answer.specs.Answer.{Done, Unusable, StoreFull}
 use Rattle.leaves.specs.Single.{zero32}
 use Rattle.point.specs.declared.WeightedPoint.{WeightedPoint}
 use Rattle.point.specs.Point.{point_at, plain}

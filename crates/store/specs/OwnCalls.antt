@@ -1,7 +1,7 @@
 -- RULES, Contours: the calls that draw each contour of a drawing, and what it is that a contour's own calls draw it. Assumes nothing.
 use Rattle.std.specs.Prelude.{◌≤◌, ◌≡◌, Bool, true, false, ◌||◌, cond, List, [], ◌∷◌, ◌++◌, length, take}
 use Rattle.leaves.specs.Single.{zero32}
-use Rattle.answer.specs.declared.Answer.TheVariants.{Done}
+use Rattle.answer.specs.Answer.{Done}
 use Rattle.point.specs.Point.{point_at}
 use Rattle.store.specs.declared.Call.{Call}
 use Rattle.store.specs.declared.Call.TheVariants.{Move, Line, Quad, Cubic, RatQuad, RatCubic, Build}

@@ -1,7 +1,7 @@
 -- A call that is decided before anything is written: its points and commands as the code's values hold them, and what is required of the columns. Scaffolding:
 -- only contracts of the store's private functions name it, and no promise rests on it. Assumes nothing.
 use Rattle.std.specs.Prelude.{ℕ, ◌+◌, ◌≤◌, ◌<◌, ◌≡◌, List, [], ◌∷◌, length}
-use Rattle.answer.specs.declared.Answer.TheVariants.{Done}
+use Rattle.answer.specs.Answer.{Done}
 use Rattle.point.specs.declared.WeightedPoint.{WeightedPoint}
 use Rattle.store.specs.declared.StoreState.{StoreState}
 use Rattle.store.specs.declared.Call.{Call}

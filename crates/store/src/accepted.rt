@@ -1,14 +1,13 @@
 // An accepted call, carried out: the only functions here that write more than one point.
 
 ghost use Rattle.std.specs.Prelude.{◌≡◌, List, [], ℕ, ◌+◌, ◌≤◌, Float, length};
-ghost use Rattle.answer.specs.declared.Answer.TheVariants.{Done};
+ghost use Rattle.answer.specs.Answer.{Done};
 ghost use Rattle.store.specs.Columns.{columns};
 ghost use Rattle.store.specs.Drawing.{outcome, put_points, put_commands, written, state_after};
 ghost use Rattle.store.specs.Plan.{points_in, commands_in, writes_by, Room, Fitting};
 
 use crate::plan::{Batch, Marks, Plan};
 use crate::{Drawn, StoreState, entries};
-use answer::Answer;
 
 fn put_points(x: &mut [f32], y: &mut [f32], weight: &mut [f32], at: usize, points: Batch)
     requires { Room (at + length (points_in points)) (columns x.old y.old weight.old []) }
@@ -65,7 +64,7 @@ pub fn store(
     let behind = plan.at + points.count();
     let next = st.commands + marks.count();
     Drawn {
-        answer: Answer::Done,
+        answer: Ok(()),
         state: StoreState {
             points: behind,
             commands: next,

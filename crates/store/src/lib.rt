@@ -5,7 +5,7 @@ ghost use Rattle.std.specs.Prelude.{◌≡◌};
 ghost use Rattle.store.specs.Columns.{columns};
 ghost use Rattle.store.specs.Drawing.{outcome, draw_of, fresh_of};
 
-use answer::Answer;
+use answer::{Answer, Refusal};
 use plan::Decision;
 use point::{Point, WeightedPoint};
 
@@ -58,20 +58,20 @@ pub fn fresh(x: &mut [f32], y: &mut [f32], weight: &mut [f32], commands: &mut [u
     };
     if !entries::even(&x[..], &y[..], &weight[..]) {
         return Drawn {
-            answer: Answer::Unusable,
+            answer: Err(Refusal::Unusable),
             state: none,
         };
     }
     if (x.len() == 0) | (commands.len() == 0) {
         return Drawn {
-            answer: Answer::StoreFull,
+            answer: Err(Refusal::StoreFull),
             state: none,
         };
     }
     entries::put_point(x, y, weight, 0, WeightedPoint::plain(Point::new(0.0, 0.0)));
     commands[0] = entries::MOVE;
     Drawn {
-        answer: Answer::Done,
+        answer: Ok(()),
         state: StoreState {
             points: 1,
             commands: 1,

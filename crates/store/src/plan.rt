@@ -8,7 +8,7 @@ ghost use Rattle.store.specs.Plan.{points_in, commands_in, writes_by, Standing, 
 
 use crate::entries::{CUBIC, LINE, MOVE, QUAD};
 use crate::{Call, StoreState, entries, limits};
-use answer::Answer;
+use answer::{Answer, Refusal};
 use point::{Point, WeightedPoint};
 
 // The points of a call: at most three, a closing point included.
@@ -211,17 +211,17 @@ pub fn decide(
     ensures { Decided result call st (columns x.now y.now weight.now commands.now) }
 {
     if !entries::usable(x, y, weight, commands, st) {
-        return Decision::Refuse(Answer::Unusable);
+        return Decision::Refuse(Err(Refusal::Unusable));
     }
     if !limits::coordinates_ok(call) {
-        return Decision::Refuse(Answer::BadCoordinate);
+        return Decision::Refuse(Err(Refusal::BadCoordinate));
     }
     if !limits::weights_ok(call) {
-        return Decision::Refuse(Answer::BadWeight);
+        return Decision::Refuse(Err(Refusal::BadWeight));
     }
     let plan = plan_of(x, y, weight, commands, st, call);
     if !has_room(x, commands, st, plan) {
-        return Decision::Refuse(Answer::StoreFull);
+        return Decision::Refuse(Err(Refusal::StoreFull));
     }
     Decision::Store(plan)
 }

@@ -9,7 +9,7 @@ use native.Mathlib.Omega.{arith}
 use lib.Ieee.{Float}
 use Rattle.answer.specs.Number.{is_done}
 use Rattle.point.specs.declared.Point.{Point}
-use Rattle.point.specs.declared.Angle.{Angle}
+use Rattle.point.specs.Angle.{Angle}
 use Rattle.point.specs.declared.Setting.{Setting}
 use Rattle.point.specs.Angle.{changed_of}
 use Rattle.primitives.specs.declared.Capacities.{Capacities}

@@ -17,7 +17,7 @@ use Rattle.columns.proofs.Flags.{flag_back}
 use Rattle.answer.specs.Number.{is_done}
 use Rattle.columns.specs.Flags.{flag_byte_of, is_flag_of}
 use Rattle.point.specs.declared.Point.{Point}
-use Rattle.point.specs.declared.Angle.{Angle}
+use Rattle.point.specs.Angle.{Angle}
 use Rattle.point.specs.declared.Setting.{Setting}
 use Rattle.primitives.specs.declared.Capacities.{Capacities}
 use Rattle.primitives.specs.declared.Kind.{Kind}

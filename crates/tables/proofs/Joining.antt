@@ -6,8 +6,8 @@ use mathlib.Core.Bool.{true≢false}
 use mathlib.Core.List.{List, [], ◌∷◌}
 use native.Mathlib.Nat.{le_trans, le_of_eq, add-zero, not-suc-le-zero}
 use native.Mathlib.Omega.{arith}
-use Rattle.point.specs.declared.Angle.{Angle}
-use Rattle.point.specs.declared.Angle.TheVariants.{Missing}
+use Rattle.point.specs.Angle.{Angle}
+use Rattle.std.specs.Prelude.{None}
 use Rattle.point.specs.declared.Setting.{Setting}
 use Rattle.point.specs.declared.Setting.TheVariants.{Screen, Knife}
 use Rattle.primitives.specs.declared.Capacities.{Capacities}
@@ -63,7 +63,7 @@ module _ (setting : Setting) (bq bs : ℕ) (capsW caps_a : Capacities) where
 
 -- ---- a contour: its Move, and the rest
 -- after a Move no line keeps an angle that was there before
-forgotten : (setting : Setting) (last a : Angle) → line_angle_of setting (move_angle_of setting last) a ≡ line_angle_of setting (move_angle_of setting Missing) a
+forgotten : (setting : Setting) (last a : Angle) → line_angle_of setting (move_angle_of setting last) a ≡ line_angle_of setting (move_angle_of setting None) a
 unfolding line_angle_of move_angle_of
 forgotten Screen last a = refl
 forgotten Knife last a = refl

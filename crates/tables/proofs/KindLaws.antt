@@ -12,7 +12,7 @@ use lib.Ieee.{Float, eq}
 use Rattle.leaves.specs.Single.{zero32}
 use Rattle.answer.specs.Number.{is_done}
 use Rattle.point.specs.declared.Point.{Point}
-use Rattle.point.specs.declared.Angle.{Angle}
+use Rattle.point.specs.Angle.{Angle}
 use Rattle.point.specs.declared.Setting.TheVariants.{Knife}
 use Rattle.primitives.specs.declared.Capacities.{Capacities}
 use Rattle.primitives.specs.declared.Kind.{Kind}

@@ -19,11 +19,11 @@ use Rattle.leaves.specs.Whole.{limit32}
 use Rattle.point.specs.declared.Point.{Point}
 use Rattle.primitives.specs.declared.Curve.{Curve}
 use Rattle.primitives.specs.Quads.{own_curvature_of, straight_of, straight_curve, curve_of}
-use Rattle.answer.specs.declared.Answer.{Answer}
-use Rattle.answer.specs.declared.Answer.TheVariants.{TooManyPieces, QuadsFull, SplinesFull, SumTooLarge}
+use Rattle.answer.specs.Answer.{Answer}
+use Rattle.answer.specs.Answer.{TooManyPieces, QuadsFull, SplinesFull, SumTooLarge}
 use Rattle.point.specs.declared.WeightedPoint.{WeightedPoint}
-use Rattle.point.specs.declared.Angle.{Angle}
-use Rattle.point.specs.declared.Angle.TheVariants.{Missing, Known}
+use Rattle.point.specs.Angle.{Angle}
+use Rattle.std.specs.Prelude.{None, Some}
 use Rattle.point.specs.Point.{applied_of, minus_of}
 use Rattle.point.specs.Angle.{angle_of}
 use Rattle.point.specs.declared.Setting.{Setting}
@@ -219,10 +219,10 @@ module _ (setting : Setting) (caps : Capacities) (w : World) where
   legs_pushed : (p0 p1 p2 : WeightedPoint) (a b : Angle)
       → Pushed setting caps w false (apply_of (plan_legs_of setting caps w.state (last_of w) p0 p1 p2 a b) w.quads w.splines)
   unfolding plan_legs_of apply_of refused_of
-  legs_pushed p0 p1 p2 Missing Missing = kept w.state.answer
-  legs_pushed p0 p1 p2 Missing (Known b) = line_pushed (applied_of p0) (applied_of p2)
-  legs_pushed p0 p1 p2 (Known a) Missing = line_pushed (applied_of p0) (applied_of p2)
-  legs_pushed p0 p1 p2 (Known a) (Known b) = curve_pushed p0 p1 p2 (Known a) (Known b)
+  legs_pushed p0 p1 p2 None None = kept w.state.answer
+  legs_pushed p0 p1 p2 None (Some b) = line_pushed (applied_of p0) (applied_of p2)
+  legs_pushed p0 p1 p2 (Some a) None = line_pushed (applied_of p0) (applied_of p2)
+  legs_pushed p0 p1 p2 (Some a) (Some b) = curve_pushed p0 p1 p2 (Some a) (Some b)
 
   pub pushed : (p : Primitive) → Pushed setting caps w (is_mark p) (push_of setting caps p w)
   unfolding push_of plan_of plan_quad_of apply_of

@@ -12,8 +12,8 @@ use Rattle.leaves.specs.Single.{◌⊕◌}
 use Rattle.leaves.specs.Whole.{limit32}
 use Rattle.point.specs.declared.Point.{Point}
 use Rattle.point.specs.declared.WeightedPoint.{WeightedPoint}
-use Rattle.point.specs.declared.Angle.{Angle}
-use Rattle.point.specs.declared.Angle.TheVariants.{Missing, Known}
+use Rattle.point.specs.Angle.{Angle}
+use Rattle.std.specs.Prelude.{None, Some}
 use Rattle.point.specs.declared.Setting.{Setting}
 use Rattle.point.specs.Point.{applied_of, minus_of}
 use Rattle.point.specs.Angle.{angle_of}
@@ -278,11 +278,11 @@ module _ (setting : Setting) (bq bs : ℕ) (capsW caps_a : Capacities) (W A : Wo
       → Stepped setting bq bs capsW caps_a W (apply_of (plan_legs_of setting capsW W.state (last_of W) p0 p1 p2 x y) W.quads W.splines)
       (apply_of (plan_legs_of setting caps_a A.state (last_of A) p0 p1 p2 x y) A.quads A.splines)
   unfolding plan_legs_of apply_of
-  legs_step p0 p1 p2 Missing Missing d e g =
+  legs_step p0 p1 p2 None None d e g =
       record { whole_done = d; alone_done = e; beside = B; kept = kept_self bq bs W; whole_holds = HW; alone_holds = HA }
-  legs_step p0 p1 p2 Missing (Known y) d e g = line_step (applied_of p0) (applied_of p2) g
-  legs_step p0 p1 p2 (Known x) Missing d e g = line_step (applied_of p0) (applied_of p2) g
-  legs_step p0 p1 p2 (Known x) (Known y) d e g = curve_step p0 p1 p2 (Known x) (Known y) g
+  legs_step p0 p1 p2 None (Some y) d e g = line_step (applied_of p0) (applied_of p2) g
+  legs_step p0 p1 p2 (Some x) None d e g = line_step (applied_of p0) (applied_of p2) g
+  legs_step p0 p1 p2 (Some x) (Some y) d e g = curve_step p0 p1 p2 (Some x) (Some y) g
 
   pub push_step : (p : Primitive) → is_mark p ≡ false → done W → done A → Given setting bq bs capsW caps_a (push_of setting capsW p W) (push_of setting caps_a p A)
       → Stepped setting bq bs capsW caps_a W (push_of setting capsW p W) (push_of setting caps_a p A)

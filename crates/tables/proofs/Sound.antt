@@ -31,7 +31,7 @@ use Rattle.primitives.specs.declared.SplineRow.{SplineRow}
 use Rattle.primitives.specs.declared.State.{State}
 use Rattle.primitives.specs.declared.Edit.TheVariants.{Extend, Bend}
 use Rattle.point.specs.declared.Point.{Point}
-use Rattle.point.specs.declared.Angle.{Angle}
+use Rattle.point.specs.Angle.{Angle}
 use Rattle.command.specs.Packing.{index_limit}
 use Rattle.primitives.specs.declared.SplineEdit.{SplineEdit}
 use Rattle.primitives.specs.declared.QuadRow.{QuadRow}

@@ -8,12 +8,12 @@ use lib.Ieee.Bits.{is_true}
 use borrow.Author.Tests.{leb-false, lt-leb}
 use Rattle.leaves.specs.Single.{◌⊕◌}
 use Rattle.leaves.specs.Whole.{limit32}
-use Rattle.answer.specs.declared.Answer.{Answer}
-use Rattle.answer.specs.declared.Answer.TheVariants.{QuadsFull, SplinesFull, SumTooLarge}
+use Rattle.answer.specs.Answer.{Answer}
+use Rattle.answer.specs.Answer.{QuadsFull, SplinesFull, SumTooLarge}
 use Rattle.answer.specs.Number.{is_done}
 use Rattle.point.specs.declared.Point.{Point}
 use Rattle.point.specs.declared.WeightedPoint.{WeightedPoint}
-use Rattle.point.specs.declared.Angle.{Angle}
+use Rattle.point.specs.Angle.{Angle}
 use Rattle.point.specs.declared.Setting.{Setting}
 use Rattle.point.specs.Point.{applied_of, minus_of}
 use Rattle.point.specs.Angle.{angle_of}

@@ -1,9 +1,9 @@
 -- RULES, Commands 2 and Answers 11: a run over a list of primitives. "On 5 to 8 the tables hold all that was pushed before the refused primitive, pieces of its own cubic
 -- included." Assumes nothing.
 use Rattle.std.specs.Prelude.{true, cond, List, [], ◌∷◌}
-use Rattle.answer.specs.declared.Answer.TheVariants.{Done}
+use Rattle.answer.specs.Answer.{Done}
 use Rattle.answer.specs.Number.{is_done}
-use Rattle.point.specs.declared.Angle.TheVariants.{Missing}
+use Rattle.std.specs.Prelude.{None}
 use Rattle.point.specs.declared.Setting.{Setting}
 use Rattle.primitives.specs.declared.Capacities.{Capacities}
 use Rattle.primitives.specs.declared.State.{State}
@@ -39,4 +39,4 @@ run_of setting caps (p ∷ ps) w = run_of setting caps ps (cond (is_done w.state
 
 -- where a run begins: nothing is stored, and a mark waits
 abbrev pub start_state : State
-start_state = state_of Done 0 0 true Missing
+start_state = state_of Done 0 0 true None

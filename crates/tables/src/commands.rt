@@ -7,9 +7,8 @@ ghost use Rattle.tables.specs.Commands.{cubic_from, command_primitives_of, table
 
 use crate::capacity::{least, quad_capacity, spline_capacity};
 use crate::run::{push, push_cubic};
-use answer::{Answer, is_done};
 use columns::read_u8;
-use point::{Angle, Setting};
+use point::{Setting};
 use primitives::{Capacities, Cubic, Primitive, State, below};
 use store::{CUBIC, LINE, MOVE, StoreState, stored_point, uses};
 
@@ -156,11 +155,11 @@ pub fn fill(
     };
     let n = least(store.commands, commands.len());
     let mut state = State {
-        answer: Answer::Done,
+        answer: Ok(()),
         splines: 0,
         quads: 0,
         mark: true,
-        last: Angle::Missing,
+        last: None,
     };
     let mut going = true;
     let mut i = 0;
@@ -188,7 +187,7 @@ pub fn fill(
             j,
         );
         let answer = state.answer;
-        going = is_done(answer);
+        going = answer.is_ok();
         j = advance(j, k);
         i += 1;
     }

@@ -15,7 +15,7 @@ use lib.Ieee.{Float}
 use mir.Syntax.{w32}
 use mir.Val.{of_z, to_z}
 use mir.Facts.{to_z-of_z}
-use Rattle.answer.specs.declared.Answer.TheVariants.{Done, NotPrintable, BufferShort}
+use Rattle.answer.specs.Answer.{Done, NotPrintable, BufferShort}
 use Rattle.units.specs.declared.Unit.TheVariants.{Whole, Beyond}
 use Rattle.units.specs.Whole.{whole_of, printable_of, unit_of}
 use Rattle.units.specs.Columns.{all_printable, rounding, wholes, rounding_in, rounding_of}

@@ -1,8 +1,8 @@
 -- Finished points in whole plotter units: RULES, Whole units. Assumes nothing.
 use Rattle.std.specs.Prelude.{ℕ, min, Bool, true, false, ◌&&◌, List, [], ◌∷◌, map, ℤ, leb, Float, length, take}
 use Rattle.std.proofs.lemmas.List.Edits.{sets}
-use Rattle.answer.specs.declared.Answer.{Answer}
-use Rattle.answer.specs.declared.Answer.TheVariants.{Done, NotPrintable, BufferShort}
+use Rattle.answer.specs.Answer.{Answer}
+use Rattle.answer.specs.Answer.{Done, NotPrintable, BufferShort}
 use Rattle.units.specs.declared.Wholes.{Wholes}
 use Rattle.units.specs.Whole.{whole_of, printable_of}
 

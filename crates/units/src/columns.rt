@@ -7,7 +7,7 @@ ghost use Rattle.units.specs.Columns.{all_printable, rounding, rounding_of};
 
 use crate::coordinate::whole;
 use crate::{Unit, Wholes};
-use answer::Answer;
+use answer::Refusal;
 
 // Whether the first n entries round into the plotter's range.
 fn all_printable(column: &[f32], n: usize) -> bool
@@ -52,26 +52,26 @@ pub fn whole_points(x: &[f32], y: &[f32], whole_x: &mut [i32], whole_y: &mut [i3
     }
     if !all_printable(x, n) {
         return Wholes {
-            answer: Answer::NotPrintable,
+            answer: Err(Refusal::NotPrintable),
             points: 0,
         };
     }
     if !all_printable(y, n) {
         return Wholes {
-            answer: Answer::NotPrintable,
+            answer: Err(Refusal::NotPrintable),
             points: 0,
         };
     }
     if (whole_x.len() < n) | (whole_y.len() < n) {
         return Wholes {
-            answer: Answer::BufferShort,
+            answer: Err(Refusal::BufferShort),
             points: 0,
         };
     }
     put_wholes(x, n, whole_x);
     put_wholes(y, n, whole_y);
     Wholes {
-        answer: Answer::Done,
+        answer: Ok(()),
         points: n,
     }
 }

@@ -2,7 +2,7 @@
 use mathlib.Core.Path.{◌≡◌}
 use Prim.Native.Nat.{ℕ, ◌+◌, ◌-◌, ◌≤◌}
 use lib.ListN.{length}
-use Rattle.answer.specs.declared.Answer.TheVariants.{Done}
+use Rattle.answer.specs.Answer.{Done}
 use Rattle.store.specs.Columns.{columns}
 use Rattle.store.specs.Drawing.{outcome}
 use Rattle.listing.specs.Reading.{Placed, going, steps_of, read_of}

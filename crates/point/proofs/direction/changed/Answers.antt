@@ -2,14 +2,14 @@
 use Rattle.point.specs.Angle.{changed_of}
 use Rattle.point.proofs.direction.changed.Goals as goal
 
-pub returns-in-Missing : goal.returns-in-Missing
+pub returns-in-None : goal.returns-in-None
 unfolding changed_of
-returns-in-Missing c = cc
+returns-in-None c = cc
 
-pub returns-in-Missing-a1 : goal.returns-in-Missing-a1
+pub returns-in-None-a1 : goal.returns-in-None-a1
 unfolding changed_of
-returns-in-Missing-a1 c = cc
+returns-in-None-a1 c = cc
 
-pub returns-in-Known-a1 : goal.returns-in-Known-a1
+pub returns-in-Some-a1 : goal.returns-in-Some-a1
 unfolding changed_of
-returns-in-Known-a1 c = cc
+returns-in-Some-a1 c = cc

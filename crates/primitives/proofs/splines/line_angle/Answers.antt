@@ -6,10 +6,10 @@ pub returns-in-Screen : goal.returns-in-Screen
 unfolding line_angle_of
 returns-in-Screen c = cc
 
-pub returns-in-Missing : goal.returns-in-Missing
+pub returns-in-None : goal.returns-in-None
 unfolding line_angle_of
-returns-in-Missing c = cc
+returns-in-None c = cc
 
-pub returns-in-Known : goal.returns-in-Known
+pub returns-in-Some : goal.returns-in-Some
 unfolding line_angle_of
-returns-in-Known c = cc
+returns-in-Some c = cc
