@@ -2,7 +2,7 @@
 #![tactic(auto)]
 
 ghost use Rattle.std.specs.Prelude.{◌≡◌};
-ghost use Rattle.answer.specs.Number.{number_of, refusal_number_of};
+ghost use Rattle.answer.specs.Number.{is_done, number_of, refusal_number_of};
 
 // Each refusal, with its number.
 #[derive(Clone, Copy, PartialEq, Eq)]
@@ -69,4 +69,10 @@ pub fn number(a: Answer) -> u32
         Ok(()) => 0,
         Err(refusal) => refusal.number(),
     }
+}
+
+pub fn is_done(a: Answer) -> bool
+    ensures { result ≡ is_done a }
+{
+    number(a) == 0
 }

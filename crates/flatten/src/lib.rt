@@ -67,7 +67,7 @@ pub fn flatten(
         st,
     );
     let answer = state.answer;
-    if answer.is_err() {
+    if !answer::is_done(answer) {
         return refused(answer, state.splines, state.quads);
     }
     let delivered = evaluate::deliver(

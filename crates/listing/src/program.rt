@@ -46,7 +46,7 @@ fn built_from(
 {
     let built = store::build(x, y, weight, commands, st);
     let answer = built.answer;
-    if answer.is_err() {
+    if !answer::is_done(answer) {
         return Drawn::Refused(answer, 0);
     }
     let state = built.state;
@@ -166,7 +166,7 @@ pub fn listing(input: &[u8], output: &mut [u8]) -> Listed
     let mut end = [0u8; 512];
     let said = told(Setting::Screen, input, &mut words, &mut x, &mut y, &mut end);
     let answer = said.answer;
-    if answer.is_err() {
+    if !answer::is_done(answer) {
         return writing::refuse(output, answer, said.line);
     }
     writing::report(output, said.points, &x, &y, &end)

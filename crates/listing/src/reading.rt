@@ -30,7 +30,7 @@ fn step(
         Command::Drawing(call, next, next_line) => {
             let drawn = store::draw(x, y, weight, commands, state, call);
             let answer = drawn.answer;
-            if answer.is_err() {
+            if !answer::is_done(answer) {
                 return Progress::Stopped(answer, line);
             }
             let after = drawn.state;

@@ -52,7 +52,7 @@ fn plot_input(
     let n = input::read_full(source, &mut input)?;
     let plotted = plotting::plot_listing(setting, &input[..n], &mut text);
     let answer = plotted.answer;
-    if answer.is_err() {
+    if !answer::is_done(answer) {
         return refuse(said, answer, plotted.line);
     }
     let m = plotted.written;

@@ -15,7 +15,7 @@ pub fn plot_listing(setting: Setting, input: &[u8], text: &mut [u8]) -> PlotAcco
     let mut end = [0u8; 512];
     let told = listing::told(setting, input, &mut words, &mut x, &mut y, &mut end);
     let answer = told.answer;
-    if answer.is_err() {
+    if !answer::is_done(answer) {
         return PlotAccount {
             answer,
             line: told.line,

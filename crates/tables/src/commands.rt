@@ -9,6 +9,7 @@ use crate::capacity::{least, quad_capacity, spline_capacity};
 use crate::run::{push, push_cubic};
 use columns::read_u8;
 use point::{Setting};
+use answer::is_done;
 use primitives::{Capacities, Cubic, Primitive, State, below};
 use store::{CUBIC, LINE, MOVE, StoreState, stored_point, uses};
 
@@ -187,7 +188,7 @@ pub fn fill(
             j,
         );
         let answer = state.answer;
-        going = answer.is_ok();
+        going = is_done(answer);
         j = advance(j, k);
         i += 1;
     }

@@ -6,6 +6,7 @@ ghost use Rattle.tables.specs.Run.{world, apply_of, run_of};
 
 use crate::rows::{last_spline, put_quad, put_spline};
 use point::Setting;
+use answer::is_done;
 use primitives::{
     Capacities, Cubic, Edit, Primitive, State, cubic_pieces, cubic_point, piece, plan,
 };
@@ -66,7 +67,7 @@ pub fn push(
     ensures { world result (quad_table quad_rows.new partial_splines.new) (spline_table curvature.new p0x.new p0y.new p2x.new p2y.new contour.new first_quad.new quad_count.new) ≡ run_of setting caps (p ∷ []) (world st (quad_table quad_rows.old partial_splines.old) (spline_table curvature.old p0x.old p0y.old p2x.old p2y.old contour.old first_quad.old quad_count.old)) }
 {
     let answer = st.answer;
-    if answer.is_err() {
+    if !is_done(answer) {
         return st;
     }
     let last = last_spline(
@@ -139,7 +140,7 @@ pub fn push_cubic(
     let mut start = c.p0.applied();
     let mut i = 1;
     let answer = st.answer;
-    let mut going = answer.is_ok();
+    let mut going = is_done(answer);
     while (i <= n) & going {
         let t = i as f32 * incr;
         let end = cubic_point(c, t);
@@ -161,7 +162,7 @@ pub fn push_cubic(
             quad,
         );
         let answer = state.answer;
-        going = answer.is_ok();
+        going = is_done(answer);
         start = end;
         i += 1;
     }
