@@ -6,7 +6,7 @@ ghost use Rattle.walk.specs.Walk.{cursor_at_of};
 ghost use Rattle.evaluate.specs.Evaluate.{previous_sum_of, step_quad_of, parameter_of, step_point_of};
 
 use crate::StepQuad;
-use columns::read_u32;
+use columns::read;
 use point::{Point, WeightedPoint};
 use tables::{quad_row_at, sum_at};
 
@@ -17,8 +17,8 @@ fn previous_sum(quad_rows: &[f32], partial_splines: &[u32], i: usize) -> f32
         return 0.0;
     }
     let j = i - 1;
-    let before = read_u32(partial_splines, j);
-    let own = read_u32(partial_splines, i);
+    let before = read(partial_splines, j, 0);
+    let own = read(partial_splines, i, 0);
     if before == own {
         return sum_at(quad_rows, j);
     }

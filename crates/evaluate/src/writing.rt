@@ -8,7 +8,7 @@ ghost use Rattle.evaluate.specs.Writing.{written, write_entry_of, write_start_of
 ghost use Rattle.evaluate.specs.Delivery.{delivery, deliver_of};
 
 use crate::{Delivered, Place, step};
-use columns::{flag_byte, put_f32, put_u8, put_u32};
+use columns::{flag_byte, write};
 use command::PointCommand;
 use point::{Point, Setting};
 use primitives::SplineRow;
@@ -27,10 +27,10 @@ fn write_entry(
 )
     ensures { output words.new out_x.new out_y.new out_end.new ≡ write_entry_of at word (finished point flag) (output words.old out_x.old out_y.old out_end.old) }
 {
-    put_u32(words, at, word);
-    put_f32(out_x, at, point.x);
-    put_f32(out_y, at, point.y);
-    put_u8(out_end, at, flag_byte(flag));
+    write(words, at, word);
+    write(out_x, at, point.x);
+    write(out_y, at, point.y);
+    write(out_end, at, flag_byte(flag));
 }
 
 // The Start of spline k at its first point, if it has one.

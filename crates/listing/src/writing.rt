@@ -62,9 +62,9 @@ fn put_points(buffer: &mut [u8], at: usize, points: usize, x: &[f32], y: &[f32],
     let mut next = at;
     let mut i = 0;
     while i < points {
-        let px = columns::read_f32(x, i);
-        let py = columns::read_f32(y, i);
-        let flag = columns::read_u8(end, i);
+        let px = columns::read(x, i, f32::NAN);
+        let py = columns::read(y, i, f32::NAN);
+        let flag = columns::read(end, i, 0);
         next = point_lines(buffer, next, px, py, flag);
         i += 1;
     }

@@ -6,7 +6,7 @@ ghost use Rattle.plot.specs.Text.{pen_of, move_of};
 ghost use Rattle.plot.specs.Plot.{spot_of, measured_of};
 
 use crate::{Measured, Spot};
-use columns::read_f32;
+use columns::read;
 use units::Unit;
 
 pub fn spot(x: f32, y: f32) -> Spot
@@ -47,7 +47,7 @@ pub fn measured(x: &[f32], y: &[f32], end: &[u8], room: usize) -> Measured
     let mut left = less(room, 3);
     let mut i = 0;
     while i < n {
-        match spot(read_f32(x, i), read_f32(y, i)) {
+        match spot(read(x, i, f32::NAN), read(y, i, f32::NAN)) {
             Spot::Beyond => return Measured::Unprintable,
             Spot::At(px, py) => {
                 let bytes = move_length(px, py);

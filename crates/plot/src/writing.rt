@@ -9,7 +9,7 @@ ghost use Rattle.plot.specs.Plot.{all_printable, whole_vertex, plot_text};
 
 use crate::Spot;
 use crate::measuring::spot;
-use columns::{is_flag, read_f32, read_u8};
+use columns::{is_flag, read};
 
 // Writes the pen's letters and the blank after them, and gives the place after both.
 fn put_pen(text: &mut [u8], at: usize, up: bool) -> usize
@@ -54,11 +54,11 @@ fn put_moves(x: &[f32], y: &[f32], end: &[u8], text: &mut [u8]) -> usize
     let mut up = true;
     let mut i = 0;
     while i < n {
-        match spot(read_f32(x, i), read_f32(y, i)) {
+        match spot(read(x, i, f32::NAN), read(y, i, f32::NAN)) {
             // This never happens: all points were tested.
             Spot::Beyond => return at,
             Spot::At(px, py) => {
-                let flag = is_flag(read_u8(end, i));
+                let flag = is_flag(read(end, i, 0));
                 at = put_move(text, at, up, px, py);
                 up = flag;
                 i += 1;

@@ -3,7 +3,7 @@ ghost use Rattle.std.specs.Prelude.{◌≡◌, ◌+◌, slice_index, slice_set};
 ghost use Rattle.leaves.specs.Bits.{bits_of};
 ghost use Rattle.replay.specs.Numbers.{laid, itself, capped_of, same_from, all_from};
 
-use columns::{read_f32, read_u8, read_u32, read_usize};
+use columns::read;
 
 // The number i places after a place; 0 past the end. The sum of the two may wrap, so it is taken only inside.
 pub fn number_at(numbers: &[u32], at: usize, i: usize) -> u32
@@ -38,7 +38,7 @@ pub fn put_floats(numbers: &mut [u32], at: usize, column: &[f32], n: usize)
         if column.len() <= i {
             return;
         }
-        put_number(numbers, at, i, leaves::bits(read_f32(column, i)));
+        put_number(numbers, at, i, leaves::bits(read(column, i, f32::NAN)));
     }
 }
 
@@ -49,7 +49,7 @@ pub fn put_words(numbers: &mut [u32], at: usize, column: &[u32], n: usize)
         if column.len() <= i {
             return;
         }
-        put_number(numbers, at, i, read_u32(column, i));
+        put_number(numbers, at, i, read(column, i, 0));
     }
 }
 
@@ -70,7 +70,7 @@ pub fn put_sizes(numbers: &mut [u32], at: usize, column: &[usize], n: usize)
         if column.len() <= i {
             return;
         }
-        put_number(numbers, at, i, capped(read_usize(column, i)));
+        put_number(numbers, at, i, capped(read(column, i, 0)));
     }
 }
 
@@ -81,7 +81,7 @@ pub fn put_bytes(numbers: &mut [u32], at: usize, column: &[u8], n: usize)
         if column.len() <= i {
             return;
         }
-        put_number(numbers, at, i, read_u8(column, i) as u32);
+        put_number(numbers, at, i, read(column, i, 0) as u32);
     }
 }
 

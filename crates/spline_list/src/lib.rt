@@ -5,7 +5,7 @@ ghost use Rattle.std.specs.Prelude.{◌≡◌, ltb, length, set};
 ghost use Rattle.tables.specs.Tables.{spline_table, spline_at};
 ghost use Rattle.spline_list.specs.Rows.{put_row_of, spline_at_of, agree_of, equal_of, count_of, outcome_of, fill_of, spread_of};
 
-use columns::{flag_byte, put_f32, put_u8, put_u32, put_usize};
+use columns::{flag_byte, write};
 use primitives::SplineRow;
 
 // The record at an index of a list, or that the index is past the list.
@@ -56,14 +56,14 @@ pub fn put_row(
 )
     ensures { spline_table curvature.new p0x.new p0y.new p2x.new p2y.new contour.new first_quad.new quad_count.new ≡ put_row_of (spline_table curvature.old p0x.old p0y.old p2x.old p2y.old contour.old first_quad.old quad_count.old) i v }
 {
-    put_f32(curvature, i, v.curvature);
-    put_f32(p0x, i, v.p0.x);
-    put_f32(p0y, i, v.p0.y);
-    put_f32(p2x, i, v.p2.x);
-    put_f32(p2y, i, v.p2.y);
-    put_u8(contour, i, flag_byte(v.contour));
-    put_usize(first_quad, i, v.first_quad);
-    put_u32(quad_count, i, v.quad_count);
+    write(curvature, i, v.curvature);
+    write(p0x, i, v.p0.x);
+    write(p0y, i, v.p0.y);
+    write(p2x, i, v.p2.x);
+    write(p2y, i, v.p2.y);
+    write(contour, i, flag_byte(v.contour));
+    write(first_quad, i, v.first_quad);
+    write(quad_count, i, v.quad_count);
 }
 
 // Whether the lengths are equal: the list has a record for each of n splines, and no column ends before the nth.

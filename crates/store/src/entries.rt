@@ -6,7 +6,7 @@ ghost use Rattle.store.specs.Closing.{unclosed_of};
 ghost use Rattle.store.specs.Plan.{Standing, Room};
 
 use crate::StoreState;
-use columns::read_f32;
+use columns::read;
 use point::{Point, WeightedPoint};
 
 pub const MOVE: u8 = 0;
@@ -42,12 +42,12 @@ pub fn stored_point(x: &[f32], y: &[f32], weight: &[f32], i: usize) -> WeightedP
     ensures { result ≡ stored_point_of (columns x.now y.now weight.now []) i }
 {
     let point = Point {
-        x: read_f32(x, i),
-        y: read_f32(y, i),
+        x: read(x, i, f32::NAN),
+        y: read(y, i, f32::NAN),
     };
     WeightedPoint {
         point,
-        weight: read_f32(weight, i),
+        weight: read(weight, i, f32::NAN),
     }
 }
 

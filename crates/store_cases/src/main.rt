@@ -146,9 +146,9 @@ fn call(
 // What an entry of the list says is there.
 fn same_point(list: &mut impl Read, x: &[f32], y: &[f32], weight: &[f32]) -> io::Result<bool> {
     let i = count(list)?;
-    let same_x = leaves::bits(columns::read_f32(x, i)) == word(list)?;
-    let same_y = leaves::bits(columns::read_f32(y, i)) == word(list)?;
-    let same_weight = leaves::bits(columns::read_f32(weight, i)) == word(list)?;
+    let same_x = leaves::bits(columns::read(x, i, f32::NAN)) == word(list)?;
+    let same_y = leaves::bits(columns::read(y, i, f32::NAN)) == word(list)?;
+    let same_weight = leaves::bits(columns::read(weight, i, f32::NAN)) == word(list)?;
     Ok(same_x & same_y & same_weight)
 }
 
@@ -178,14 +178,14 @@ fn made(
     }
     if l == b's' {
         let i = count(list)?;
-        columns::put_f32(x, i, float(list)?);
-        columns::put_f32(y, i, float(list)?);
-        columns::put_f32(weight, i, float(list)?);
+        columns::write(x, i, float(list)?);
+        columns::write(y, i, float(list)?);
+        columns::write(weight, i, float(list)?);
         return Ok(run);
     }
     if l == b'k' {
         let i = count(list)?;
-        columns::put_u8(commands, i, byte(list)?);
+        columns::write(commands, i, byte(list)?);
         return Ok(run);
     }
     fill(x, 1000.0);
@@ -252,7 +252,7 @@ fn seen(
     }
     if l == b'o' {
         let i = count(list)?;
-        let agreed = columns::read_u8(commands, i) as u32 == word(list)?;
+        let agreed = columns::read(commands, i, 0) as u32 == word(list)?;
         return told(rt, run, agreed);
     }
     let nx = lent(run.x, x.len());

@@ -7,9 +7,9 @@ ghost use Rattle.tables.specs.Commands.{cubic_from, command_primitives_of, table
 
 use crate::capacity::{least, quad_capacity, spline_capacity};
 use crate::run::{push, push_cubic};
-use columns::read_u8;
-use point::{Setting};
 use answer::is_done;
+use columns::read;
+use point::Setting;
 use primitives::{Capacities, Cubic, Primitive, State, below};
 use store::{CUBIC, LINE, MOVE, StoreState, stored_point, uses};
 
@@ -166,7 +166,7 @@ pub fn fill(
     let mut i = 0;
     let mut j = 0;
     while (i < n) & going {
-        let k = read_u8(commands, i);
+        let k = read(commands, i, 0);
         state = push_command(
             x,
             y,

@@ -5,10 +5,7 @@ ghost use Rattle.tables.specs.Tables.{quad_table, spline_table, numbers_of, put_
 ghost use Rattle.tables.specs.Threes.{set_three, three_from, row_from, no_row};
 
 use crate::capacity::{quad_capacity, whole_rows};
-use columns::{
-    flag_byte, is_flag, put_f32, put_u8, put_u32, put_usize, read_f32, read_u8, read_u32,
-    read_usize,
-};
+use columns::{flag_byte, is_flag, read, write};
 use point::Point;
 use primitives::{QuadRow, SplineEdit, SplineRow, Three, below};
 
@@ -58,7 +55,7 @@ pub fn put_quad(quad_rows: &mut [f32], partial_splines: &mut [u32], i: usize, ro
     if i < quad_capacity(&quad_rows[..], &partial_splines[..]) {
         let j = WIDTH * i;
         put_row(quad_rows, j, row);
-        put_u32(partial_splines, i, row.spline);
+        write(partial_splines, i, row.spline);
     }
 }
 
@@ -127,7 +124,7 @@ fn no_row(spline: u32) -> QuadRow
 pub fn quad_row_at(quad_rows: &[f32], partial_splines: &[u32], i: usize) -> QuadRow
     ensures { result ≡ quad_row_at (quad_table quad_rows.now partial_splines.now) i }
 {
-    let spline = read_u32(partial_splines, i);
+    let spline = read(partial_splines, i, 0);
     if i < whole_rows(quad_rows) {
         return whole_row(quad_rows, WIDTH * i, spline);
     }
@@ -151,7 +148,7 @@ fn clear_flag(clears: bool, contour: &mut [u8], k: usize)
     ensures { contour.new ≡ clear_flag clears contour.old k }
 {
     if clears {
-        put_u8(contour, below(k), flag_byte(false));
+        write(contour, below(k), flag_byte(false));
     }
 }
 
@@ -169,15 +166,15 @@ pub fn put_spline(
     ensures { spline_table curvature.new p0x.new p0y.new p2x.new p2y.new contour.new first_quad.new quad_count.new ≡ put_spline (spline_table curvature.old p0x.old p0y.old p2x.old p2y.old contour.old first_quad.old quad_count.old) edit }
 {
     let k = edit.at as usize;
-    put_f32(curvature, k, edit.row.curvature);
-    put_f32(p0x, k, edit.row.p0.x);
-    put_f32(p0y, k, edit.row.p0.y);
-    put_f32(p2x, k, edit.row.p2.x);
-    put_f32(p2y, k, edit.row.p2.y);
+    write(curvature, k, edit.row.curvature);
+    write(p0x, k, edit.row.p0.x);
+    write(p0y, k, edit.row.p0.y);
+    write(p2x, k, edit.row.p2.x);
+    write(p2y, k, edit.row.p2.y);
     clear_flag(edit.clears, contour, k);
-    put_u8(contour, k, flag_byte(edit.row.contour));
-    put_usize(first_quad, k, edit.row.first_quad);
-    put_u32(quad_count, k, edit.row.quad_count);
+    write(contour, k, flag_byte(edit.row.contour));
+    write(first_quad, k, edit.row.first_quad);
+    write(quad_count, k, edit.row.quad_count);
 }
 
 pub fn spline_at(
@@ -194,18 +191,18 @@ pub fn spline_at(
     ensures { result ≡ spline_at (spline_table curvature.now p0x.now p0y.now p2x.now p2y.now contour.now first_quad.now quad_count.now) k }
 {
     SplineRow {
-        curvature: read_f32(curvature, k),
+        curvature: read(curvature, k, f32::NAN),
         p0: Point {
-            x: read_f32(p0x, k),
-            y: read_f32(p0y, k),
+            x: read(p0x, k, f32::NAN),
+            y: read(p0y, k, f32::NAN),
         },
         p2: Point {
-            x: read_f32(p2x, k),
-            y: read_f32(p2y, k),
+            x: read(p2x, k, f32::NAN),
+            y: read(p2y, k, f32::NAN),
         },
-        contour: is_flag(read_u8(contour, k)),
-        first_quad: read_usize(first_quad, k),
-        quad_count: read_u32(quad_count, k),
+        contour: is_flag(read(contour, k, 0)),
+        first_quad: read(first_quad, k, 0),
+        quad_count: read(quad_count, k, 0),
     }
 }
 

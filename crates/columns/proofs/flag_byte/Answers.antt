@@ -1,11 +1,8 @@
 -- `columns::flag_byte` meets its contract. Assumes nothing.
+use Rattle.std.proofs.Common.{rules}
 use Rattle.columns.specs.Flags.{flag_byte_of}
 use Rattle.columns.proofs.flag_byte.Goals as goal
 
-pub returns-then-flag : goal.returns-then-flag
+pub returns : goal.returns
 unfolding flag_byte_of
-returns-then-flag c = rw c.if-flag.true
-
-pub returns-else-flag : goal.returns-else-flag
-unfolding flag_byte_of
-returns-else-flag c = rw c.if-flag.false
+returns c = search rules

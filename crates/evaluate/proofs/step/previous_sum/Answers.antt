@@ -34,9 +34,9 @@ returns-then-i-eq0 c = rw c.if-i-eq0.true
 
 pub returns-then-before-own : goal.returns-then-before-own
 returns-then-before-own c =
-    same (table c.before.before.before.before.before.before.before.before) c.args.i _ _ c.if-i-eq0.false c.read_u32-before.ensures c.read_u32-own.ensures
+    same (table c.before.before.before.before.before.before.before.before) c.args.i _ _ c.if-i-eq0.false c.read-before.ensures c.read-own.ensures
     _ c.if-before-own.true c.sum_at.ensures
 
 pub returns : goal.returns
 returns c =
-    other (table c.before.before.before.before.before.before.before) c.args.i _ _ c.if-i-eq0.false c.read_u32-before.ensures c.read_u32-own.ensures c.if-before-own.false
+    other (table c.before.before.before.before.before.before.before) c.args.i _ _ c.if-i-eq0.false c.read-before.ensures c.read-own.ensures c.if-before-own.false

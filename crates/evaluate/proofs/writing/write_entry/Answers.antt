@@ -5,4 +5,4 @@ use Rattle.evaluate.proofs.writing.write_entry.Goals as goal
 pub returns : goal.returns
 unfolding write_entry_of
 returns c =
-    rw (c.put_u32.ensures, c.put_f32.ensures, c.put_f32-2.ensures, c.put_u8.ensures, c.flag_byte.ensures)
+    rw (c.write.ensures, c.write-2.ensures, c.write-3.ensures, c.write-4.ensures, c.flag_byte.ensures)

@@ -15,13 +15,13 @@ loop-i-preserved c = (
     arith,
     c.loop-i.invariant.1,
     c.point_lines-next.ensures.next,
-    point_length (finished (point_at c.read_f32-px.result c.read_f32-py.result) (is_flag_of c.read_u8-flag.result)),
+    point_length (finished (point_at c.read-px.result c.read-py.result) (is_flag_of c.read-flag.result)),
   ),
   c.point_lines-next.auto.buffer ∙ c.loop-i.invariant.2,
   point_on _ _ _ _ _ _ _ _ _ _ _ c.loop-i-test.true c.loop-i.invariant.3
       (written_same _ _ _ _ _ _
-      (row_lines c.args.x.now c.args.y.now c.args.end.now c.loop-i.i _ _ _ c.read_f32-px.ensures c.read_f32-py.ensures
-      c.read_u8-flag.ensures) c.point_lines-next.ensures),
+      (row_lines c.args.x.now c.args.y.now c.args.end.now c.loop-i.i _ _ _ c.read-px.ensures c.read-py.ensures
+      c.read-flag.ensures) c.point_lines-next.ensures),
 )
 
 pub returns : goal.returns

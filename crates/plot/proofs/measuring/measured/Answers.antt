@@ -41,7 +41,7 @@ here c =
     (omega (arith, c.loop-i-test.true, c.loop-i.invariant.count))
 
 spot_here : (c : After-spot) → c.spot.result ≡ spot_of (x_at c) (y_at c)
-spot_here c = spot_read _ _ _ (x_at c) (y_at c) c.spot.ensures c.read_f32.ensures c.read_f32-in-loop-i.ensures
+spot_here c = spot_read _ _ _ (x_at c) (y_at c) c.spot.ensures c.read.ensures c.read-in-loop-i.ensures
 
 pub loop-i-init : goal.loop-i-init
 loop-i-init c =

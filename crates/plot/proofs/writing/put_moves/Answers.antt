@@ -47,7 +47,7 @@ here c =
     (omega (arith, c.loop-i-test.true, c.loop-i.invariant.count))
 
 spot_here : (c : After-spot) → c.spot.result ≡ spot_of (x_at c) (y_at c)
-spot_here c = spot_read _ _ _ (x_at c) (y_at c) c.spot.ensures c.read_f32.ensures c.read_f32-in-loop-i.ensures
+spot_here c = spot_read _ _ _ (x_at c) (y_at c) c.spot.ensures c.read.ensures c.read-in-loop-i.ensures
 
 -- the move as the code has it is that of the point
 move_same : (c : In-At) (up : Bool)
@@ -74,7 +74,7 @@ put_move-at-requires c =
 
 pub loop-i-preserved : goal.loop-i-preserved
 loop-i-preserved c =
-    filled_on _ _ _ _ _ _ _ c.loop-i.invariant (vertex_at c.before.before.before.before.before.before.before.before) (here c.before.before.before.before.before.before.before.before) _ _ _ (c.is_flag-flag.ensures ∙ ap is_flag_of c.read_u8.ensures)
+    filled_on _ _ _ _ _ _ _ c.loop-i.invariant (vertex_at c.before.before.before.before.before.before.before.before) (here c.before.before.before.before.before.before.before.before) _ _ _ (c.is_flag-flag.ensures ∙ ap is_flag_of c.read-flag.ensures)
     c.loop-i-test.true c.put_move-at.auto.text (written_same _ _ _ _ _ _ (move_same c.before.before.before.before.before.before.before c.loop-i.up) c.put_move-at.ensures)
 
 pub returns : goal.returns

@@ -10,7 +10,7 @@ pub loop-i-preserved : goal.loop-i-preserved
 unfolding itself
 loop-i-preserved c =
     lay_on itself _ _ _ _ _ _ c.loop-i.invariant 0 _ _ c.loop-i-test.true c.if-column-i.false c.put_number.ensures
-    c.read_u8.ensures
+    c.read.ensures
 
 pub returns : goal.returns
 returns c = lay_end itself _ _ _ _ _ _ c.loop-i.invariant c.loop-i-test.false

@@ -11,7 +11,7 @@ returns-then-column-i c = lay_short bits_of _ _ _ _ _ _ c.loop-i.invariant c.if-
 pub loop-i-preserved : goal.loop-i-preserved
 loop-i-preserved c =
     lay_on bits_of _ _ _ _ _ _ c.loop-i.invariant nan _ _ c.loop-i-test.true c.if-column-i.false c.put_number.ensures
-    (c.bits.ensures ∙ ap bits_of c.read_f32.ensures)
+    (c.bits.ensures ∙ ap bits_of c.read.ensures)
 
 pub returns : goal.returns
 returns c = lay_end bits_of _ _ _ _ _ _ c.loop-i.invariant c.loop-i-test.false

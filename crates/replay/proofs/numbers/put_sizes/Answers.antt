@@ -10,7 +10,7 @@ returns-then-column-i c = lay_short capped_of _ _ _ _ _ _ c.loop-i.invariant c.i
 pub loop-i-preserved : goal.loop-i-preserved
 loop-i-preserved c =
     lay_on capped_of _ _ _ _ _ _ c.loop-i.invariant 0 _ _ c.loop-i-test.true c.if-column-i.false c.put_number.ensures
-    (c.capped.ensures ∙ ap capped_of c.read_usize.ensures)
+    (c.capped.ensures ∙ ap capped_of c.read.ensures)
 
 pub returns : goal.returns
 returns c = lay_end capped_of _ _ _ _ _ _ c.loop-i.invariant c.loop-i-test.false

@@ -4,4 +4,4 @@ use Rattle.store.proofs.entries.stored_point.Goals as goal
 
 pub returns : goal.returns
 unfolding stored_point_of
-returns c = rw (← c.read_f32.ensures, ← c.read_f32-2.ensures, ← c.read_f32-3.ensures)
+returns c = rw (← c.read.ensures, ← c.read-2.ensures, ← c.read-3.ensures)

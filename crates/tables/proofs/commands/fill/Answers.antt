@@ -7,7 +7,7 @@ pub loop-i-preserved : goal.loop-i-preserved
 loop-i-preserved c =
     let g = c.well_formed in
     take_on _ _ _ _ _ _ _ _ _ c.loop-i.invariant (record { x = g.0.1; y = g.1.0.1; weight = g.1.1.0.1 })
-    (least_fits _ _ _ c.least-n.ensures) c.loop-i-test.true c.read_u8-k.ensures c.read_u8-k.type_inv c.push_command-state.ensures
+    (least_fits _ _ _ c.least-n.ensures) c.loop-i-test.true c.read-k.ensures c.read-k.type_inv c.push_command-state.ensures
     c.is_done-going.ensures c.advance-j.ensures (record { rows = c.push_command-state.auto.quad_rows; partial_splines = c.push_command-state.auto.partial_splines })
     (record {
       curvature = c.push_command-state.auto.curvature;

@@ -9,7 +9,7 @@ returns-then-clears c = rw (
   ← c.below.ensures,
   ←
       c.flag_byte.ensures,
-) c.put_u8.ensures
+) c.write.ensures
 
 pub returns-else-clears : goal.returns-else-clears
 unfolding clear_flag

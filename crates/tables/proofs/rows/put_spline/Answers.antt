@@ -4,6 +4,6 @@ use Rattle.tables.proofs.rows.put_spline.Goals as goal
 
 pub returns : goal.returns
 returns c =
-    spline_put _ _ c.put_f32.ensures c.put_f32-2.ensures c.put_f32-3.ensures c.put_f32-4.ensures
-    c.put_f32-5.ensures c.clear_flag.ensures c.flag_byte.ensures c.put_u8.ensures c.put_usize.ensures
-    c.put_u32.ensures
+    spline_put _ _ c.write.ensures c.write-2.ensures c.write-3.ensures c.write-4.ensures
+    c.write-5.ensures c.clear_flag.ensures c.flag_byte.ensures c.write-6.ensures c.write-7.ensures
+    c.write-8.ensures
