@@ -29,6 +29,7 @@ fn lessened(t: f32, a: f32) -> f32
     leaves::fma(-t, a, a)
 }
 
+#[tactic(auto, unfolding(crate::specs::Curve::lerp_of))]
 pub fn lerp(t: f32, a: f32, b: f32) -> f32
     ensures { result ≡ lerp_of t a b }
 {
@@ -46,6 +47,7 @@ fn quarter_plus(x: f32, c: f32) -> f32
     leaves::fma(x, 0.25, c)
 }
 
+#[tactic(auto, unfolding(crate::specs::Curve::curvature_of))]
 pub fn curvature(x: f32) -> f32
     ensures { result ≡ curvature_of x }
 {
@@ -53,6 +55,7 @@ pub fn curvature(x: f32) -> f32
     x / (1.0 - D + root)
 }
 
+#[tactic(auto, unfolding(crate::specs::Curve::inv_curvature_of))]
 pub fn inv_curvature(k: f32) -> f32
     ensures { result ≡ inv_curvature_of k }
 {
@@ -61,6 +64,7 @@ pub fn inv_curvature(k: f32) -> f32
 }
 
 // One coordinate of a quad at t.
+#[tactic(auto, unfolding(crate::specs::Curve::quad_at_of))]
 pub fn quad_at(t: f32, a: f32, b: f32, c: f32) -> f32
     ensures { result ≡ quad_at_of t a b c }
 {
@@ -68,6 +72,7 @@ pub fn quad_at(t: f32, a: f32, b: f32, c: f32) -> f32
 }
 
 // One coordinate of a cubic at t: its two quads share the lerp in the middle.
+#[tactic(auto, unfolding(crate::specs::Curve::cubic_at_of, crate::specs::Curve::quad_at_of))]
 pub fn cubic_at(t: f32, a: f32, b: f32, c: f32, d: f32) -> f32
     ensures { result ≡ cubic_at_of t a b c d }
 {
@@ -97,6 +102,7 @@ fn cubic_weight(t: f32, a: f32, b: f32, c: f32, d: f32) -> f32
     cubic_at(t, a, b, c, d)
 }
 
+#[tactic(auto, unfolding(crate::specs::Curve::eval_cubic_of))]
 pub fn eval_cubic(
     t: f32,
     p0: WeightedPoint,
@@ -115,6 +121,7 @@ pub fn eval_cubic(
     }
 }
 
+#[tactic(auto, unfolding(crate::specs::Curve::eval_quad_of))]
 pub fn eval_quad(t: f32, p0: WeightedPoint, p1: WeightedPoint, p2: WeightedPoint) -> Point
     ensures { result ≡ eval_quad_of t p0 p1 p2 }
 {

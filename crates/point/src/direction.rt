@@ -40,6 +40,7 @@ pub fn approx_atan2(y: f32, x: f32) -> f32
 }
 
 // How far two directions are apart, where one and its reverse count as the same.
+#[tactic(auto, unfolding(crate::specs::Angle::diff_of))]
 pub fn diff(a0: f32, a1: f32) -> f32
     ensures { result ≡ diff_of a0 a1 }
 {
@@ -54,6 +55,7 @@ pub fn diff(a0: f32, a1: f32) -> f32
 }
 
 // How far two directions are apart around the full turn, where one and its reverse are a half turn apart.
+#[tactic(auto, unfolding(crate::specs::Angle::full_diff_of))]
 pub fn full_diff(a0: f32, a1: f32) -> f32
     ensures { result ≡ full_diff_of a0 a1 }
 {
@@ -65,6 +67,7 @@ pub fn full_diff(a0: f32, a1: f32) -> f32
     turn
 }
 
+#[tactic(auto, unfolding(crate::specs::Angle::difference_of))]
 fn difference(setting: Setting, a0: f32, a1: f32) -> f32
     ensures { result ≡ difference_of setting a0 a1 }
 {
@@ -75,14 +78,12 @@ fn difference(setting: Setting, a0: f32, a1: f32) -> f32
 }
 
 // A slit goes out and back: the knife has to see the reversal, which the screen folds away.
+#[tactic(auto, unfolding(crate::specs::Angle::changed_of))]
 pub fn changed(setting: Setting, a0: Option<f32>, a1: Option<f32>) -> bool
     ensures { result ≡ changed_of setting a0 a1 }
 {
-    match a0 {
-        None => false,
-        Some(last) => match a1 {
-            None => false,
-            Some(next) => difference(setting, last, next) > MAX_ANGLE_ERROR,
-        },
+    match (a0, a1) {
+        (Some(last), Some(next)) => difference(setting, last, next) > MAX_ANGLE_ERROR,
+        _ => false,
     }
 }

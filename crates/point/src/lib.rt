@@ -6,13 +6,15 @@ mod direction;
 
 ghost use Rattle.std.specs.Prelude.{◌≡◌};
 ghost use Rattle.leaves.specs.Single.{◌⊕◌, ◌⊗◌};
-ghost use Rattle.point.specs.Point.{point_at, plain, rational_of, applied_of, minus_of, same_of, len_of};
+ghost use Rattle.point.specs.Point.{point_at, plain, rational_of, applied_of, minus_of, len_of};
 ghost use Rattle.point.specs.Angle.{angle_of};
 
 pub use curve::{cubic_at, curvature, eval_cubic, eval_quad, inv_curvature, lerp, quad_at};
 pub use direction::{approx_atan2, changed, diff, full_diff};
+use std::ops::Sub;
 
-#[derive(Clone, Copy)]
+// `==` is as in the Rust: equal as floats.
+#[derive(Clone, Copy, PartialEq)]
 pub struct Point {
     pub x: f32,
     pub y: f32,
@@ -36,23 +38,6 @@ impl Point {
         Self { x, y }
     }
 
-    // Rust's `self - other`.
-    pub fn minus(self, other: Point) -> Self
-        ensures { result ≡ minus_of self other }
-    {
-        Self {
-            x: self.x - other.x,
-            y: self.y - other.y,
-        }
-    }
-
-    // Rust's `self == other`: equal as floats.
-    pub fn same(self, other: Point) -> bool
-        ensures { result ≡ same_of self other }
-    {
-        (self.x == other.x) & (self.y == other.y)
-    }
-
     // The square of the length.
     pub fn squared(self) -> f32
         ensures { result ≡ self.x ⊗ self.x ⊕ self.y ⊗ self.y }
@@ -60,6 +45,7 @@ impl Point {
         self.x * self.x + self.y * self.y
     }
 
+    #[tactic(auto, unfolding(crate::specs::Point::len_of))]
     pub fn len(self) -> f32
         ensures { result ≡ len_of self }
     {
@@ -77,6 +63,20 @@ impl Point {
     }
 }
 
+impl Sub for Point {
+    type Output = Self;
+
+    ghost sub_gives = { λ a b r. r ≡ minus_of a b };
+
+    #[tactic(auto, unfolding(crate::specs::Point::minus_of))]
+    fn sub(self, other: Self) -> Self {
+        Self {
+            x: self.x - other.x,
+            y: self.y - other.y,
+        }
+    }
+}
+
 // A rational control point holds its coordinates times its weight.
 #[derive(Clone, Copy)]
 pub struct WeightedPoint {
@@ -85,6 +85,7 @@ pub struct WeightedPoint {
 }
 
 impl WeightedPoint {
+    // Beside `rational` the name says more than a `From<Point>` would: the weight is 1.
     pub fn plain(p: Point) -> Self
         ensures { result ≡ plain p }
     {
@@ -94,6 +95,7 @@ impl WeightedPoint {
         }
     }
 
+    #[tactic(auto, unfolding(crate::specs::Point::rational_of))]
     pub fn rational(p: Point, w: f32) -> Self
         ensures { result ≡ rational_of p w }
     {
@@ -106,6 +108,7 @@ impl WeightedPoint {
         }
     }
 
+    #[tactic(auto, unfolding(crate::specs::Point::applied_of))]
     pub fn applied(self) -> Point
         ensures { result ≡ applied_of self }
     {

@@ -54,7 +54,7 @@ fn plan_line(
 ) -> Edit
     ensures { result ≡ plan_line_of setting caps st last start end }
 {
-    let angle = end.minus(start).angle();
+    let angle = (end - start).angle();
     let opens = opens(setting, Kind::Straight, st, last, angle, start);
     if opens & (caps.splines <= st.splines) {
         return Edit::Keep(refused(st, Err(Refusal::SplinesFull)));
@@ -160,8 +160,8 @@ fn quad_shape(p0: WeightedPoint, p1: WeightedPoint, p2: WeightedPoint) -> Shape
     ensures { result ≡ quad_shape_of p0 p1 p2 }
 {
     let mid = p1.applied();
-    let in_angle = mid.minus(p0.applied()).angle();
-    let out_angle = p2.applied().minus(mid).angle();
+    let in_angle = (mid - p0.applied()).angle();
+    let out_angle = (p2.applied() - mid).angle();
     legs(p0, p1, p2, in_angle, out_angle)
 }
 

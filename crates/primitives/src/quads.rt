@@ -38,9 +38,9 @@ fn straight(curvature: f32) -> bool
 pub fn curve(p0: Point, p1: Point, p2: Point) -> crate::Curve
     ensures { result ≡ curve_of p0 p1 p2 }
 {
-    let a = p1.minus(p0);
-    let b = p2.minus(p1);
-    let h = a.minus(b);
+    let a = p1 - p0;
+    let b = p2 - p1;
+    let h = a - b;
     let cross = cross(p0, p2, h);
     let x0 = leg(a, h, cross);
     let x2 = leg(b, h, cross);

@@ -15,7 +15,7 @@ const MAX_COUNT: usize = 0xffff_ffff;
 fn far(start: Point, last: SplineRow) -> bool
     ensures { result ≡ far_of start last }
 {
-    start.minus(last.p2).squared() >= MAX_ERROR_SQUARED
+    (start - last.p2).squared() >= MAX_ERROR_SQUARED
 }
 
 // A quad's own curvature is above 1, so a spline with a quad has a sum above 0.

@@ -58,7 +58,7 @@ pub fn unclosed(x: &[f32], y: &[f32], weight: &[f32], st: StoreState) -> bool
 {
     let last = stored_point(x, y, weight, st.points - 1);
     let opening = stored_point(x, y, weight, st.opening);
-    !last.applied().same(opening.applied())
+    last.applied() != opening.applied()
 }
 
 pub fn put_point(x: &mut [f32], y: &mut [f32], weight: &mut [f32], i: usize, p: WeightedPoint)

@@ -20,7 +20,7 @@ pub fn starts_after(k: u32, last: SplineRow, row: SplineRow) -> bool
 {
     let end = last.p2;
     let start = row.p0;
-    let gap = end.minus(start).len();
+    let gap = (end - start).len();
     (k == 0) | last.contour | (gap > MAX_ERROR)
 }
 

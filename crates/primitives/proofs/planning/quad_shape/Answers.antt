@@ -7,10 +7,10 @@ unfolding quad_shape_of
 returns c = rw (
   ← c.applied-mid.ensures,
   ← c.applied.ensures,
-  ← c.minus.ensures,
+  ← c.sub.ensures,
   ← c.angle-in_angle.ensures,
   ← c.applied-2.ensures,
-  ← c.minus-2.ensures,
+  ← c.sub-2.ensures,
   ← c.angle-out_angle.ensures,
   ← c.legs.ensures,
 )

@@ -10,4 +10,4 @@ unfolding far_of len_of
 returns c =
     let a = c.args in
     let d = minus_of a.start a.last.p2 in
-    rw (← far_enough (d.x ⊗ d.x) (d.y ⊗ d.y), ← c.minus.ensures, ← c.squared.ensures)
+    rw (← far_enough (d.x ⊗ d.x) (d.y ⊗ d.y), ← c.sub.ensures, ← c.squared.ensures)
