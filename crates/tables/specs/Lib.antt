@@ -1,4 +1,5 @@
 pub mod Tables
+pub mod Lent
 pub mod Threes
 pub mod Past
 pub mod Run

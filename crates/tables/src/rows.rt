@@ -2,9 +2,11 @@
 ghost use Rattle.std.specs.Prelude.{◌≡◌, ◌+◌, ◌≤◌, length};
 ghost use Rattle.std.proofs.lemmas.List.Edits.{sets};
 ghost use Rattle.tables.specs.Tables.{quad_table, spline_table, numbers_of, put_quad, sum_at_of, quad_row_at, clear_flag, put_spline, spline_at, last_spline_of};
+ghost use Rattle.tables.specs.Lent.{quads_of, splines_of};
 ghost use Rattle.tables.specs.Threes.{set_three, three_from, row_from, no_row};
 
 use crate::capacity::{quad_capacity, whole_rows};
+use crate::lent::{QuadColumns, SplineColumns};
 use columns::{flag_byte, is_flag, read, write};
 use point::Point;
 use primitives::{QuadRow, SplineEdit, SplineRow, Three, below};
@@ -241,4 +243,64 @@ pub fn last_spline(
         quad_count,
         below(n as usize),
     )
+}
+
+impl QuadColumns<'_> {
+    pub fn row_at(&self, i: usize) -> QuadRow
+        ensures { result ≡ quad_row_at (quads_of self.now) i }
+    {
+        let spline = read(self.partial_splines, i, 0);
+        if i < self.whole_rows() {
+            return whole_row(self.quad_rows, WIDTH * i, spline);
+        }
+        no_row(spline)
+    }
+
+    // The sum of quad i, or NaN where its row is not whole.
+    pub fn sum_at(&self, i: usize) -> f32
+        ensures { result ≡ sum_at_of self.now.quad_rows.now i }
+    {
+        if i < self.whole_rows() {
+            return self.quad_rows[WIDTH * i + 14];
+        }
+        f32::NAN
+    }
+}
+
+impl SplineColumns<'_> {
+    pub fn at(&self, k: usize) -> SplineRow
+        ensures { result ≡ spline_at (splines_of self.now) k }
+    {
+        SplineRow {
+            curvature: read(self.curvature, k, f32::NAN),
+            p0: Point {
+                x: read(self.p0x, k, f32::NAN),
+                y: read(self.p0y, k, f32::NAN),
+            },
+            p2: Point {
+                x: read(self.p2x, k, f32::NAN),
+                y: read(self.p2y, k, f32::NAN),
+            },
+            contour: is_flag(read(self.contour, k, 0)),
+            first_quad: read(self.first_quad, k, 0),
+            quad_count: read(self.quad_count, k, 0),
+        }
+    }
+
+    // The last of n splines. If there is none, a mark waits, so the spline given in its place decides nothing.
+    pub fn last(&self, n: u32) -> SplineRow
+        ensures { result ≡ last_spline_of (splines_of self.now) n }
+    {
+        if n == 0 {
+            return SplineRow {
+                curvature: 0.0,
+                p0: Point { x: 0.0, y: 0.0 },
+                p2: Point { x: 0.0, y: 0.0 },
+                contour: false,
+                first_quad: 0,
+                quad_count: 0,
+            };
+        }
+        self.at(n as usize - 1)
+    }
 }

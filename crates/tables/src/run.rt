@@ -5,8 +5,8 @@ ghost use Rattle.tables.specs.Tables.{quad_table, spline_table};
 ghost use Rattle.tables.specs.Run.{world, apply_of, run_of};
 
 use crate::rows::{last_spline, put_quad, put_spline};
-use point::Setting;
 use answer::is_done;
+use point::Setting;
 use primitives::{
     Capacities, Cubic, Edit, Primitive, State, cubic_pieces, cubic_point, piece, plan,
 };
