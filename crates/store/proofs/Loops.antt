@@ -11,7 +11,11 @@ use lib.ListN.{length, get_or, take, drop}
 use lib.Seq.{drop-cons, get_or-take, length-take-le, drop-length}
 use lib.Dec.{leb, eqb}
 use lib.Ieee.{Float, nan}
-use borrow.Author.Tests.{eqb-true, eqb-false, eq-eqb, ne_eqb}
+use borrow.Author.Tests.{eqb-true, eqb-false, eq-eqb, ne_eqb, leb-true, leb-false}
+use Rattle.std.proofs.Common.{Option, Some, None, fold, cond, ◌++◌}
+use Rattle.std.specs.Option.{option_eq}
+use Rattle.std.specs.List.{list_all}
+use Rattle.std.proofs.lemmas.List.Sums.{fold-append}
 use Rattle.store.specs.declared.StoreState.{StoreState}
 use Rattle.store.specs.Columns.{Columns, uses_of, usable_of, move_command}
 use Rattle.store.specs.Drawing.{every, weight_ok_of}
@@ -121,6 +125,40 @@ module _ (l : List ℕ) (n points left i : ℕ) (hn : n ≤ length l) (g : Using
   unfolding total_uses_of
   using_end h =
       sym (g.same ∙ ap (λ (k : List ℕ). eqb (total_uses_of k) left) (rest_none 0 l n hn i g.below h) ∙ eqb_sym 0 left)
+
+-- ---- the tests as the library's words say them
+pub known_all : (l : List ℕ) → list_all (λ (k : ℕ). leb k 3) l ≡ known_of l
+unfolding known_of
+known_all [] = refl
+known_all (k ∷ l) = ap (λ (b : Bool). leb k 3 && b) (known_all l)
+
+pub every_all : (ok : Float → Bool) (l : List Float) → list_all ok l ≡ every ok l
+unfolding every
+every_all ok [] = refl
+every_all ok (v ∷ l) = ap (λ (b : Bool). ok v && b) (every_all ok l)
+
+-- what is left of the points after a command, and after all of a list
+abbrev pub left_after : Option ℕ → ℕ → Option ℕ
+left_after None k = None
+left_after (Some left) k = cond (leb (uses_of k) left) (Some (left - uses_of k)) None
+
+pub left_more : (points : ℕ) (ks : List ℕ) (k : ℕ) {a b : Option ℕ} → a ≡ fold left_after (Some points) ks → b ≡ left_after a k → b ≡ fold left_after (Some points) (ks ++ (k ∷ []))
+left_more points ks k e h = h ∙ ap (λ o. left_after o k) e ∙ sym (fold-append left_after (Some points) ks (k ∷ []))
+
+left_none : (l : List ℕ) → option_eq eqb (fold left_after None l) (Some 0) ≡ false
+left_none [] = refl
+left_none (k ∷ l) = left_none l
+
+pub left_zero : (l : List ℕ) (points : ℕ) → option_eq eqb (fold left_after (Some points) l) (Some 0) ≡ eqb (total_uses_of l) points
+unfolding total_uses_of
+left_zero [] points = eqb_sym points 0
+left_zero (k ∷ l) points = go (leb (uses_of k) points) refl (left_zero l (points - uses_of k))
+  where
+    go : (b : Bool) → leb (uses_of k) points ≡ b
+        → option_eq eqb (fold left_after (Some (points - uses_of k)) l) (Some 0) ≡ eqb (total_uses_of l) (points - uses_of k)
+        → option_eq eqb (fold left_after (cond b (Some (points - uses_of k)) None) l) (Some 0) ≡ eqb (uses_of k + total_uses_of l) points
+    go true e rest = rest ∙ sym (eqb_less (uses_of k) (total_uses_of l) points (leb-true _ _ e))
+    go false e rest = let h = leb-false _ _ e in left_none l ∙ sym (ne_eqb (uses_of k + total_uses_of l) points (λ q. omega arith))
 
 -- ---- all of it together
 module _ (st : StoreState) (c : Columns) where

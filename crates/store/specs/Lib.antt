@@ -1,4 +1,5 @@
 pub mod Columns
+pub mod Lent
 pub mod Closing
 pub mod Drawing
 pub mod Plan

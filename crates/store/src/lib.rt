@@ -4,6 +4,7 @@
 ghost use Rattle.std.specs.Prelude.{◌≡◌};
 ghost use Rattle.store.specs.Columns.{columns};
 ghost use Rattle.store.specs.Drawing.{outcome, draw_of, fresh_of};
+ghost use Rattle.store.specs.Lent.{drawing_columns, store_columns};
 
 use answer::{Answer, Refusal};
 use plan::Decision;
@@ -14,6 +15,7 @@ mod builder;
 mod entries;
 mod limits;
 mod plan;
+mod reading;
 mod whole;
 
 pub use builder::{build, cubic_to, line_to, move_to, quad_to, rat_cubic_to, rat_quad_to};
@@ -26,6 +28,41 @@ pub struct StoreState {
     pub points: usize,
     pub commands: usize,
     pub opening: usize,
+}
+
+// A store: the columns that a caller lends, and the state beside them.
+#[derive(Drop)]
+pub struct Store<'a> {
+    pub x: &'a mut [f32],
+    pub y: &'a mut [f32],
+    pub weight: &'a mut [f32],
+    pub commands: &'a mut [u8],
+    pub state: StoreState,
+}
+
+// A store, to read.
+#[derive(Clone, Copy)]
+pub struct Drawing<'a> {
+    pub x: &'a [f32],
+    pub y: &'a [f32],
+    pub weight: &'a [f32],
+    pub commands: &'a [u8],
+    pub state: StoreState,
+}
+
+impl Store<'_> {
+    pub fn drawing(&self) -> Drawing<'_>
+        ensures columns { drawing_columns result ≡ store_columns self.now }
+        ensures state { result.state ≡ self.now.state }
+    {
+        Drawing {
+            x: self.x,
+            y: self.y,
+            weight: self.weight,
+            commands: self.commands,
+            state: self.state,
+        }
+    }
 }
 
 // What a drawing call gives back.

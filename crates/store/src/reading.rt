@@ -1,0 +1,118 @@
+// A drawing, read: whether it is usable and drawable, its points, and whether its last contour is unclosed.
+
+ghost use Rattle.std.specs.Prelude.{◌≡◌, eqb, take};
+ghost use Rattle.store.specs.Columns.{even_of, usable_of, last_command_of, stored_point_of, uses_of};
+ghost use Rattle.store.specs.Closing.{unclosed_of};
+ghost use Rattle.store.specs.Drawable.{total_uses_of, stored_ok_of, drawable_of};
+ghost use Rattle.store.specs.Lent.{drawing_columns};
+
+use crate::{Drawing, StoreState, entries, limits};
+use columns::{read_f32, read_u8};
+use point::{Point, WeightedPoint};
+
+impl Drawing<'_> {
+    pub(crate) fn even(&self) -> bool
+        ensures { result ≡ even_of (drawing_columns self.now) }
+    {
+        (self.y.len() == self.x.len()) & (self.weight.len() == self.x.len())
+    }
+
+    pub(crate) fn last_command(&self) -> u8
+        ensures { result ≡ last_command_of self.now.state (drawing_columns self.now) }
+    {
+        read_u8(self.commands, self.state.commands.saturating_sub(1))
+    }
+
+    // Answer 3 of the drawing calls. Of the contents only the last command is read.
+    pub(crate) fn usable(&self) -> bool
+        ensures { result ≡ usable_of self.now.state (drawing_columns self.now) }
+    {
+        let StoreState {
+            points,
+            commands,
+            opening,
+        } = self.state;
+        self.even()
+            & (1 <= points)
+            & (points <= self.x.len())
+            & (1 <= commands)
+            & (commands <= self.commands.len())
+            & (opening < points)
+            & (self.last_command() <= entries::CUBIC)
+    }
+
+    // The Rust's `points!`; past a column's end it is NaN.
+    pub fn stored_point(&self, i: usize) -> WeightedPoint
+        ensures { result ≡ stored_point_of (drawing_columns self.now) i }
+    {
+        let x = read_f32(self.x, i);
+        let y = read_f32(self.y, i);
+        let weight = read_f32(self.weight, i);
+        WeightedPoint {
+            point: Point { x, y },
+            weight,
+        }
+    }
+
+    // PathData::close compares the points divided by their weights, not as they are stored.
+    pub(crate) fn unclosed(&self) -> bool
+        ensures { result ≡ unclosed_of self.now.state (drawing_columns self.now) }
+    {
+        let last = self.stored_point(self.state.points.saturating_sub(1));
+        let opening = self.stored_point(self.state.opening);
+        !last.applied().same(opening.applied())
+    }
+
+    // Whether the commands use as many points as there are. It counts down what is left, so no sum can wrap.
+    fn uses_all(&self) -> bool
+        ensures { result ≡ eqb (total_uses_of (take self.now.state.commands self.now.commands.now)) self.now.state.points }
+    {
+        self.commands.iter().take(self.state.commands).fold(
+            Some(self.state.points),
+            |left, command| left?.checked_sub(uses(*command)),
+        ) == Some(0)
+    }
+
+    // Flattening's test for answer 3, over the whole drawing.
+    pub fn drawable(&self) -> bool
+        ensures { result ≡ drawable_of self.now.state (drawing_columns self.now) }
+    {
+        if !self.usable() {
+            return false;
+        }
+        let StoreState {
+            points,
+            commands,
+            ..
+        } = self.state;
+        let drawn = self
+            .commands
+            .iter()
+            .take(commands)
+            .all(|c| *c <= entries::CUBIC)
+            & (read_u8(self.commands, 0) == entries::MOVE)
+            & self.uses_all();
+        let held = self
+            .weight
+            .iter()
+            .take(points)
+            .all(|w| limits::weight_ok(*w))
+            & self.x.iter().take(points).all(|v| stored_ok(*v))
+            & self.y.iter().take(points).all(|v| stored_ok(*v));
+        drawn & held
+    }
+}
+
+// How many points a command uses.
+pub fn uses(command: u8) -> usize
+    ensures { result ≡ uses_of command }
+{
+    usize::from(command).max(1)
+}
+
+// 65,536 times 64: what a coordinate in range times a weight in range can reach.
+fn stored_ok(v: f32) -> bool
+    ensures { result ≡ stored_ok_of v }
+{
+    (-4194304.0 <= v) & (v <= 4194304.0)
+}
