@@ -7,7 +7,7 @@ ghost use Rattle.store.specs.Drawable.{total_uses_of, stored_ok_of, drawable_of}
 ghost use Rattle.store.specs.Lent.{drawing_columns};
 
 use crate::{Drawing, StoreState, entries, limits};
-use columns::{read_f32, read_u8};
+use columns::read;
 use point::{Point, WeightedPoint};
 
 impl Drawing<'_> {
@@ -20,7 +20,7 @@ impl Drawing<'_> {
     pub(crate) fn last_command(&self) -> u8
         ensures { result ≡ last_command_of self.now.state (drawing_columns self.now) }
     {
-        read_u8(self.commands, self.state.commands.saturating_sub(1))
+        read(self.commands, self.state.commands.saturating_sub(1), 0)
     }
 
     // Answer 3 of the drawing calls. Of the contents only the last command is read.
@@ -45,9 +45,9 @@ impl Drawing<'_> {
     pub fn stored_point(&self, i: usize) -> WeightedPoint
         ensures { result ≡ stored_point_of (drawing_columns self.now) i }
     {
-        let x = read_f32(self.x, i);
-        let y = read_f32(self.y, i);
-        let weight = read_f32(self.weight, i);
+        let x = read(self.x, i, f32::NAN);
+        let y = read(self.y, i, f32::NAN);
+        let weight = read(self.weight, i, f32::NAN);
         WeightedPoint {
             point: Point { x, y },
             weight,
@@ -60,7 +60,7 @@ impl Drawing<'_> {
     {
         let last = self.stored_point(self.state.points.saturating_sub(1));
         let opening = self.stored_point(self.state.opening);
-        !last.applied().same(opening.applied())
+        last.applied() != opening.applied()
     }
 
     // Whether the commands use as many points as there are. It counts down what is left, so no sum can wrap.
@@ -90,7 +90,7 @@ impl Drawing<'_> {
             .iter()
             .take(commands)
             .all(|c| *c <= entries::CUBIC)
-            & (read_u8(self.commands, 0) == entries::MOVE)
+            & (read(self.commands, 0, 0) == entries::MOVE)
             & self.uses_all();
         let held = self
             .weight

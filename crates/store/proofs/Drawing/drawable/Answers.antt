@@ -17,5 +17,5 @@ returns c =
     let w = all_from_yields_List weight_ok_of _ _ _ c.all-2.ensures.ran (YieldsList-from_take d.state.points (YieldsList-from_slice d.weight.now cc) cc) (λ x b q k. search (rules, tests)) in
     let x = all_from_yields_List stored_ok_of _ _ _ c.all-3.ensures.ran (YieldsList-from_take d.state.points (YieldsList-from_slice d.x.now cc) cc) (λ x b q k. search (rules, tests)) in
     let y = all_from_yields_List stored_ok_of _ _ _ c.all-4.ensures.ran (YieldsList-from_take d.state.points (YieldsList-from_slice d.y.now cc) cc) (λ x b q k. search (rules, tests)) in
-    rw c.read_u8.ensures
+    rw c.read.ensures
     (drawn _ _ (sym c.usable.ensures ∙ c.if-not-usable.false) (k ∙ known_all _) c.uses_all.ensures (w ∙ every_all weight_ok_of _) (x ∙ every_all stored_ok_of _) (y ∙ every_all stored_ok_of _))
