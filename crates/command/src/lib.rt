@@ -29,28 +29,43 @@ impl PointCommand {
 
     const SIGN_BIT: u32 = 0x8000_0000;
 
-    // An index is masked, as in the Rust; no accepted drawing has one at the limit.
+    // Stands until its callers take `u32::from`.
     pub fn pack(self) -> u32
         ensures { result ≡ pack_of self }
     {
-        match self {
+        u32::from(self)
+    }
+}
+
+impl From<PointCommand> for u32 {
+    ghost from_gives = { λ command word. word ≡ pack_of command };
+
+    // An index is masked, as in the Rust; no accepted drawing has one at the limit.
+    fn from(command: PointCommand) -> Self {
+        match command {
             PointCommand::Start(i) => {
-                let index = (i % Self::INDEX_LIMIT) as u32;
-                index | Self::START_WORD
+                let index = (i % PointCommand::INDEX_LIMIT) as u32;
+                index | PointCommand::START_WORD
             }
             PointCommand::Incr(step) => leaves::bits(step),
             PointCommand::End(i, flag) => {
-                let index = (i % Self::INDEX_LIMIT) as u32;
-                let word = index | Self::END_WORD;
-                if flag { word | Self::FLAG_BIT } else { word }
+                let index = (i % PointCommand::INDEX_LIMIT) as u32;
+                let word = index | PointCommand::END_WORD;
+                if flag {
+                    word | PointCommand::FLAG_BIT
+                } else {
+                    word
+                }
             }
         }
     }
+}
+
+impl From<u32> for PointCommand {
+    ghost from_gives = { λ word command. command ≡ unpack_of word };
 
     // Every word is a command: 7FC00000, which is never written, reads as Start 0.
-    pub fn unpack(word: u32) -> Self
-        ensures { result ≡ unpack_of word }
-    {
+    fn from(word: u32) -> Self {
         let mark = word & Self::START_WORD;
         if mark != Self::START_WORD {
             let step = f32::from_bits(word);

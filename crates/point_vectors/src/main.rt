@@ -131,14 +131,14 @@ fn against_command(list: &mut impl Read, case: u32, value: u32, flag: u32) -> io
 }
 
 fn unpack(list: &mut impl Read) -> io::Result<Check> {
-    let c = PointCommand::unpack(word(list)?);
+    let c = PointCommand::from(word(list)?);
     let (case, value, flag) = match c {
         PointCommand::Start(i) => (0, (i % 0x1_0000_0000) as u32, 0),
         PointCommand::Incr(step) => (1, leaves::bits(step), 0),
         PointCommand::End(i, flag) => (2, (i % 0x1_0000_0000) as u32, u32::from(flag)),
     };
     let fields = against_command(list, case, value, flag)?;
-    Ok(fields.and(against(list, c.pack())?))
+    Ok(fields.and(against(list, u32::from(c))?))
 }
 
 fn pack(list: &mut impl Read) -> io::Result<Check> {
@@ -150,7 +150,7 @@ fn pack(list: &mut impl Read) -> io::Result<Check> {
         1 => PointCommand::Incr(leaves::from_bits(value)),
         _ => PointCommand::End(value as usize, flag != 0),
     };
-    against(list, command.pack())
+    against(list, u32::from(command))
 }
 
 fn one(list: &mut impl Read, function: u8) -> io::Result<Check> {

@@ -1,11 +1,11 @@
--- `command::PointCommand::unpack` meets its contract: its masks keep the fields that the definition reads. Assumes nothing.
+-- A word as a command meets its contract: its masks keep the fields that the definition reads. Assumes nothing.
 use mathlib.Core.Path.{sym, subst}
 use mathlib.Core.Bool.{Bool, not}
 use native.Mathlib.Omega.{arith}
 use lib.Dec.{T}
 use Rattle.leaves.specs.Bits.{float_of}
 use Rattle.command.proofs.Fields.{is_step, is_start, is_end_lem, step_real, marked, unmarked, index, plus, minus, flag}
-use Rattle.command.proofs.PointCommand.unpack.Goals as goal
+use Rattle.command.proofs.PointCommandFromU32.from.Goals as goal
 
 pub float_from_bits-step : goal.float_from_bits-step
 float_from_bits-step c = subst (λ (b : Bool). T (not b)) (sym (step_real _ (unmarked _ c.if-mark-ne-START_WORD.true))) tt

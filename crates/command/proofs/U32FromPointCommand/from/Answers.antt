@@ -1,10 +1,10 @@
--- `command::PointCommand::pack` meets its contract: each arm puts together the word that the definition adds up. Assumes nothing.
+-- A command as a word meets its contract: each arm puts together the word that the definition adds up. Assumes nothing.
 use mathlib.Core.Path.{sym, ◌∙◌, ap}
 use mathlib.Core.Bool.{Bool}
 use Rattle.command.specs.Packing.{pack_of}
 use Rattle.command.specs.declared.PointCommand.TheVariants.{End}
 use Rattle.command.proofs.Fields.{start, end_plain, end_flagged}
-use Rattle.command.proofs.PointCommand.pack.Goals as goal
+use Rattle.command.proofs.U32FromPointCommand.from.Goals as goal
 
 pub returns-in-Start : goal.returns-in-Start
 returns-in-Start c = start c.in-Start.i ∙ ap pack_of (sym c.in-Start.is)
