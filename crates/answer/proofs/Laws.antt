@@ -6,8 +6,6 @@ use mathlib.Core.List.{List, [], ◌∷◌}
 use borrow.Author.Tests.{eqb-true}
 use lib.ListN.{get_or}
 use Rattle.answer.specs.Answer.{Answer}
-use Rattle.std.specs.Prelude.{Ok, Err}
-use Rattle.answer.specs.declared.Refusal.TheVariants as refusal
 use Rattle.answer.specs.Answer.{Done, BadCoordinate, BadWeight, Unusable, StoreFull, TooManyPieces, QuadsFull, SplinesFull, SumTooLarge, OutputShort, BadText, InputTooLong, NotPrintable, BufferShort}
 use Rattle.answer.specs.Number.{number_of, is_done}
 
@@ -18,20 +16,20 @@ answers =
     ∷ NotPrintable ∷ BufferShort ∷ []
 
 answer_at : (a : Answer) → get_or answers (number_of a) Done ≡ a
-answer_at (Ok tt) = refl
-answer_at (Err refusal.BadCoordinate) = refl
-answer_at (Err refusal.BadWeight) = refl
-answer_at (Err refusal.Unusable) = refl
-answer_at (Err refusal.StoreFull) = refl
-answer_at (Err refusal.TooManyPieces) = refl
-answer_at (Err refusal.QuadsFull) = refl
-answer_at (Err refusal.SplinesFull) = refl
-answer_at (Err refusal.SumTooLarge) = refl
-answer_at (Err refusal.OutputShort) = refl
-answer_at (Err refusal.BadText) = refl
-answer_at (Err refusal.InputTooLong) = refl
-answer_at (Err refusal.NotPrintable) = refl
-answer_at (Err refusal.BufferShort) = refl
+answer_at Done = refl
+answer_at BadCoordinate = refl
+answer_at BadWeight = refl
+answer_at Unusable = refl
+answer_at StoreFull = refl
+answer_at TooManyPieces = refl
+answer_at QuadsFull = refl
+answer_at SplinesFull = refl
+answer_at SumTooLarge = refl
+answer_at OutputShort = refl
+answer_at BadText = refl
+answer_at InputTooLong = refl
+answer_at NotPrintable = refl
+answer_at BufferShort = refl
 
 pub number_apart : (a b : Answer) → number_of a ≡ number_of b → a ≡ b
 number_apart a b e = sym (answer_at a) ∙ ap (λ (n : ℕ). get_or answers n Done) e ∙ answer_at b

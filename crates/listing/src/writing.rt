@@ -2,6 +2,7 @@
 
 ghost use Rattle.std.specs.Prelude.{◌≡◌, [], ◌+◌, ◌*◌, ◌≤◌, length};
 ghost use Rattle.std.proofs.lemmas.List.Edits.{sets};
+ghost use Rattle.answer.specs.Answer.{Done};
 ghost use Rattle.columns.specs.Flags.{is_flag_of};
 ghost use Rattle.leaves.specs.Bits.{bits_of};
 ghost use Rattle.point.specs.Point.{point_at};
