@@ -29,6 +29,14 @@ function keep(key, line) {
 /^new: / { keep("new", substr($0, 6)); next }
 { fault(count, "a line that says nothing: " $0) }
 
+# The type of a line `impl Type {` or `impl<P> Type<P> {`; of an impl of a trait no type has the name.
+function type_of(s) {
+    sub(/^impl(<[^ ]*>)? /, "", s)
+    sub(/ \{$/, "", s)
+    if (s !~ / for /) sub(/<.*/, "", s)
+    return s
+}
+
 # Where the head of entry n is among the lines of its file, and where its body begins and ends: between { and } at the function's own indentation.
 function find_body(n,    own, type, in_type, indent, i, found) {
     own = name[n]
@@ -36,9 +44,9 @@ function find_body(n,    own, type, in_type, indent, i, found) {
     if (i = index(own, "::")) { type = substr(own, 1, i - 1); own = substr(own, i + 2) }
     begins = ends = 0
     for (i = 1; i <= height; i++) {
-        if (line[i] ~ /^impl /) in_type = line[i]
+        if (line[i] ~ /^impl/) in_type = type_of(line[i])
         if (line[i] == "}") in_type = ""
-        if (in_type != (type == "" ? "" : "impl " type " {")) continue
+        if (in_type != type) continue
         if (!found && line[i] ~ ("^ *pub (extern \"C\" )?fn " own "[(<]")) { found = heads = i; indent = line[i]; sub(/[^ ].*/, "", indent) }
         if (found && !begins && line[i] == indent "{") begins = i
         if (begins && line[i] == indent "}") { ends = i; return 1 }

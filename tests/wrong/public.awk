@@ -17,7 +17,8 @@ files == 1 && (/^pub use / || uses != "") {
 files == 1 && /^pub (struct|enum) / { type = $3; sub(/<.*/, "", type); passed[type] = 1 }
 files == 1 && /^pub mod / { print "a public module: public.awk does not follow it"; exit 1 }
 files == 1 { next }
-/^impl / { own = $2 }
+# `impl Type {` or `impl<P> Type<P> {`; an impl of a trait has no public function of its own
+/^impl/ { own = $0; sub(/^impl(<[^ ]*>)? /, "", own); own = own ~ / for / ? "" : own; sub(/[< ].*/, "", own) }
 /^}/ { own = "" }
 /^ *pub (extern "C" )?fn / {
     f = $0
