@@ -1,6 +1,7 @@
 -- `listing::put_points` meets its contract: the points that are left, written after those already written. Assumes nothing.
 use mathlib.Core.Path.{◌∙◌}
 use native.Mathlib.Omega.{arith}
+use lib.Ieee.{of_bits}
 use Rattle.columns.specs.Flags.{is_flag_of}
 use Rattle.point.specs.Point.{point_at}
 use Rattle.evaluate.specs.Evaluate.{finished}
@@ -9,6 +10,7 @@ use Rattle.listing.proofs.WritingLaws.{point_length, row_lines, point_on, points
 use Rattle.listing.proofs.writing.put_points.Goals as goal
 
 pub loop-i-preserved : goal.loop-i-preserved
+unfolding of_bits
 loop-i-preserved c = (
   omega (arith, c.loop-i-test.true),
   omega (
