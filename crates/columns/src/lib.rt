@@ -19,12 +19,14 @@ pub fn write<T: Copy>(column: &mut [T], i: usize, v: T)
     }
 }
 
+#[tactic(auto, unfolding(crate::specs::Flags::flag_byte_of))]
 pub fn flag_byte(flag: bool) -> u8
     ensures { result ≡ flag_byte_of flag }
 {
     u8::from(flag)
 }
 
+#[tactic(auto, unfolding(crate::specs::Flags::is_flag_of))]
 pub fn is_flag(byte: u8) -> bool
     ensures { result ≡ is_flag_of byte }
 {

@@ -1,21 +1,13 @@
 // Finished point lists: how many points lent columns hold, and how a list falls into contours. One definition for floats and for whole plotter units.
 #![tactic(auto)]
 
-ghost use Rattle.std.specs.Prelude.{◌≡◌, min};
+ghost use Rattle.std.specs.Prelude.{◌≡◌};
 ghost use Rattle.contours.specs.Finished.{shortest_of};
 
-pub fn least(a: usize, b: usize) -> usize
-    ensures { result ≡ min a b }
-{
-    if a < b {
-        return a;
-    }
-    b
-}
-
 // How many points columns of these lengths hold: as many as the shortest has entries.
+#[tactic(auto, unfolding(crate::specs::Finished::shortest_of))]
 pub fn shortest(x: usize, y: usize, end: usize) -> usize
     ensures { result ≡ shortest_of x y end }
 {
-    least(least(x, y), end)
+    x.min(y).min(end)
 }
