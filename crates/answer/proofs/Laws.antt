@@ -5,6 +5,7 @@ use mathlib.Core.Bool.{true}
 use mathlib.Core.List.{List, [], ◌∷◌}
 use borrow.Author.Tests.{eqb-true}
 use lib.ListN.{get_or}
+use Rattle.std.specs.Result.{is_ok}
 use Rattle.answer.specs.Answer.{Answer}
 use Rattle.answer.specs.Answer.{Done, BadCoordinate, BadWeight, Unusable, StoreFull, TooManyPieces, QuadsFull, SplinesFull, SumTooLarge, OutputShort, BadText, InputTooLong, NotPrintable, BufferShort}
 use Rattle.answer.specs.Number.{number_of, is_done}
@@ -39,3 +40,20 @@ done_is a h = number_apart a Done (eqb-true (number_of a) 0 h)
 
 pub is_done_lem : is_done Done ≡ true
 is_done_lem = refl
+
+-- a refusal is not done
+pub ok_is_done : (a : Answer) → is_ok a ≡ is_done a
+ok_is_done Done = refl
+ok_is_done BadCoordinate = refl
+ok_is_done BadWeight = refl
+ok_is_done Unusable = refl
+ok_is_done StoreFull = refl
+ok_is_done TooManyPieces = refl
+ok_is_done QuadsFull = refl
+ok_is_done SplinesFull = refl
+ok_is_done SumTooLarge = refl
+ok_is_done OutputShort = refl
+ok_is_done BadText = refl
+ok_is_done InputTooLong = refl
+ok_is_done NotPrintable = refl
+ok_is_done BufferShort = refl

@@ -19,7 +19,7 @@ mod reading;
 mod whole;
 
 pub use builder::{build, cubic_to, line_to, move_to, quad_to, rat_cubic_to, rat_quad_to};
-pub use entries::{CUBIC, LINE, MOVE, stored_point};
+pub use entries::{CUBIC, LINE, MOVE, QUAD, stored_point};
 pub use whole::{drawable, uses};
 
 // The state beside the columns: how many points and commands there are, and which point opened the contour.

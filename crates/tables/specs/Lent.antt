@@ -5,7 +5,9 @@ use Rattle.tables.specs.declared.lent.QuadColumnsMut.{QuadColumnsMut}
 use Rattle.tables.specs.declared.lent.SplineColumns.{SplineColumns}
 use Rattle.tables.specs.declared.lent.SplineColumnsMut.{SplineColumnsMut}
 use Rattle.tables.specs.declared.lent.Tables.{Tables}
+use Rattle.primitives.specs.declared.State.{State}
 use Rattle.tables.specs.Tables.{QuadTable, SplineTable, quad_table, spline_table}
+use Rattle.tables.specs.Run.{World, world}
 
 abbrev pub quads_of : QuadColumns → QuadTable
 quads_of q = quad_table q.quad_rows.now q.partial_splines.now
@@ -18,6 +20,9 @@ quads_mut_of q = quad_table q.quad_rows.now q.partial_splines.now
 
 abbrev pub splines_mut_of : SplineColumnsMut → SplineTable
 splines_mut_of s = spline_table s.curvature.now s.p0x.now s.p0y.now s.p2x.now s.p2y.now s.contour.now s.first_quad.now s.quad_count.now
+
+abbrev pub world_of : State → Tables → World
+world_of st t = world st (quads_mut_of t.quads) (splines_mut_of t.splines)
 
 -- what is written goes to the columns that were lent
 abbrev pub SameQuads : QuadColumnsMut → QuadColumnsMut → Type 0

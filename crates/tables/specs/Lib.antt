@@ -1,6 +1,6 @@
 pub mod Tables
-pub mod Lent
 pub mod Threes
 pub mod Past
 pub mod Run
+pub mod Lent
 pub mod Commands

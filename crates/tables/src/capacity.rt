@@ -1,9 +1,9 @@
 // How many quads and splines the lent columns take.
-ghost use Rattle.std.specs.Prelude.{◌≡◌, min};
+ghost use Rattle.std.specs.Prelude.{◌≡◌};
 ghost use Rattle.tables.specs.Lent.{quads_of, splines_of};
-ghost use Rattle.tables.specs.Tables.{quad_table, spline_table, whole_rows_of, quad_capacity_of, spline_capacity_of};
+ghost use Rattle.tables.specs.Tables.{whole_rows_of, quad_capacity_of, spline_capacity_of};
 
-use crate::lent::{QuadColumns, SplineColumns};
+use crate::lent::{QuadColumns, SplineColumns, WIDTH};
 use command::PointCommand;
 
 impl QuadColumns<'_> {
@@ -11,7 +11,7 @@ impl QuadColumns<'_> {
     pub fn whole_rows(&self) -> usize
         ensures { result ≡ whole_rows_of self.now.quad_rows.now }
     {
-        self.quad_rows.len() / 15
+        self.quad_rows.len() / WIDTH
     }
 
     pub fn capacity(&self) -> usize
@@ -36,42 +36,4 @@ impl SplineColumns<'_> {
             .min(self.p0x.len().min(self.p0y.len().min(ends)));
         PointCommand::INDEX_LIMIT.min(rows) as u32
     }
-}
-
-pub fn least(a: usize, b: usize) -> usize
-    ensures { result ≡ min a b }
-{
-    if a < b { a } else { b }
-}
-
-// How many rows of 15 numbers are whole.
-pub fn whole_rows(quad_rows: &[f32]) -> usize
-    ensures { result ≡ whole_rows_of quad_rows.now }
-{
-    quad_rows.len() / 15
-}
-
-pub fn quad_capacity(quad_rows: &[f32], partial_splines: &[u32]) -> usize
-    ensures { result ≡ quad_capacity_of (quad_table quad_rows.now partial_splines.now) }
-{
-    least(whole_rows(quad_rows), partial_splines.len())
-}
-
-pub fn spline_capacity(
-    curvature: &[f32],
-    p0x: &[f32],
-    p0y: &[f32],
-    p2x: &[f32],
-    p2y: &[f32],
-    contour: &[u8],
-    first_quad: &[usize],
-    quad_count: &[u32],
-) -> u32
-    ensures { result ≡ spline_capacity_of (spline_table curvature.now p0x.now p0y.now p2x.now p2y.now contour.now first_quad.now quad_count.now) }
-{
-    let ranges = least(first_quad.len(), quad_count.len());
-    let ends = least(p2x.len(), least(p2y.len(), least(contour.len(), ranges)));
-    let rows = least(curvature.len(), least(p0x.len(), least(p0y.len(), ends)));
-    let capacity = least(PointCommand::INDEX_LIMIT, rows);
-    capacity as u32
 }

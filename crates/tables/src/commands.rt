@@ -1,196 +1,80 @@
 // The commands of a store, taken in order: PathData::segments.
-ghost use Rattle.std.specs.Prelude.{cond, ◌≡◌, [], ◌∷◌, ◌+◌, ◌^◌, ◌<◌, ltb};
-ghost use Rattle.store.specs.Columns.{columns, uses_of};
-ghost use Rattle.tables.specs.Tables.{quad_table, spline_table};
-ghost use Rattle.tables.specs.Run.{world, run_of};
+ghost use Rattle.std.specs.Prelude.{◌≡◌};
+ghost use Rattle.store.specs.Lent.{drawing_columns};
+ghost use Rattle.tables.specs.Lent.{quads_mut_of, splines_mut_of, SameTables, world_of};
+ghost use Rattle.tables.specs.Run.{run_of};
 ghost use Rattle.tables.specs.Commands.{cubic_from, command_primitives_of, tables_of};
 
-use crate::capacity::{least, quad_capacity, spline_capacity};
-use crate::run::{push, push_cubic};
-use answer::is_done;
-use columns::read;
+use crate::lent::Tables;
 use point::Setting;
-use primitives::{Capacities, Cubic, Primitive, State, below};
-use store::{CUBIC, LINE, MOVE, StoreState, stored_point, uses};
+use primitives::{Capacities, Cubic, Primitive, State};
+use store::{Drawing, LINE, MOVE, QUAD, uses};
 
-// No column of floats is this long, so there is no point from this index on.
-const NO_POINT: usize = 0x4000_0000_0000_0000;
-
-// The cubic whose start is point i.
-fn cubic_from(x: &[f32], y: &[f32], weight: &[f32], i: usize) -> Cubic
-    requires { i < 2 ^ 63 }
-    ensures { result ≡ cubic_from (columns x.now y.now weight.now []) i }
+// The cubic whose start is point i. No column is so long that the last index has a point.
+fn cubic_from(drawing: &Drawing<'_>, i: usize) -> Cubic
+    ensures { result ≡ cubic_from (drawing_columns drawing.now) i }
 {
-    let i1 = i + 1;
-    let i2 = i + 2;
-    let i3 = i + 3;
-    let p0 = stored_point(x, y, weight, i);
-    let p1 = stored_point(x, y, weight, i1);
-    let p2 = stored_point(x, y, weight, i2);
-    let p3 = stored_point(x, y, weight, i3);
-    Cubic { p0, p1, p2, p3 }
+    Cubic {
+        p0: drawing.stored_point(i),
+        p1: drawing.stored_point(i.saturating_add(1)),
+        p2: drawing.stored_point(i.saturating_add(2)),
+        p3: drawing.stored_point(i.saturating_add(3)),
+    }
 }
 
-// A Move, a Line or a Quad, where j points are used up before it: it starts from the last of them.
-fn command_primitive(x: &[f32], y: &[f32], weight: &[f32], k: u8, j: usize) -> Primitive
-    requires { (k < 3) × (j < 2 ^ 63) }
-    ensures { result ∷ [] ≡ command_primitives_of (columns x.now y.now weight.now []) k j }
-{
-    if k == MOVE {
-        return Primitive::Contour;
+impl Tables<'_, '_> {
+    // The primitives of the command k, where j points are used up before it: it starts from the last of them.
+    fn push_command(
+        &mut self,
+        setting: Setting,
+        caps: Capacities,
+        drawing: &Drawing<'_>,
+        st: State,
+        k: u8,
+        j: usize,
+    ) -> State
+        ensures same { SameTables self.old self.new }
+        ensures ran { world_of result self.new ≡ run_of setting caps (command_primitives_of (drawing_columns drawing.now) k j) (world_of st self.old) }
+    {
+        let before = j.saturating_sub(1);
+        let p = match k {
+            MOVE => Primitive::Contour,
+            LINE => Primitive::Line(drawing.stored_point(before), drawing.stored_point(j)),
+            QUAD => {
+                let p0 = drawing.stored_point(before);
+                let p1 = drawing.stored_point(j);
+                Primitive::Quad(p0, p1, drawing.stored_point(j.saturating_add(1)))
+            }
+            _ => return self.push_cubic(setting, caps, st, cubic_from(drawing, before)),
+        };
+        self.push(setting, caps, st, p)
     }
-    let p0 = stored_point(x, y, weight, below(j));
-    let p1 = stored_point(x, y, weight, j);
-    if k == LINE {
-        return Primitive::Line(p0, p1);
-    }
-    let next = j + 1;
-    Primitive::Quad(p0, p1, stored_point(x, y, weight, next))
-}
 
-// The points used up after command k. A number past every point stays as it is, so the sum never wraps.
-fn advance(j: usize, k: u8) -> usize
-    ensures { result ≡ cond (ltb j (2 ^ 62)) (j + uses_of k) j }
-{
-    if j < NO_POINT {
-        return j + uses(k);
+    // The tables of a drawing: its commands are taken in order, and a refusal stops the run.
+    pub fn fill(&mut self, setting: Setting, drawing: &Drawing<'_>) -> State
+        ensures same { SameTables self.old self.new }
+        ensures filled { world_of result self.new ≡ tables_of setting drawing.now.state (drawing_columns drawing.now) (quads_mut_of self.old.quads) (splines_mut_of self.old.splines) }
+    {
+        let caps = Capacities {
+            quads: self.quads.view().capacity(),
+            splines: self.splines.view().capacity(),
+        };
+        let n = drawing.state.commands.min(drawing.commands.len());
+        let mut state = State {
+            answer: Ok(()),
+            splines: 0,
+            quads: 0,
+            mark: true,
+            last: None,
+        };
+        let mut j = 0usize;
+        for k in &drawing.commands[..n] {
+            if state.answer.is_err() {
+                break;
+            }
+            state = self.push_command(setting, caps, drawing, state, *k, j);
+            j = j.saturating_add(uses(*k));
+        }
+        state
     }
-    j
-}
-
-// The primitives of the command k, where j points are used up before it.
-fn push_command(
-    x: &[f32],
-    y: &[f32],
-    weight: &[f32],
-    quad_rows: &mut [f32],
-    partial_splines: &mut [u32],
-    curvature: &mut [f32],
-    p0x: &mut [f32],
-    p0y: &mut [f32],
-    p2x: &mut [f32],
-    p2y: &mut [f32],
-    contour: &mut [u8],
-    first_quad: &mut [usize],
-    quad_count: &mut [u32],
-    setting: Setting,
-    caps: Capacities,
-    st: State,
-    k: u8,
-    j: usize,
-) -> State
-    requires { j < 2 ^ 63 }
-    ensures { world result (quad_table quad_rows.new partial_splines.new) (spline_table curvature.new p0x.new p0y.new p2x.new p2y.new contour.new first_quad.new quad_count.new) ≡ run_of setting caps (command_primitives_of (columns x.now y.now weight.now []) k j) (world st (quad_table quad_rows.old partial_splines.old) (spline_table curvature.old p0x.old p0y.old p2x.old p2y.old contour.old first_quad.old quad_count.old)) }
-{
-    if k < CUBIC {
-        let p = command_primitive(x, y, weight, k, j);
-        return push(
-            quad_rows,
-            partial_splines,
-            curvature,
-            p0x,
-            p0y,
-            p2x,
-            p2y,
-            contour,
-            first_quad,
-            quad_count,
-            setting,
-            caps,
-            st,
-            p,
-        );
-    }
-    let c = cubic_from(x, y, weight, below(j));
-    push_cubic(
-        quad_rows,
-        partial_splines,
-        curvature,
-        p0x,
-        p0y,
-        p2x,
-        p2y,
-        contour,
-        first_quad,
-        quad_count,
-        setting,
-        caps,
-        st,
-        c,
-    )
-}
-
-// The tables of a drawing: its commands are taken in order, and a refusal stops the run.
-pub fn fill(
-    x: &[f32],
-    y: &[f32],
-    weight: &[f32],
-    commands: &[u8],
-    quad_rows: &mut [f32],
-    partial_splines: &mut [u32],
-    curvature: &mut [f32],
-    p0x: &mut [f32],
-    p0y: &mut [f32],
-    p2x: &mut [f32],
-    p2y: &mut [f32],
-    contour: &mut [u8],
-    first_quad: &mut [usize],
-    quad_count: &mut [u32],
-    setting: Setting,
-    store: StoreState,
-) -> State
-    ensures { world result (quad_table quad_rows.new partial_splines.new) (spline_table curvature.new p0x.new p0y.new p2x.new p2y.new contour.new first_quad.new quad_count.new) ≡ tables_of setting store (columns x.now y.now weight.now commands.now) (quad_table quad_rows.old partial_splines.old) (spline_table curvature.old p0x.old p0y.old p2x.old p2y.old contour.old first_quad.old quad_count.old) }
-{
-    let caps = Capacities {
-        quads: quad_capacity(&quad_rows[..], &partial_splines[..]),
-        splines: spline_capacity(
-            &curvature[..],
-            &p0x[..],
-            &p0y[..],
-            &p2x[..],
-            &p2y[..],
-            &contour[..],
-            &first_quad[..],
-            &quad_count[..],
-        ),
-    };
-    let n = least(store.commands, commands.len());
-    let mut state = State {
-        answer: Ok(()),
-        splines: 0,
-        quads: 0,
-        mark: true,
-        last: None,
-    };
-    let mut going = true;
-    let mut i = 0;
-    let mut j = 0;
-    while (i < n) & going {
-        let k = read(commands, i, 0);
-        state = push_command(
-            x,
-            y,
-            weight,
-            quad_rows,
-            partial_splines,
-            curvature,
-            p0x,
-            p0y,
-            p2x,
-            p2y,
-            contour,
-            first_quad,
-            quad_count,
-            setting,
-            caps,
-            state,
-            k,
-            j,
-        );
-        let answer = state.answer;
-        going = is_done(answer);
-        j = advance(j, k);
-        i += 1;
-    }
-    state
 }

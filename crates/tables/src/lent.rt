@@ -2,6 +2,9 @@
 ghost use Rattle.std.specs.Prelude.{◌≡◌};
 ghost use Rattle.tables.specs.Lent.{quads_of, splines_of, quads_mut_of, splines_mut_of};
 
+// How many numbers a quad has.
+pub const WIDTH: usize = 15;
+
 // Row i of the quads is numbers 15·i to 15·i + 14 of quad_rows, and entry i of partial_splines.
 #[derive(Clone, Copy)]
 pub struct QuadColumns<'a> {

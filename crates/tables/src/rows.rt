@@ -1,18 +1,14 @@
 // One row of a table, written and read. An index past the end of a column writes nothing there, and reads NaN or 0.
 ghost use Rattle.std.specs.Prelude.{◌≡◌, ◌+◌, ◌≤◌, length};
 ghost use Rattle.std.proofs.lemmas.List.Edits.{sets};
-ghost use Rattle.tables.specs.Tables.{quad_table, spline_table, numbers_of, put_quad, sum_at_of, quad_row_at, clear_flag, put_spline, spline_at, last_spline_of};
-ghost use Rattle.tables.specs.Lent.{quads_of, splines_of};
+ghost use Rattle.tables.specs.Tables.{numbers_of, put_quad, sum_at_of, quad_row_at, clear_flag, put_spline, spline_at, last_spline_of};
+ghost use Rattle.tables.specs.Lent.{quads_of, splines_of, quads_mut_of, splines_mut_of, SameQuads, SameSplines};
 ghost use Rattle.tables.specs.Threes.{set_three, three_from, row_from, no_row};
 
-use crate::capacity::{quad_capacity, whole_rows};
-use crate::lent::{QuadColumns, SplineColumns};
+use crate::lent::{QuadColumns, QuadColumnsMut, SplineColumns, SplineColumnsMut, WIDTH};
 use columns::{flag_byte, is_flag, read, write};
 use point::Point;
-use primitives::{QuadRow, SplineEdit, SplineRow, Three, below};
-
-// How many numbers a quad has.
-const WIDTH: usize = 15;
+use primitives::{QuadRow, SplineEdit, SplineRow, Three};
 
 fn put_three(quad_rows: &mut [f32], j: usize, v: Three)
     requires { j + 3 ≤ length quad_rows.old }
@@ -51,13 +47,15 @@ fn put_row(quad_rows: &mut [f32], j: usize, row: QuadRow)
     put_three(quad_rows, j12, fifth);
 }
 
-pub fn put_quad(quad_rows: &mut [f32], partial_splines: &mut [u32], i: usize, row: QuadRow)
-    ensures { quad_table quad_rows.new partial_splines.new ≡ put_quad (quad_table quad_rows.old partial_splines.old) i row }
-{
-    if i < quad_capacity(&quad_rows[..], &partial_splines[..]) {
-        let j = WIDTH * i;
-        put_row(quad_rows, j, row);
-        write(partial_splines, i, row.spline);
+impl QuadColumnsMut<'_> {
+    pub fn put(&mut self, i: usize, row: QuadRow)
+        ensures same { SameQuads self.old self.new }
+        ensures put { quads_mut_of self.new ≡ put_quad (quads_mut_of self.old) i row }
+    {
+        if i < self.view().capacity() {
+            put_row(self.quad_rows, WIDTH * i, row);
+            write(self.partial_splines, i, row.spline);
+        }
     }
 }
 
@@ -123,126 +121,32 @@ fn no_row(spline: u32) -> QuadRow
     }
 }
 
-pub fn quad_row_at(quad_rows: &[f32], partial_splines: &[u32], i: usize) -> QuadRow
-    ensures { result ≡ quad_row_at (quad_table quad_rows.now partial_splines.now) i }
-{
-    let spline = read(partial_splines, i, 0);
-    if i < whole_rows(quad_rows) {
-        return whole_row(quad_rows, WIDTH * i, spline);
-    }
-    no_row(spline)
-}
-
-// The sum of quad i, or NaN where its row is not whole.
-pub fn sum_at(quad_rows: &[f32], i: usize) -> f32
-    ensures { result ≡ sum_at_of quad_rows.now i }
-{
-    if i < whole_rows(quad_rows) {
-        let j = WIDTH * i;
-        let k = j + 14;
-        return quad_rows[k];
-    }
-    0.0 / 0.0
-}
-
 // If `clears` is true, the flag of the spline before k is cleared.
 fn clear_flag(clears: bool, contour: &mut [u8], k: usize)
     ensures { contour.new ≡ clear_flag clears contour.old k }
 {
     if clears {
-        write(contour, below(k), flag_byte(false));
+        write(contour, k.saturating_sub(1), flag_byte(false));
     }
 }
 
-pub fn put_spline(
-    curvature: &mut [f32],
-    p0x: &mut [f32],
-    p0y: &mut [f32],
-    p2x: &mut [f32],
-    p2y: &mut [f32],
-    contour: &mut [u8],
-    first_quad: &mut [usize],
-    quad_count: &mut [u32],
-    edit: SplineEdit,
-)
-    ensures { spline_table curvature.new p0x.new p0y.new p2x.new p2y.new contour.new first_quad.new quad_count.new ≡ put_spline (spline_table curvature.old p0x.old p0y.old p2x.old p2y.old contour.old first_quad.old quad_count.old) edit }
-{
-    let k = edit.at as usize;
-    write(curvature, k, edit.row.curvature);
-    write(p0x, k, edit.row.p0.x);
-    write(p0y, k, edit.row.p0.y);
-    write(p2x, k, edit.row.p2.x);
-    write(p2y, k, edit.row.p2.y);
-    clear_flag(edit.clears, contour, k);
-    write(contour, k, flag_byte(edit.row.contour));
-    write(first_quad, k, edit.row.first_quad);
-    write(quad_count, k, edit.row.quad_count);
-}
-
-pub fn spline_at(
-    curvature: &[f32],
-    p0x: &[f32],
-    p0y: &[f32],
-    p2x: &[f32],
-    p2y: &[f32],
-    contour: &[u8],
-    first_quad: &[usize],
-    quad_count: &[u32],
-    k: usize,
-) -> SplineRow
-    ensures { result ≡ spline_at (spline_table curvature.now p0x.now p0y.now p2x.now p2y.now contour.now first_quad.now quad_count.now) k }
-{
-    SplineRow {
-        curvature: read(curvature, k, f32::NAN),
-        p0: Point {
-            x: read(p0x, k, f32::NAN),
-            y: read(p0y, k, f32::NAN),
-        },
-        p2: Point {
-            x: read(p2x, k, f32::NAN),
-            y: read(p2y, k, f32::NAN),
-        },
-        contour: is_flag(read(contour, k, 0)),
-        first_quad: read(first_quad, k, 0),
-        quad_count: read(quad_count, k, 0),
+impl SplineColumnsMut<'_> {
+    pub fn put(&mut self, edit: SplineEdit)
+        ensures same { SameSplines self.old self.new }
+        ensures put { splines_mut_of self.new ≡ put_spline (splines_mut_of self.old) edit }
+    {
+        let k = edit.at as usize;
+        let row = edit.row;
+        write(self.curvature, k, row.curvature);
+        write(self.p0x, k, row.p0.x);
+        write(self.p0y, k, row.p0.y);
+        write(self.p2x, k, row.p2.x);
+        write(self.p2y, k, row.p2.y);
+        clear_flag(edit.clears, self.contour, k);
+        write(self.contour, k, flag_byte(row.contour));
+        write(self.first_quad, k, row.first_quad);
+        write(self.quad_count, k, row.quad_count);
     }
-}
-
-// The last of n splines. If there is none, a mark waits, so the spline given in its place decides nothing.
-pub fn last_spline(
-    curvature: &[f32],
-    p0x: &[f32],
-    p0y: &[f32],
-    p2x: &[f32],
-    p2y: &[f32],
-    contour: &[u8],
-    first_quad: &[usize],
-    quad_count: &[u32],
-    n: u32,
-) -> SplineRow
-    ensures { result ≡ last_spline_of (spline_table curvature.now p0x.now p0y.now p2x.now p2y.now contour.now first_quad.now quad_count.now) n }
-{
-    if n == 0 {
-        return SplineRow {
-            curvature: 0.0,
-            p0: Point { x: 0.0, y: 0.0 },
-            p2: Point { x: 0.0, y: 0.0 },
-            contour: false,
-            first_quad: 0,
-            quad_count: 0,
-        };
-    }
-    spline_at(
-        curvature,
-        p0x,
-        p0y,
-        p2x,
-        p2y,
-        contour,
-        first_quad,
-        quad_count,
-        below(n as usize),
-    )
 }
 
 impl QuadColumns<'_> {

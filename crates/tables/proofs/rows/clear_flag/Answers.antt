@@ -4,12 +4,7 @@ use Rattle.tables.proofs.rows.clear_flag.Goals as goal
 
 pub returns-then-clears : goal.returns-then-clears
 unfolding clear_flag
-returns-then-clears c = rw (
-  c.if-clears.true,
-  ← c.below.ensures,
-  ←
-      c.flag_byte.ensures,
-) c.write.ensures
+returns-then-clears c = cc
 
 pub returns-else-clears : goal.returns-else-clears
 unfolding clear_flag
