@@ -2,9 +2,11 @@
 #   docs/PROMISES.md          its table of forms: a form, the theorems that settle it, and the functions whose contract has it
 #   promises/proofs/Settled   the theorems
 #   `struct` lines            CRATE TYPE FIELD.., the fields of each struct of the library
+#   `lent` lines              NAME FIELD.., the fields whose columns a definition of specs/Lent.antt reads
 #   `fn` lines                CRATE NAME, and the function's head on one line, from its name to its contract
 # A contract must be one `ensures` or several with names, each an equation or a product of equations, with a definition over the entry alone on each right side. Its
-# form has `…` for each right side, `@` for each lent column at exit, and ` × ` between equations, of one clause or of several.
+# form has `…` for each right side, `@` for each lent column or struct of lent columns at exit, and ` × ` between equations, of one clause or of several. Of a struct
+# that is lent to be written each field must be told; and beside the equations a clause `Same.. x.old x.new` says that it holds the caller's columns still.
 
 function fault(message) { print "tests/settled: " message; faults++ }
 
@@ -40,7 +42,9 @@ FILENAME ~ /PROMISES/ { next }
 FILENAME ~ /Settled/ { if ($1 == "pub") proved[$2] = 1; next }
 
 # ---- the sources
-$1 == "struct" { for (i = 4; i <= NF; i++) fields[$2, $3] = fields[$2, $3] " " $i; next }
+$1 == "struct" { for (i = 4; i <= NF; i++) { fields[$2, $3] = fields[$2, $3] " " $i; of_type[$3] = of_type[$3] " " $i }; next }
+
+$1 == "lent" { for (i = 3; i <= NF; i++) told_by[$2] = told_by[$2] " " $i; next }
 
 $1 == "fn" {
     crate = $2
@@ -50,7 +54,7 @@ $1 == "fn" {
     functions++
     if (!((crate, name) in assigned)) { fault(crate "::" name ": docs/PROMISES.md assigns no form to it"); next }
     delete open[crate "::" name]
-    said = form_of(head)
+    said = form_of(head, name)
     if (problem != "") fault(crate "::" name ": " problem)
     else if (said != assigned[crate, name]) fault(crate "::" name ": its contract has the form `" said "`, not `" assigned[crate, name] "`")
 }
@@ -79,19 +83,48 @@ function split_at(s, mark, parts,    i, n, depth, c, from) {
     return n
 }
 
-# The left side of an equation, with @ for each lent column at exit; what it names is kept.
-function left_form(s,    out, name) {
+# The left side of an equation, with @ for each lent column or struct at exit; what it names is kept.
+function left_form(s,    out, name, before, path, field, n, i) {
     out = ""
-    while (match(s, /[A-Za-z0-9_]+\.new/)) {
-        name = substr(s, RSTART, RLENGTH - 4)
+    while (match(s, /[A-Za-z0-9_]+\.new(\.[A-Za-z0-9_.]+)?/)) {
+        name = path = substr(s, RSTART, RLENGTH)
+        sub(/\.new.*/, "", name)
+        sub(/^[^.]*\.new/, "", path)
+        before = substr(s, 1, RSTART - 1)
+        s = substr(s, RSTART + RLENGTH)
+        out = out before "@" path
+        if (name in struct_of) {
+            # a definition of Lent.antt tells the fields that it reads; of a field that is a struct itself it must tell all
+            sub(/ $/, "", before)
+            sub(/^.*[( ]/, "", before)
+            n = 0
+            if (path != "") { n = 1; field[1] = path; sub(/^\./, "", field[1]) }
+            else if (before in told_by) n = split(substr(told_by[before], 2), field, / /)
+            else problem = "its contract has " name " at exit, and no definition of Lent.antt before it"
+            if (path != "" && before in told_by && !(told_by[before] in a_struct)) problem = before " does not tell all of a struct"
+            for (i = 1; i <= n; i++) {
+                if ((name, field[i]) in left_field) problem = "its contract has " name "." field[i] " at exit twice"
+                left_field[name, field[i]] = 1
+            }
+            left_at[name] = 1
+            continue
+        }
         if (name in left_at) problem = "its contract has " name " at exit twice"
         left_at[name] = 1
         # of a field alone there is no column
-        if (substr(s, RSTART + RLENGTH, 1) ~ /[A-Za-z0-9_.]/) problem = "its contract has a part of " name " at exit"
-        out = out substr(s, 1, RSTART - 1) "@"
-        s = substr(s, RSTART + RLENGTH)
+        if (path != "") problem = "its contract has a part of " name " at exit"
     }
     return out s
+}
+
+# A clause that says that a struct holds the caller's columns still.
+function says_same(s,    word) {
+    if (split(s, word, / /) != 3 || word[1] !~ /^Same[A-Za-z]+$/ || word[2] !~ /^[a-z_]+\.old$/ || word[3] !~ /^[a-z_]+\.new$/) return 0
+    sub(/\.old$/, "", word[2])
+    sub(/\.new$/, "", word[3])
+    if (word[2] != word[3] || !(word[2] in struct_of)) return 0
+    same[word[2]] = 1
+    return 1
 }
 
 # The clauses of a head's rest, each without its name and its braces; none if they are no plain `ensures` alone, named where there are two.
@@ -109,26 +142,46 @@ function clauses_of(rest, body,    n, names, word, i) {
     return n > 1 && names < n ? 0 : n
 }
 
-function form_of(head,    i, k, lent, list, n, param, type, returns, bodies, body, parts, sides, whole, said, used, field, wanted, count) {
+function form_of(head, name,    i, k, lent, list, n, param, type, returns, bodies, body, parts, sides, whole, said, used, field, wanted, count) {
     problem = ""
     delete left_at
+    delete left_field
     delete lent
+    delete struct_of
+    delete same
+    for (i in of_type) a_struct[of_type[i]] = 1
     gsub(/«|»/, "", head)
     i = index(head, "(")
     list = substr(head, i + 1, closing(head, i, "(", ")") - i - 1)
     head = substr(head, closing(head, i, "(", ")") + 1)
     n = split(list, param, /, */)
-    for (i = 1; i <= n; i++) if (param[i] ~ /: &('[a-z]+ )?mut /) { type = param[i]; sub(/:.*/, "", type); lent[strip(type)] = 1 }
+    for (i = 1; i <= n; i++) {
+        type = ""
+        if (param[i] ~ /^ *&('[a-z]+ )?mut self$/) { type = name; sub(/::.*/, "", type); param[i] = "self: " }
+        else if (param[i] ~ /: &('[a-z]+ )?mut /) { type = param[i]; sub(/^.*: &('[a-z]+ )?mut /, "", type); sub(/<.*/, "", type) }
+        if (type == "") continue
+        sub(/:.*/, "", param[i])
+        param[i] = strip(param[i])
+        lent[param[i]] = 1
+        if (type in of_type) struct_of[param[i]] = type
+    }
     returns = ""
-    if (match(head, /^ -> [A-Za-z0-9_:]+/)) { returns = substr(head, 5, RLENGTH - 4); head = substr(head, RLENGTH + 1) }
+    if (match(head, /^ -> /)) {
+        i = match(head, / (requires|ensures)[ *]/)
+        returns = substr(head, 5, i - 5)
+        head = substr(head, i)
+    }
     count = clauses_of(head, bodies)
     if (count == 0) {
         problem = "its contract is not one `ensures { .. }`, nor several with names:" head
         return ""
     }
+    equations = 0
+    for (k = 1; k <= count; k++) if (!says_same(bodies[k])) equations++
     said = ""
     used = " "
     for (k = 1; k <= count; k++) {
+        if (says_same(bodies[k])) continue
         n = split_at(bodies[k], " × ", parts)
         for (i = 1; i <= n; i++) {
             whole = substr(parts[i], 1, 1) == "(" && closing(parts[i], 1, "(", ")") == length(parts[i])
@@ -140,11 +193,16 @@ function form_of(head,    i, k, lent, list, n, param, type, returns, bodies, bod
             if (sides[1] ~ /\.(old|now)/) problem = "the left side of its contract reads what was given: " sides[1]
             used = used sides[1] " "
             sides[1] = left_form(sides[1]) " ≡ …"
-            if (count > 1 || n > 1) sides[1] = "(" sides[1] ")"
+            if (equations > 1 || n > 1) sides[1] = "(" sides[1] ")"
             said = said (said == "" ? "" : " × ") sides[1]
         }
     }
     for (i in lent) if (!(i in left_at)) problem = "its contract does not say what " i " holds at exit"
+    for (i in struct_of) {
+        n = split(of_type[struct_of[i]], field, / /)
+        for (k = 1; k <= n; k++) if (field[k] != "" && !((i, field[k]) in left_field)) problem = "its contract does not say what " i "." field[k] " holds at exit"
+        if (!(i in same)) problem = "its contract does not say that " i " holds the caller's columns still"
+    }
     for (i in left_at) if (!(i in lent)) problem = "its contract has " i " at exit, which is not lent to write"
     # the result, whole or field by field
     whole = used
