@@ -95,8 +95,8 @@ function left_form(s,    out, name, before, path, field, n, i) {
         out = out before "@" path
         if (name in struct_of) {
             # a definition of Lent.antt tells the fields that it reads; of a field that is a struct itself it must tell all
-            sub(/ $/, "", before)
-            sub(/^.*[( ]/, "", before)
+            sub(/^.*\(/, "", before)
+            sub(/ .*/, "", before)
             n = 0
             if (path != "") { n = 1; field[1] = path; sub(/^\./, "", field[1]) }
             else if (before in told_by) n = split(substr(told_by[before], 2), field, / /)
