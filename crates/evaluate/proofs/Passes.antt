@@ -5,6 +5,7 @@ use mathlib.Core.Path.{◌≡◌, refl, sym, ◌∙◌, ap, subst}
 use mathlib.Core.Bool.{Bool, true, false, cond}
 use lib.Dec.{eqb}
 use lib.ListN.{length}
+use Rattle.std.specs.Prelude.{Some, None}
 use lib.Ieee.{Float}
 use Rattle.command.specs.declared.PointCommand.TheVariants.{Incr, End}
 use Rattle.command.specs.Packing.{pack_of}
@@ -24,32 +25,18 @@ use Rattle.evaluate.specs.Evaluate.{finished, step_quad_of, step_point_of}
 use Rattle.evaluate.specs.Output.{Output, fits_output, write_output}
 use Rattle.evaluate.specs.Writing.{Written, written, place_at, write_entry_of, write_start_of, write_steps_from, write_steps_of, end_cursor_of}
 use Rattle.evaluate.specs.Writing.{write_spline_of, write_walk_from, write_walk_of}
-use Rattle.evaluate.specs.Delivery.{delivery, deliver_of}
+use Rattle.evaluate.specs.Delivery.{delivery, delivers, deliver_of}
 use Rattle.evaluate.proofs.Entries.{cursor_from_bound, steps_place, left_at, spline_written, walk_written}
 
--- outputs as long as others
-pub record Same (o o₀ : Output) : Type 0 where
-  pub words : length o.words ≡ length o₀.words
-  pub x : length o.x ≡ length o₀.x
-  pub y : length o.y ≡ length o₀.y
-  pub end : length o.end ≡ length o₀.end
-
-pub same_refl : {o : Output} → Same o o
-same_refl = record { words = refl; x = refl; y = refl; end = refl }
-
-pub same_trans : {a b c : Output} → Same a b → Same b c → Same a c
-same_trans r s = record { words = r.words ∙ s.words; x = r.x ∙ s.x; y = r.y ∙ s.y; end = r.end ∙ s.end }
-
 -- ---- the steps of a spline
-pub record Stepping (rows : ℕ → QuadRow) (size : Float) (n at₀ cursor₀ : ℕ) (o₀ o : Output) (at cursor p left : ℕ) : Type 0 where
-  pub count : p + left ≡ n + 1
-  pub room : at + left ≡ at₀ + n
-  pub long : Same o o₀
-  pub same : write_steps_of rows size n (place_at at₀ cursor₀) o₀ ≡ write_steps_from rows size left p (place_at at cursor) o
+pub record Stepping (rows : ℕ → QuadRow) (size : Float) (n at₀ cursor₀ : ℕ) (o₀ o : Output) (at cursor p : ℕ) : Type 0 where
+  pub below : (1 ≤ p) × (p ≤ n + 1)
+  pub room : at + 1 ≡ at₀ + p
+  pub same : write_steps_of rows size n (place_at at₀ cursor₀) o₀ ≡ write_steps_from rows size (n + 1 - p) p (place_at at cursor) o
 
-pub stepping_start : {rows : ℕ → QuadRow} {size : Float} {n at cursor : ℕ} {o : Output} → Stepping rows size n at cursor o o at cursor 1 n
+pub stepping_start : {rows : ℕ → QuadRow} {size : Float} {n at cursor : ℕ} {o : Output} → Stepping rows size n at cursor o o at cursor 1
 unfolding write_steps_of
-stepping_start = record { count = omega arith; room = refl; long = same_refl; same = refl }
+stepping_start {n} = record { below = (omega arith, omega arith); room = refl; same = let e : n + 1 - 1 ≡ n = omega arith in rw e }
 
 steps_more : (rows : ℕ → QuadRow) (size : Float) (left p at cursor : ℕ) (o : Output) → 0 < left
     → write_steps_from rows size left p (place_at at cursor) o
@@ -60,25 +47,25 @@ steps_more rows size zero p at cursor o h = absurd (let z : ◌≡◌ {A = ℕ} 
 steps_more rows size (suc n) p at cursor o h = let e : suc n - 1 ≡ n = omega arith in rw e
 
 module _
-    {rows : ℕ → QuadRow} {size : Float} {n at₀ cursor₀ : ℕ} {o₀ o : Output} {at cursor p left : ℕ}
-    (g : Stepping rows size n at₀ cursor₀ o₀ o at cursor p left) where
-  pub stepping_more : {cursor' : ℕ} {quad : StepQuad} {point : Point} {word : ℕ} {o' : Output} → 0 < left
+    {rows : ℕ → QuadRow} {size : Float} {n at₀ cursor₀ : ℕ} {o₀ o : Output} {at cursor p : ℕ}
+    (g : Stepping rows size n at₀ cursor₀ o₀ o at cursor p) where
+  pub stepping_more : {cursor' : ℕ} {quad : StepQuad} {point : Point} {word : ℕ} {o' : Output} → p ≤ n
       → cursor' ≡ cursor_at_of (rows cursor).partial_curvature (whole32 p) cursor → quad ≡ step_quad_of rows cursor'
       → point ≡ step_point_of quad size p → word ≡ pack_of (Incr size)
-      → o' ≡ write_entry_of at word (finished point false) o → Same o' o
-      → Stepping rows size n at₀ cursor₀ o₀ o' (at + 1) cursor' (p + 1) (left - 1)
+      → o' ≡ write_entry_of at word (finished point false) o
+      → Stepping rows size n at₀ cursor₀ o₀ o' (at + 1) cursor' (p + 1)
   unfolding cursor_at
-  stepping_more h ec eq ep ew eo l =
+  stepping_more h ec eq ep ew eo =
+      let e : n + 1 - p - 1 ≡ n + 1 - (p + 1) = omega arith in
       record {
-        count = let w = g.count in omega arith;
+        below = (omega arith, omega (arith, h));
         room = let w = g.room in omega arith;
-        long = same_trans l g.long;
-        same = g.same ∙ steps_more rows size left p at cursor o h ∙ rw (eo, ew, ep, eq, ec);
+        same = g.same ∙ steps_more rows size (n + 1 - p) p at cursor o (omega (arith, h)) ∙ rw (eo, ew, ep, eq, ec, e);
       }
 
-  pub stepping_end : left ≤ 0 → written o (place_at at cursor) ≡ write_steps_of rows size n (place_at at₀ cursor₀) o₀
+  pub stepping_end : n + 1 ≤ p → written o (place_at at cursor) ≡ write_steps_of rows size n (place_at at₀ cursor₀) o₀
   unfolding write_steps_from
-  stepping_end h = let e : left ≡ 0 = omega arith in sym (g.same ∙ ap (λ (m : ℕ). write_steps_from rows size m p (place_at at cursor) o) e)
+  stepping_end h = let e : n + 1 - p ≡ 0 = omega arith in sym (g.same ∙ ap (λ (m : ℕ). write_steps_from rows size m p (place_at at cursor) o) e)
 
 -- ---- one spline
 screen_starts : (first cursor : ℕ) → cursor_start_of Screen first cursor ≡ cursor
@@ -130,18 +117,18 @@ spline_passes setting rows k starts row from start to o₀ o₁ o₂ o₃ size n
     rw (← hb, ← hs, ← hz, ← hn, ← ht, ← hw, ← ho, ← he)
 
 -- ---- all splines
-pub record Walking (setting : Setting) (rows : ℕ → QuadRow) (s : SplineTable) (n : ℕ) (o₀ o : Output) (last : SplineRow) (place : Place) (k left : ℕ) : Type 0 where
-  pub within : k + left ≡ n
+pub record Walking (setting : Setting) (rows : ℕ → QuadRow) (s : SplineTable) (n : ℕ) (o₀ o : Output) (last : SplineRow) (place : Place) (k : ℕ) : Type 0 where
+  pub within : k ≤ n
   pub entry : place.at ≤ 65538 * k
   pub cursor : setting ≡ Screen → place.cursor ≤ 65538 * k
   pub before : last ≡ spline_at s (k - 1)
-  pub long : Same o o₀
-  pub same : write_walk_of setting rows s n o₀ ≡ write_walk_from setting rows s left k place o
+  pub same : write_walk_of setting rows s n o₀ ≡ write_walk_from setting rows s (n - k) k place o
 
 pub walking_start : {setting : Setting} {rows : ℕ → QuadRow} {s : SplineTable} {n : ℕ} {o : Output} {last : SplineRow}
-    → last ≡ spline_at s 0 → Walking setting rows s n o o last (place_at 0 0) 0 n
+    → last ≡ spline_at s 0 → Walking setting rows s n o o last (place_at 0 0) 0
 unfolding write_walk_of
-walking_start e = record { within = omega arith; entry = omega arith; cursor = λ z. omega arith; before = e; long = same_refl; same = refl }
+walking_start {n} e =
+    record { within = omega arith; entry = omega arith; cursor = λ z. omega arith; before = e; same = let i : n - 0 ≡ n = omega arith in rw i }
 
 after_bound : (rows : ℕ → QuadRow) (s : SplineTable) (k cursor : ℕ) → cursor_after rows s k cursor ≤ cursor + 65537
 unfolding cursor_after subdivisions_of
@@ -172,14 +159,15 @@ walk_more setting rows s zero k from o h = absurd (let z : ◌≡◌ {A = ℕ} 0
 walk_more setting rows s (suc n) k from o h = let e : suc n - 1 ≡ n = omega arith in rw e
 
 module _
-    {setting : Setting} {rows : ℕ → QuadRow} {s : SplineTable} {n : ℕ} {o₀ o : Output} {last : SplineRow} {place : Place} {k left : ℕ}
-    (g : Walking setting rows s n o₀ o last place k left) where
-  pub walking_more : {row : SplineRow} {starts : Bool} {place' : Place} {o' : Output} → 0 < left
-      → row ≡ spline_at s k → starts ≡ starts_after_of k last row → written o' place' ≡ write_spline_of setting rows k starts row place o → Same o' o
-      → Walking setting rows s n o₀ o' row place' (k + 1) (left - 1)
+    {setting : Setting} {rows : ℕ → QuadRow} {s : SplineTable} {n : ℕ} {o₀ o : Output} {last : SplineRow} {place : Place} {k : ℕ}
+    (g : Walking setting rows s n o₀ o last place k) where
+  pub walking_more : {row : SplineRow} {starts : Bool} {place' : Place} {o' : Output} → k < n
+      → row ≡ spline_at s k → starts ≡ starts_after_of k last row → written o' place' ≡ write_spline_of setting rows k starts row place o
+      → Walking setting rows s n o₀ o' row place' (k + 1)
   unfolding starts_of
-  walking_more {row} {starts} {place'} {o'} h hr hs hw l =
+  walking_more {row} {starts} {place'} {o'} h hr hs hw =
       let e : k + 1 - 1 ≡ k = omega arith in
+      let i : n - k - 1 ≡ n - (k + 1) = omega arith in
       let w : written o' place' ≡ write_spline_of setting rows k (starts_of s k) (spline_at s k) place o = rw (← g.before, ← hr, ← hs) hw in
       let p = ap (λ (x : Written). x.place) (w ∙ spline_written setting rows s k place o) in
       let pa = ap (λ (x : Place). x.at) p in
@@ -188,30 +176,29 @@ module _
       let la = spline_length rows s k start in
       let lb = spline_length_bound k (spline_at s (k - 1)) (spline_at s k) in
       record {
-        within = let x = g.within in omega arith;
+        within = omega (arith, h);
         entry = let x = g.entry in omega arith;
         cursor = λ z. let x = g.cursor z in let lc = left_bound setting rows s k place.cursor z in omega arith;
         before = rw e hr;
-        long = same_trans l g.long;
-        same = g.same ∙ walk_more setting rows s left k place o h ∙ rw (← w);
+        same = g.same ∙ walk_more setting rows s (n - k) k place o (omega (arith, h)) ∙ rw (← w, i);
       }
 
-  pub walking_end : left ≤ 0 → o ≡ write_walk_of setting rows s n o₀
+  pub walking_end : n ≤ k → o ≡ write_walk_of setting rows s n o₀
   unfolding write_walk_from
-  walking_end h = let e : left ≡ 0 = omega arith in sym (g.same ∙ ap (λ (m : ℕ). write_walk_from setting rows s m k place o) e)
+  walking_end h = let e : n - k ≡ 0 = omega arith in sym (g.same ∙ ap (λ (m : ℕ). write_walk_from setting rows s m k place o) e)
 
 -- ---- the length tested, then all written
-module _ (setting : Setting) (rows : ℕ → QuadRow) (s : SplineTable) (n len : ℕ) (o : Output) (hl : len ≡ walk_length_of s n) where
+module _ (setting : Setting) (rows : ℕ → QuadRow) (s : SplineTable) (n : ℕ) {len : ℕ} (o : Output) (hl : len ≡ walk_length_of s n) where
   counted : length (walk_of setting rows s n) ≡ len
   counted = walk_length_lem setting rows s n ∙ sym hl
 
-  pub delivered_not : fits_output len o ≡ false → delivery false 0 o ≡ deliver_of setting rows s n o
+  pub delivered_not : fits_output len o ≡ false → delivers None o ≡ deliver_of setting rows s n o
   unfolding deliver_of
   delivered_not h = rw (counted, h)
 
-  pub delivered : (o' : Output) → fits_output len o ≡ true → o' ≡ write_walk_of setting rows s n o → delivery true len o' ≡ deliver_of setting rows s n o
+  pub delivered : {o' : Output} → fits_output len o ≡ true → o' ≡ write_walk_of setting rows s n o → delivers (Some len) o' ≡ deliver_of setting rows s n o
   unfolding deliver_of
-  delivered o' h e =
+  delivered {o'} h e =
       let f : fits_output (length (walk_of setting rows s n)) o ≡ true = ap (λ (m : ℕ). fits_output m o) counted ∙ h in
       let o'' = write_output rows s (walk_of setting rows s n) o in
       rw f (ap (λ (x : Output). delivery true len x) (e ∙ walk_written setting rows s n o f) ∙ ap (λ (m : ℕ). delivery true m o'') (sym counted))

@@ -1,4 +1,5 @@
 pub mod Evaluate
 pub mod Output
+pub mod Lent
 pub mod Delivery
 pub mod Writing

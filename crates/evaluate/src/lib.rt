@@ -28,9 +28,11 @@ pub struct Place {
     pub cursor: usize,
 }
 
-// Whether the outputs hold the walk, and how many points it has then.
-#[derive(Clone, Copy)]
-pub struct Delivered {
-    pub fits: bool,
-    pub points: usize,
+// The words and the points of a walk, lent by the caller: x, y, and 1 for the end of a flagged spline.
+#[derive(Drop)]
+pub struct Outputs<'a> {
+    pub words: &'a mut [u32],
+    pub x: &'a mut [f32],
+    pub y: &'a mut [f32],
+    pub end: &'a mut [u8],
 }

@@ -1,54 +1,46 @@
 // The point of one step: what `into_segments` of path.rs does for it.
 ghost use Rattle.std.specs.Prelude.{◌≡◌, ◌≤◌};
 ghost use Rattle.leaves.specs.Single.{whole32};
-ghost use Rattle.tables.specs.Tables.{quad_table, sum_at_of, quad_row_at};
+ghost use Rattle.tables.specs.Lent.{quads_of};
+ghost use Rattle.tables.specs.Tables.{quad_row_at, sum_at_of};
 ghost use Rattle.walk.specs.Walk.{cursor_at_of};
 ghost use Rattle.evaluate.specs.Evaluate.{previous_sum_of, step_quad_of, parameter_of, step_point_of};
 
 use crate::StepQuad;
 use columns::read;
 use point::{Point, WeightedPoint};
-use tables::{quad_row_at, sum_at};
+use tables::QuadColumns;
 
-fn previous_sum(quad_rows: &[f32], partial_splines: &[u32], i: usize) -> f32
-    ensures { result ≡ previous_sum_of (quad_row_at (quad_table quad_rows.now partial_splines.now)) i }
+fn previous_sum(quads: &QuadColumns<'_>, i: usize) -> f32
+    ensures { result ≡ previous_sum_of (quad_row_at (quads_of quads.now)) i }
 {
     if i == 0 {
         return 0.0;
     }
     let j = i - 1;
-    let before = read(partial_splines, j, 0);
-    let own = read(partial_splines, i, 0);
+    let before = read(quads.partial_splines, j, 0);
+    let own = read(quads.partial_splines, i, 0);
     if before == own {
-        return sum_at(quad_rows, j);
+        return quads.sum_at(j);
     }
     0.0
 }
 
-pub fn step_quad(quad_rows: &[f32], partial_splines: &[u32], i: usize) -> StepQuad
-    ensures { result ≡ step_quad_of (quad_row_at (quad_table quad_rows.now partial_splines.now)) i }
+pub fn step_quad(quads: &QuadColumns<'_>, i: usize) -> StepQuad
+    ensures { result ≡ step_quad_of (quad_row_at (quads_of quads.now)) i }
 {
-    let row = quad_row_at(quad_rows, partial_splines, i);
+    let row = quads.row_at(i);
     StepQuad {
         p0: WeightedPoint {
-            point: Point {
-                x: row.x.a,
-                y: row.y.a,
-            },
+            point: Point::new(row.x.a, row.y.a),
             weight: row.weight.a,
         },
         p1: WeightedPoint {
-            point: Point {
-                x: row.x.b,
-                y: row.y.b,
-            },
+            point: Point::new(row.x.b, row.y.b),
             weight: row.weight.b,
         },
         p2: WeightedPoint {
-            point: Point {
-                x: row.x.c,
-                y: row.y.c,
-            },
+            point: Point::new(row.x.c, row.y.c),
             weight: row.weight.c,
         },
         x0: row.x0,
@@ -56,16 +48,16 @@ pub fn step_quad(quad_rows: &[f32], partial_splines: &[u32], i: usize) -> StepQu
         k0: row.k0,
         dk: row.dk,
         curvature_recip: row.curvature_recip,
-        previous_sum: previous_sum(quad_rows, partial_splines, i),
+        previous_sum: previous_sum(quads, i),
     }
 }
 
 // The quad cursor for step p.
-pub fn step_cursor(quad_rows: &[f32], p: u32, cursor: usize) -> usize
+pub fn step_cursor(quads: &QuadColumns<'_>, p: u32, cursor: usize) -> usize
     requires { p ≤ 65537 }
-    ensures { result ≡ cursor_at_of (sum_at_of quad_rows.now cursor) (whole32 p) cursor }
+    ensures { result ≡ cursor_at_of (sum_at_of quads.now.quad_rows.now cursor) (whole32 p) cursor }
 {
-    walk::cursor_at(quad_rows, p as f32, cursor)
+    walk::cursor_at(quads, p as f32, cursor)
 }
 
 // Where on its quad step p of this size lies, from 0 to 1.

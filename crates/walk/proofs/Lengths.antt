@@ -83,15 +83,15 @@ unfolding walk_of walk_length_of
 walk_length_lem setting rows s n = walk_from-length setting rows s n 0 0
 
 -- ---- the loop that counts: what is counted and what is left add up to the whole
-pub record Counted (s : SplineTable) (n total : ℕ) (last : SplineRow) (k left : ℕ) : Type 0 where
-  pub within : k + left ≡ n
+pub record Counted (s : SplineTable) (n total : ℕ) (last : SplineRow) (k : ℕ) : Type 0 where
+  pub within : k ≤ n
   pub small : total ≤ 65538 * k
   pub before : last ≡ spline_at s (k - 1)
-  pub same : walk_length_of s n ≡ total + length_from s left k
+  pub same : walk_length_of s n ≡ total + length_from s (n - k) k
 
-pub counted_start : (s : SplineTable) (n : ℕ) (last : SplineRow) → last ≡ spline_at s 0 → Counted s n 0 last 0 n
+pub counted_start : {s : SplineTable} {n : ℕ} {last : SplineRow} → last ≡ spline_at s 0 → Counted s n 0 last 0
 unfolding walk_length_of
-counted_start s n last e = record { within = omega arith; small = omega arith; before = e; same = omega arith }
+counted_start {s} {n} e = record { within = omega arith; small = omega arith; before = e; same = let i : n - 0 ≡ n = omega arith in rw i (omega arith) }
 
 length_more : (s : SplineTable) (left k : ℕ) → 0 < left
     → length_from s left k ≡ spline_length_of k (spline_at s (k - 1)) (spline_at s k) + length_from s (left - 1) (k + 1)
@@ -99,18 +99,16 @@ unfolding length_from
 length_more s zero k h = absurd (let z : ◌≡◌ {A = ℕ} 0 1 = omega arith in omega arith)
 length_more s (suc n) k h = let e : suc n - 1 ≡ n = omega arith in rw e
 
-length_none : (s : SplineTable) (left k : ℕ) → left ≤ 0 → length_from s left k ≡ 0
-unfolding length_from
-length_none s left k h = let e : left ≡ 0 = omega arith in rw e
-
-module _ (s : SplineTable) (n total : ℕ) (last : SplineRow) (k left : ℕ) (g : Counted s n total last k left) where
-  pub counted_more : (row : SplineRow) (len : ℕ) → 0 < left → row ≡ spline_at s k → len ≡ spline_length_of k last row
-      → Counted s n (total + len) row (k + 1) (left - 1)
-  counted_more row len h r l =
-      let e : k + 1 - 1 ≡ k = omega arith in
+module _ {s : SplineTable} {n total : ℕ} {last : SplineRow} {k : ℕ} (g : Counted s n total last k) where
+  pub counted_more : {row : SplineRow} {len : ℕ} → k < n → row ≡ spline_at s k → len ≡ spline_length_of k last row
+      → Counted s n (total + len) row (k + 1)
+  counted_more {row} {len} h r l =
       let b : len ≤ 65538 = subst (λ (x : ℕ). x ≤ 65538) (sym l) (spline_length_bound k last row) in
-      let m : length_from s left k ≡ len + length_from s (left - 1) (k + 1) = rw (l, r, g.before) (length_more s left k h) in
-      record { within = let w = g.within in omega arith; small = let w = g.small in omega arith; before = rw e r; same = let w = g.same in omega arith }
+      let e : k + 1 - 1 ≡ k = omega arith in
+      let i : n - k - 1 ≡ n - (k + 1) = omega arith in
+      let m : length_from s (n - k) k ≡ len + length_from s (n - k - 1) (k + 1) = rw (l, r, g.before) (length_more s (n - k) k (omega (arith, h))) in
+      record { within = omega (arith, h); small = let w = g.small in omega arith; before = rw e r; same = rw (← i) (let w = g.same in omega arith) }
 
-  pub counted_end : left ≤ 0 → total ≡ walk_length_of s n
-  counted_end h = let z = length_none s left k h in let w = g.same in omega arith
+  pub counted_end : n ≤ k → total ≡ walk_length_of s n
+  unfolding length_from
+  counted_end h = let e : n - k ≡ 0 = omega arith in let w = g.same ∙ ap (λ (m : ℕ). total + length_from s m k) e in omega arith

@@ -23,4 +23,4 @@ whole rows p cursor h = go (ltb cursor (whole_rows_of rows)) refl h
 pub overflow_add-result : goal.overflow_add-result
 overflow_add-result c =
     let a = c.args in
-    omega (arith, whole a.quad_rows.now a.p a.cursor (rw (← c.sum_at.ensures) c.if-p-sum_at.true))
+    omega (arith, whole a.quads.now.quad_rows.now a.p a.cursor (rw (← c.sum_at.ensures) c.if-p-sum_at.true))

@@ -5,4 +5,4 @@ use Rattle.walk.proofs.Lengths.{whole_up_bound, small_exact}
 use Rattle.walk.proofs.size.Goals as goal
 
 pub int_to_float-result : goal.int_to_float-result
-int_to_float-result c = small_exact _ (subst (λ (n : ℕ). n ≤ 65537) (sym c.whole_up-m.ensures) (whole_up_bound _))
+int_to_float-result c = small_exact _ (subst (λ (n : ℕ). n ≤ 65537) (sym c.whole_up.ensures) (whole_up_bound _))

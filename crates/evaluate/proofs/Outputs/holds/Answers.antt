@@ -1,7 +1,7 @@
--- `evaluate::writing::holds` meets its contract. Assumes nothing.
+-- `evaluate::Outputs::holds` meets its contract. Assumes nothing.
 use mathlib.Core.Path.{refl}
 use Rattle.evaluate.specs.Output.{fits_output}
-use Rattle.evaluate.proofs.writing.holds.Goals as goal
+use Rattle.evaluate.proofs.Outputs.holds.Goals as goal
 
 pub returns : goal.returns
 unfolding fits_output
