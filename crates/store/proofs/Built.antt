@@ -17,9 +17,8 @@ use Rattle.store.specs.declared.Call.TheVariants.{Build}
 use Rattle.store.specs.Columns.{Columns, line_command, stored_point_of, put_point, put_command}
 use Rattle.store.specs.Closing.{unclosed_of}
 use Rattle.store.specs.Drawing.{Outcome, appended, closed, writes_of, put_points, put_commands, written, state_after, draw_of}
-use Rattle.store.specs.Plan.{Room}
 use Rattle.store.proofs.Usable.{usable_counts}
-use Rattle.store.proofs.Deciding.{room_fits}
+use Rattle.store.proofs.Deciding.{Room, room_fits}
 use Rattle.store.proofs.Laws.{Accepted, accepted, accepted_outcome}
 
 -- ---- a point that holds no NaN equals itself

@@ -19,9 +19,8 @@ use Rattle.store.specs.declared.Call.TheVariants.{Move, Line, Quad, Cubic, RatQu
 use Rattle.store.specs.Columns.{Columns, columns, state_at, move_command, stored_point_of, last_command_of}
 use Rattle.store.specs.Closing.{unclosed_of}
 use Rattle.store.specs.Drawing.{Outcome, Writes, writes, appended, closed, moved, writes_of, state_after, draw_of}
-use Rattle.store.specs.Plan.{Fitting}
 use Rattle.store.specs.OwnCalls.{moves_of}
-use Rattle.store.proofs.Deciding.{room_fits}
+use Rattle.store.proofs.Deciding.{Fitting, room_fits}
 use Rattle.store.proofs.Sound.{Sound}
 use Rattle.store.proofs.Written.{x_of, y_of, weight_of, all_written, take_sets, take_mapped}
 use Rattle.store.proofs.Laws.{Accepted, accepted_outcome, drawn_sound}

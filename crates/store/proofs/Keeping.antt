@@ -20,7 +20,7 @@ use Rattle.store.specs.Columns.{Columns, columns, uses_of, stored_point_of}
 use Rattle.store.specs.Drawing.{Writes, every, coordinate_ok_of, weight_ok_of, coordinates_of, weights_of, appended, closed, moved, writes_of, written}
 use Rattle.store.specs.Drawing.{state_after}
 use Rattle.store.specs.Drawable.{stored_ok_of, known_of, total_uses_of}
-use Rattle.store.specs.Plan.{Fitting}
+use Rattle.store.proofs.Deciding.{Fitting}
 use Rattle.store.proofs.Tests.{every_append}
 use Rattle.store.proofs.Ranges.{coordinate_stored, product_stored, one_ok}
 use Rattle.store.proofs.Written.{x_of, y_of, weight_of, all_written, take_sets, take_mapped, every_take, every_at, known_append, uses_append}

@@ -1,8 +1,6 @@
 pub mod Tests
 pub mod Usable
-pub mod Planning
 pub mod Deciding
-pub mod Writing
 pub mod Loops
 pub mod Ranges
 pub mod Written

@@ -1,16 +1,13 @@
 -- Flattening's test for answer 3. The invariant of its loops: testing what is left gives what testing the whole gives. The parts joined are the definition.
 -- Assumes nothing.
-use Prim.Native.Nat.{ℕ, ◌+◌, ◌-◌, ◌≤◌, ◌<◌}
+use Prim.Native.Nat.{ℕ, ◌+◌, ◌-◌, ◌≤◌}
 use native.Mathlib.Omega.{arith}
-use native.Mathlib.Numerals.{add-one}
-use native.Mathlib.Nat.{le_antisymm}
 use mathlib.Core.Path.{◌≡◌, refl, sym, ap, ◌∙◌}
 use mathlib.Core.Bool.{Bool, true, false, ◌&&◌, and_assoc}
 use mathlib.Core.List.{List, [], ◌∷◌}
-use lib.ListN.{length, get_or, take, drop}
-use lib.Seq.{drop-cons, get_or-take, length-take-le, drop-length}
+use lib.ListN.{get_or, take}
 use lib.Dec.{leb, eqb}
-use lib.Ieee.{Float, nan}
+use lib.Ieee.{Float}
 use borrow.Author.Tests.{eqb-true, eqb-false, eq-eqb, ne_eqb, leb-true, leb-false}
 use Rattle.std.proofs.Common.{Option, Some, None, fold, cond, ◌++◌}
 use Rattle.std.specs.Option.{option_eq}
@@ -21,75 +18,7 @@ use Rattle.store.specs.Columns.{Columns, uses_of, usable_of, move_command}
 use Rattle.store.specs.Drawing.{every, weight_ok_of}
 use Rattle.store.specs.Drawable.{stored_ok_of, known_of, total_uses_of, drawable_of}
 
-module _ {A : Type 0} (d : A) (l : List A) (n : ℕ) (hn : n ≤ length l) (i : ℕ) where
-  pub rest_more : i < n → drop i (take n l) ≡ get_or l i d ∷ drop (i + 1) (take n l)
-  rest_more h = rw (add-one, ← get_or-take n l i d h) (drop-cons (take n l) i d (rw (length-take-le n l hn) h))
-
-  pub rest_none : i ≤ n → n ≤ i → drop i (take n l) ≡ []
-  rest_none h k =
-      let e : i ≡ length (take n l) = le_antisymm h k ∙ sym (length-take-le n l hn) in
-      rw e (drop-length (take n l))
-
--- ---- a test of every entry
-pub record Passed {A : Type 0} (all : List A → Bool) (l : List A) (n i : ℕ) : Type 0 where
-  pub below : i ≤ n
-  pub same : all (take n l) ≡ all (drop i (take n l))
-
-module _ {A : Type 0} (all : List A → Bool) (ok : A → Bool) (none : all [] ≡ true) (more : (v : A) (vs : List A) → all (v ∷ vs) ≡ (ok v && all vs))
-    (d : A) (l : List A) (n i : ℕ) (hn : n ≤ length l) (g : Passed all l n i) where
-  step : i < n → all (take n l) ≡ (ok (get_or l i d) && all (drop (i + 1) (take n l)))
-  step h = g.same ∙ ap all (rest_more d l n hn i h) ∙ more (get_or l i d) (drop (i + 1) (take n l))
-
-  passed_more : i < n → ok (get_or l i d) ≡ true → Passed all l n (i + 1)
-  passed_more h e = record { below = omega arith; same = step h ∙ ap (λ (b : Bool). b && all (drop (i + 1) (take n l))) e }
-
-  passed_bad : i < n → ok (get_or l i d) ≡ false → false ≡ all (take n l)
-  passed_bad h e = sym (step h ∙ ap (λ (b : Bool). b && all (drop (i + 1) (take n l))) e)
-
-  passed_end : n ≤ i → true ≡ all (take n l)
-  passed_end h = sym (g.same ∙ ap all (rest_none d l n hn i g.below h) ∙ none)
-
-known_none : known_of [] ≡ true
-unfolding known_of
-known_none = refl
-
-known_one : (k : ℕ) (ks : List ℕ) → known_of (k ∷ ks) ≡ (leb k 3 && known_of ks)
-unfolding known_of
-known_one k ks = refl
-
-every_none : (ok : Float → Bool) → every ok [] ≡ true
-unfolding every
-every_none ok = refl
-
-every_one : (ok : Float → Bool) (v : Float) (vs : List Float) → every ok (v ∷ vs) ≡ (ok v && every ok vs)
-unfolding every
-every_one ok v vs = refl
-
-module _ (l : List ℕ) (n i : ℕ) (hn : n ≤ length l) (g : Passed known_of l n i) (h : i < n) where
-  pub known_more : leb (get_or l i 0) 3 ≡ true → Passed known_of l n (i + 1)
-  known_more = passed_more known_of (λ (k : ℕ). leb k 3) known_none known_one 0 l n i hn g h
-
-  pub known_bad : leb (get_or l i 0) 3 ≡ false → false ≡ known_of (take n l)
-  known_bad = passed_bad known_of (λ (k : ℕ). leb k 3) known_none known_one 0 l n i hn g h
-
-pub known_end : (l : List ℕ) (n i : ℕ) → n ≤ length l → Passed known_of l n i → n ≤ i → true ≡ known_of (take n l)
-known_end l n i hn g = passed_end known_of (λ (k : ℕ). leb k 3) known_none known_one 0 l n i hn g
-
-module _ (ok : Float → Bool) (l : List Float) (n i : ℕ) (hn : n ≤ length l) (g : Passed (every ok) l n i) where
-  pub every_more : i < n → ok (get_or l i nan) ≡ true → Passed (every ok) l n (i + 1)
-  every_more = passed_more (every ok) ok (every_none ok) (every_one ok) nan l n i hn g
-
-  pub every_bad : i < n → ok (get_or l i nan) ≡ false → false ≡ every ok (take n l)
-  every_bad = passed_bad (every ok) ok (every_none ok) (every_one ok) nan l n i hn g
-
-  pub every_end : n ≤ i → true ≡ every ok (take n l)
-  every_end = passed_end (every ok) ok (every_none ok) (every_one ok) nan l n i hn g
-
--- ---- the points that the commands use, counted down
-pub record Using (l : List ℕ) (n points left i : ℕ) : Type 0 where
-  pub below : i ≤ n
-  pub same : eqb (total_uses_of (take n l)) points ≡ eqb (total_uses_of (drop i (take n l))) left
-
+-- ---- a sum of uses, tested by what is left
 eqb_less : (u t m : ℕ) → u ≤ m → eqb (u + t) m ≡ eqb t (m - u)
 eqb_less u t m h = go (eqb (u + t) m) refl
   where
@@ -103,28 +32,6 @@ eqb_sym a b = go (eqb a b) refl
     go : (t : Bool) → eqb a b ≡ t → t ≡ eqb b a
     go true e = let q = eqb-true a b e in sym (eq-eqb b a (sym q))
     go false e = sym (ne_eqb b a (λ q. eqb-false a b e (sym q)))
-
-module _ (l : List ℕ) (n points left i : ℕ) (hn : n ≤ length l) (g : Using l n points left i) where
-  rest_uses : i < n → total_uses_of (drop i (take n l)) ≡ uses_of (get_or l i 0) + total_uses_of (drop (i + 1) (take n l))
-  unfolding total_uses_of
-  rest_uses h = ap total_uses_of (rest_more 0 l n hn i h)
-
-  pub using_more : i < n → uses_of (get_or l i 0) ≤ left → Using l n points (left - uses_of (get_or l i 0)) (i + 1)
-  using_more h k =
-      record {
-        below = omega arith;
-        same = g.same ∙ ap (λ (t : ℕ). eqb t left) (rest_uses h) ∙ eqb_less (uses_of (get_or l i 0)) (total_uses_of (drop (i + 1) (take n l))) left k;
-      }
-
-  pub using_bad : i < n → left < uses_of (get_or l i 0) → false ≡ eqb (total_uses_of (take n l)) points
-  using_bad h k =
-      let t = total_uses_of (drop (i + 1) (take n l)) in
-      sym (g.same ∙ ap (λ (s : ℕ). eqb s left) (rest_uses h) ∙ ne_eqb (uses_of (get_or l i 0) + t) left (λ e. omega arith))
-
-  pub using_end : n ≤ i → eqb left 0 ≡ eqb (total_uses_of (take n l)) points
-  unfolding total_uses_of
-  using_end h =
-      sym (g.same ∙ ap (λ (k : List ℕ). eqb (total_uses_of k) left) (rest_none 0 l n hn i g.below h) ∙ eqb_sym 0 left)
 
 -- ---- the tests as the library's words say them
 pub known_all : (l : List ℕ) → list_all (λ (k : ℕ). leb k 3) l ≡ known_of l

@@ -1,16 +1,13 @@
 -- What is known of the counts and lengths of a usable store. Assumes nothing.
-use Prim.Native.Nat.{ℕ, ◌≤◌, ◌<◌}
-use native.Mathlib.Omega.{arith}
-use mathlib.Core.Path.{◌≡◌, sym, ap, ◌∙◌}
-use mathlib.Core.Bool.{Bool, true, false, ◌&&◌}
-use mathlib.Core.List.{List, []}
+use Prim.Native.Nat.{◌≤◌, ◌<◌}
+use mathlib.Core.Path.{◌≡◌}
+use mathlib.Core.Bool.{Bool, true, ◌&&◌}
 use lib.Dec.{leb, ltb, eqb}
 use lib.ListN.{length}
 use borrow.Author.Tests.{leb-true, ltb-true, eqb-true}
 use mathlib.Mathlib.Data.Bool.Basic.{and_elim_left, and_elim_right}
 use Rattle.store.specs.declared.StoreState.{StoreState}
-use Rattle.store.specs.Columns.{Columns, columns, even_of, usable_of, last_command_of}
-use Rattle.store.specs.Plan.{Standing}
+use Rattle.store.specs.Columns.{Columns, even_of, usable_of, last_command_of}
 
 -- all that is tested but the last command
 pub record Counted (st : StoreState) (c : Columns) : Type 0 where
@@ -54,25 +51,6 @@ module _ (st : StoreState) (c : Columns) where
         opening = ltb-true st.opening st.points (and_elim_right t₄ _ e);
       }
 
-  -- the same as the code tests it: comparing the lengths needs no commands
-  module _ (even : Bool) (h : even ≡ even_of (columns c.x c.y c.weight [])) where
-    tested : counted_of even ≡ counted_of (even_of c)
-    unfolding even_of
-    tested = ap counted_of h
-
-    pub counted_by : counted_of even ≡ true → Counted st c
-    counted_by e = counted (sym tested ∙ e)
-
-    pub uncounted : counted_of even ≡ false → false ≡ usable_of st c
-    unfolding usable_of
-    uncounted e =
-        sym (ap (λ (b : Bool). b && leb (last_command_of st c) 3) (sym tested ∙ e))
-
-    pub last_decides : counted_of even ≡ true → leb (last_command_of st c) 3 ≡ usable_of st c
-    unfolding usable_of
-    last_decides e =
-        sym (ap (λ (b : Bool). b && leb (last_command_of st c) 3) (sym tested ∙ e))
-
   module _ (e : usable_of st c ≡ true) where
     pub usable_counts : Counted st c
     unfolding usable_of
@@ -81,8 +59,3 @@ module _ (st : StoreState) (c : Columns) where
     pub last_known : last_command_of st c ≤ 3
     unfolding usable_of
     last_known = leb-true (last_command_of st c) 3 (and_elim_right (counted_of (even_of c)) (leb (last_command_of st c) 3) e)
-
-    pub standing : (commands : List ℕ) → Standing st (columns c.x c.y c.weight commands)
-    standing commands =
-        let f = usable_counts in
-        record { some = f.some; room = record { x = f.points; y = omega arith; weight = omega arith }; opening = f.opening }

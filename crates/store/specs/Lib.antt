@@ -2,7 +2,7 @@ pub mod Columns
 pub mod Lent
 pub mod Closing
 pub mod Drawing
-pub mod Plan
+pub mod Writing
 pub mod Replay
 pub mod Drawable
 pub mod Contours

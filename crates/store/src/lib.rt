@@ -2,25 +2,32 @@
 #![tactic(auto)]
 
 ghost use Rattle.std.specs.Prelude.{◌≡◌};
-ghost use Rattle.store.specs.Columns.{columns};
 ghost use Rattle.store.specs.Drawing.{outcome, draw_of, fresh_of};
-ghost use Rattle.store.specs.Lent.{drawing_columns, store_columns};
+ghost use Rattle.store.specs.Lent.{drawing_columns, store_columns, SameColumns};
 
-use answer::{Answer, Refusal};
-use plan::Decision;
+use answer::Refusal;
 use point::{Point, WeightedPoint};
 
-mod accepted;
 mod builder;
-mod entries;
 mod limits;
-mod plan;
+mod old;
 mod reading;
-mod whole;
+mod writing;
 
-pub use builder::{build, cubic_to, line_to, move_to, quad_to, rat_cubic_to, rat_quad_to};
-pub use entries::{CUBIC, LINE, MOVE, QUAD, stored_point};
-pub use whole::{drawable, uses};
+pub use old::{
+    Drawn, build, cubic_to, draw, drawable, fresh, line_to, move_to, quad_to, rat_cubic_to,
+    rat_quad_to, stored_point,
+};
+pub use reading::uses;
+
+// The commands are bytes here too, since the column that C lends holds bytes.
+pub const MOVE: u8 = 0;
+
+pub const LINE: u8 = 1;
+
+pub const QUAD: u8 = 2;
+
+pub const CUBIC: u8 = 3;
 
 // The state beside the columns: how many points and commands there are, and which point opened the contour.
 #[derive(Clone, Copy)]
@@ -50,6 +57,18 @@ pub struct Drawing<'a> {
     pub state: StoreState,
 }
 
+// A drawing call as a value; the weights of a rational call come last.
+#[derive(Clone, Copy)]
+pub enum Call {
+    Move(Point),
+    Line(Point),
+    Quad(Point, Point),
+    Cubic(Point, Point, Point),
+    RatQuad(Point, Point, f32),
+    RatCubic(Point, Point, Point, f32, f32),
+    Build,
+}
+
 impl Store<'_> {
     pub fn drawing(&self) -> Drawing<'_>
         ensures columns { drawing_columns result ≡ store_columns self.now }
@@ -63,76 +82,38 @@ impl Store<'_> {
             state: self.state,
         }
     }
-}
 
-// What a drawing call gives back.
-#[derive(Clone, Copy)]
-pub struct Drawn {
-    pub answer: Answer,
-    pub state: StoreState,
-}
-
-// A drawing call as a value; the weights of a rational call come last.
-#[derive(Clone, Copy)]
-pub enum Call {
-    Move(Point),
-    Line(Point),
-    Quad(Point, Point),
-    Cubic(Point, Point, Point),
-    RatQuad(Point, Point, f32),
-    RatCubic(Point, Point, Point, f32, f32),
-    Build,
-}
-
-// PathBuilder::new. Old counts are not read.
-pub fn fresh(x: &mut [f32], y: &mut [f32], weight: &mut [f32], commands: &mut [u8]) -> Drawn
-    ensures { outcome result.answer result.state (columns x.new y.new weight.new commands.new) ≡ fresh_of (columns x.old y.old weight.old commands.old) }
-{
-    let none = StoreState {
-        points: 0,
-        commands: 0,
-        opening: 0,
-    };
-    if !entries::even(&x[..], &y[..], &weight[..]) {
-        return Drawn {
-            answer: Err(Refusal::Unusable),
-            state: none,
-        };
-    }
-    if (x.len() == 0) | (commands.len() == 0) {
-        return Drawn {
-            answer: Err(Refusal::StoreFull),
-            state: none,
-        };
-    }
-    entries::put_point(x, y, weight, 0, WeightedPoint::plain(Point::new(0.0, 0.0)));
-    commands[0] = entries::MOVE;
-    Drawn {
-        answer: Ok(()),
-        state: StoreState {
-            points: 1,
-            commands: 1,
+    // PathBuilder::new. Old counts are not read.
+    pub fn fresh(&mut self) -> Result<(), Refusal>
+        ensures same { SameColumns self.old self.new }
+        ensures fresh { outcome result self.new.state (store_columns self.new) ≡ fresh_of (store_columns self.old) }
+    {
+        self.state = StoreState {
+            points: 0,
+            commands: 0,
             opening: 0,
-        },
+        };
+        if !self.drawing().even() {
+            return Err(Refusal::Unusable);
+        }
+        let origin = WeightedPoint::plain(Point::new(0.0, 0.0));
+        self.write(0, &[origin], &[MOVE], 0)
     }
-}
 
-// Any drawing call: the tests decide on the columns as they are, and only an accepted call writes.
-pub fn draw(
-    x: &mut [f32],
-    y: &mut [f32],
-    weight: &mut [f32],
-    commands: &mut [u8],
-    st: StoreState,
-    call: Call,
-) -> Drawn
-    ensures { outcome result.answer result.state (columns x.new y.new weight.new commands.new) ≡ draw_of call st (columns x.old y.old weight.old commands.old) }
-{
-    match plan::decide(&x[..], &y[..], &weight[..], &commands[..], st, call) {
-        Decision::Refuse(answer) => Drawn {
-            answer: answer,
-            state: st,
-        },
-        Decision::Store(plan) => accepted::store(x, y, weight, commands, st, plan),
+    // Any drawing call. The tests for answers 3, 1, 2 and 4, in that order, come before anything is written.
+    pub fn draw(&mut self, call: Call) -> Result<(), Refusal>
+        ensures same { SameColumns self.old self.new }
+        ensures drawn { outcome result self.new.state (store_columns self.new) ≡ draw_of call self.old.state (store_columns self.old) }
+    {
+        if !self.drawing().usable() {
+            return Err(Refusal::Unusable);
+        }
+        if !call.coordinates_ok() {
+            return Err(Refusal::BadCoordinate);
+        }
+        if !call.weights_ok() {
+            return Err(Refusal::BadWeight);
+        }
+        self.carry_out(call)
     }
 }

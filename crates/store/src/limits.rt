@@ -25,30 +25,27 @@ fn point_ok(p: Point) -> bool
     coordinate_ok(p.x) & coordinate_ok(p.y)
 }
 
-pub fn coordinates_ok(call: Call) -> bool
-    ensures { result ≡ every coordinate_ok_of (coordinates_of call) }
-{
-    match call {
-        Call::Move(p) => point_ok(p),
-        Call::Line(p) => point_ok(p),
-        Call::Quad(p1, p2) => point_ok(p1) & point_ok(p2),
-        Call::Cubic(p1, p2, p3) => point_ok(p1) & point_ok(p2) & point_ok(p3),
-        Call::RatQuad(p1, p2, _) => point_ok(p1) & point_ok(p2),
-        Call::RatCubic(p1, p2, p3, _, _) => point_ok(p1) & point_ok(p2) & point_ok(p3),
-        Call::Build => true,
+impl Call {
+    pub(crate) fn coordinates_ok(self) -> bool
+        ensures { result ≡ every coordinate_ok_of (coordinates_of self) }
+    {
+        match self {
+            Call::Move(p) | Call::Line(p) => point_ok(p),
+            Call::Quad(p1, p2) | Call::RatQuad(p1, p2, _) => point_ok(p1) & point_ok(p2),
+            Call::Cubic(p1, p2, p3) | Call::RatCubic(p1, p2, p3, _, _) => {
+                point_ok(p1) & point_ok(p2) & point_ok(p3)
+            }
+            Call::Build => true,
+        }
     }
-}
 
-pub fn weights_ok(call: Call) -> bool
-    ensures { result ≡ every weight_ok_of (weights_of call) }
-{
-    match call {
-        Call::Move(_) => true,
-        Call::Line(_) => true,
-        Call::Quad(_, _) => true,
-        Call::Cubic(_, _, _) => true,
-        Call::RatQuad(_, _, w) => weight_ok(w),
-        Call::RatCubic(_, _, _, w1, w2) => weight_ok(w1) & weight_ok(w2),
-        Call::Build => true,
+    pub(crate) fn weights_ok(self) -> bool
+        ensures { result ≡ every weight_ok_of (weights_of self) }
+    {
+        match self {
+            Call::RatQuad(_, _, w) => weight_ok(w),
+            Call::RatCubic(_, _, _, w1, w2) => weight_ok(w1) & weight_ok(w2),
+            _ => true,
+        }
     }
 }

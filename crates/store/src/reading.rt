@@ -6,7 +6,7 @@ ghost use Rattle.store.specs.Closing.{unclosed_of};
 ghost use Rattle.store.specs.Drawable.{total_uses_of, stored_ok_of, drawable_of};
 ghost use Rattle.store.specs.Lent.{drawing_columns};
 
-use crate::{Drawing, StoreState, entries, limits};
+use crate::{CUBIC, Drawing, MOVE, StoreState, limits};
 use columns::read;
 use point::{Point, WeightedPoint};
 
@@ -38,7 +38,7 @@ impl Drawing<'_> {
             & (1 <= commands)
             & (commands <= self.commands.len())
             & (opening < points)
-            & (self.last_command() <= entries::CUBIC)
+            & (self.last_command() <= CUBIC)
     }
 
     // The Rust's `points!`; past a column's end it is NaN.
@@ -85,12 +85,8 @@ impl Drawing<'_> {
             commands,
             ..
         } = self.state;
-        let drawn = self
-            .commands
-            .iter()
-            .take(commands)
-            .all(|c| *c <= entries::CUBIC)
-            & (read(self.commands, 0, 0) == entries::MOVE)
+        let drawn = self.commands.iter().take(commands).all(|c| *c <= CUBIC)
+            & (read(self.commands, 0, 0) == MOVE)
             & self.uses_all();
         let held = self
             .weight

@@ -1,8 +1,0 @@
--- `store::entries::stored_point` meets its contract: three reads. Assumes nothing.
-use lib.Ieee.{of_bits}
-use Rattle.store.specs.Columns.{stored_point_of}
-use Rattle.store.proofs.entries.stored_point.Goals as goal
-
-pub returns : goal.returns
-unfolding stored_point_of of_bits
-returns c = rw (← c.read.ensures, ← c.read-2.ensures, ← c.read-3.ensures)
