@@ -9,8 +9,7 @@ use Rattle.store.specs.Drawing.{Outcome, outcome}
 use Rattle.point.specs.declared.Setting.{Setting}
 use Rattle.tables.specs.Tables.{QuadTable, SplineTable}
 use Rattle.evaluate.specs.Output.{Output}
-use Rattle.flatten.specs.declared.Flattened.{Flattened}
-use Rattle.flatten.specs.Flatten.{Flattening, flattening, flatten_of}
+use Rattle.flatten.specs.Flatten.{Flattening, Flattened, flattening, flatten_of}
 use mathlib.Core.List.{List}
 use lib.IntN.{ℤ}
 use Rattle.units.specs.declared.Wholes.{Wholes}

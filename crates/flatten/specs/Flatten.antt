@@ -13,7 +13,13 @@ use Rattle.tables.specs.Commands.{tables_of}
 use Rattle.walk.specs.Walk.{Item, walk_of}
 pub use Rattle.evaluate.specs.Output.{Output, output}
 unfoldable pub use Rattle.evaluate.specs.Output.{over, fits_output, write_output}
-use Rattle.flatten.specs.declared.Flattened.{Flattened}
+
+-- the answer, and how many splines, quads and points there are
+pub record Flattened : Type 0 where
+  pub answer : Answer
+  pub splines : ℕ
+  pub quads : ℕ
+  pub points : ℕ
 
 -- what the caller gets: the result, and the tables and outputs after the call
 pub record Flattening : Type 0 where

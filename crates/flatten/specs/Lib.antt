@@ -1,1 +1,2 @@
 pub mod Flatten
+pub mod Answer

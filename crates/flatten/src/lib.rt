@@ -2,111 +2,71 @@
 #![tactic(auto)]
 
 ghost use Rattle.std.specs.Prelude.{◌≡◌};
-ghost use Rattle.store.specs.Columns.{columns};
-ghost use Rattle.tables.specs.Tables.{quad_table, spline_table};
-ghost use Rattle.evaluate.specs.Output.{output};
-ghost use Rattle.flatten.specs.Flatten.{flattened, flattening, flatten_of};
+ghost use Rattle.store.specs.Lent.{drawing_columns};
+ghost use Rattle.tables.specs.Lent.{quads_mut_of, splines_mut_of, SameTables};
+ghost use Rattle.evaluate.specs.Lent.{output_of, SameOutputs};
+ghost use Rattle.flatten.specs.Answer.{answered};
+ghost use Rattle.flatten.specs.Flatten.{flattening, flatten_of};
 
-use answer::{Answer, Refusal};
+use answer::Refusal;
+use evaluate::Outputs;
 use point::Setting;
-use store::StoreState;
+use store::Drawing;
+use tables::Tables;
 
-// The answer, and how many splines, quads and points there are.
+// How many splines, quads and points there are.
 #[derive(Clone, Copy)]
 pub struct Flattened {
-    pub answer: Answer,
     pub splines: usize,
     pub quads: usize,
     pub points: usize,
 }
 
+// The refusal, and how many splines and quads the tables hold.
+#[derive(Clone, Copy)]
+pub struct Refused {
+    pub refusal: Refusal,
+    pub splines: usize,
+    pub quads: usize,
+}
+
 // The drawing in the store becomes tables, words and points. It is not closed first, and each call reads it anew.
 pub fn flatten(
     setting: Setting,
-    st: StoreState,
-    x: &[f32],
-    y: &[f32],
-    weight: &[f32],
-    commands: &[u8],
-    quad_rows: &mut [f32],
-    partial_splines: &mut [u32],
-    curvature: &mut [f32],
-    p0x: &mut [f32],
-    p0y: &mut [f32],
-    p2x: &mut [f32],
-    p2y: &mut [f32],
-    contour: &mut [u8],
-    first_quad: &mut [usize],
-    quad_count: &mut [u32],
-    words: &mut [u32],
-    out_x: &mut [f32],
-    out_y: &mut [f32],
-    out_end: &mut [u8],
-) -> Flattened
-    ensures { flattening result (quad_table quad_rows.new partial_splines.new) (spline_table curvature.new p0x.new p0y.new p2x.new p2y.new contour.new first_quad.new quad_count.new) (output words.new out_x.new out_y.new out_end.new) ≡ flatten_of setting st (columns x.now y.now weight.now commands.now) (quad_table quad_rows.old partial_splines.old) (spline_table curvature.old p0x.old p0y.old p2x.old p2y.old contour.old first_quad.old quad_count.old) (output words.old out_x.old out_y.old out_end.old) }
+    drawing: &Drawing<'_>,
+    tables: &mut Tables<'_, '_>,
+    outputs: &mut Outputs<'_>,
+) -> Result<Flattened, Refused>
+    ensures same { SameTables tables.old tables.new × SameOutputs outputs.old outputs.new }
+    ensures whole { flattening (answered result) (quads_mut_of tables.new.quads) (splines_mut_of tables.new.splines) (output_of outputs.new) ≡ flatten_of setting drawing.now.state (drawing_columns drawing.now) (quads_mut_of tables.old.quads) (splines_mut_of tables.old.splines) (output_of outputs.old) }
 {
-    if !store::drawable(x, y, weight, commands, st) {
-        return refused(Err(Refusal::Unusable), 0, 0);
+    if !drawing.drawable() {
+        return Err(Refused {
+            refusal: Refusal::Unusable,
+            splines: 0,
+            quads: 0,
+        });
     }
-    let state = tables::fill(
-        x,
-        y,
-        weight,
-        commands,
-        quad_rows,
-        partial_splines,
-        curvature,
-        p0x,
-        p0y,
-        p2x,
-        p2y,
-        contour,
-        first_quad,
-        quad_count,
-        setting,
-        st,
-    );
-    let answer = state.answer;
-    if !answer::is_done(answer) {
-        return refused(answer, state.splines, state.quads);
-    }
-    let delivered = evaluate::deliver(
-        &quad_rows[..],
-        &partial_splines[..],
-        &curvature[..],
-        &p0x[..],
-        &p0y[..],
-        &p2x[..],
-        &p2y[..],
-        &contour[..],
-        &first_quad[..],
-        &quad_count[..],
-        words,
-        out_x,
-        out_y,
-        out_end,
-        setting,
-        state.splines,
-    );
-    if !delivered.fits {
-        return refused(Err(Refusal::OutputShort), state.splines, state.quads);
-    }
+    let state = tables.fill(setting, drawing);
     let splines = state.splines as usize;
-    Flattened {
-        answer: Ok(()),
+    let quads = state.quads;
+    let refused = |refusal| Refused {
+        refusal,
         splines,
-        quads: state.quads,
-        points: delivered.points,
-    }
-}
-
-fn refused(answer: Answer, splines: u32, quads: usize) -> Flattened
-    ensures { result ≡ flattened answer splines quads 0 }
-{
-    Flattened {
-        answer,
-        splines: splines as usize,
         quads,
-        points: 0,
-    }
+    };
+    state.answer.map_err(refused)?;
+    let points = evaluate::deliver(
+        setting,
+        &tables.quads.view(),
+        &tables.splines.view(),
+        state.splines,
+        outputs,
+    )
+    .ok_or(refused(Refusal::OutputShort))?;
+    Ok(Flattened {
+        splines,
+        quads,
+        points,
+    })
 }

@@ -22,8 +22,7 @@ use Rattle.tables.specs.Run.{start_state}
 use Rattle.tables.specs.Commands.{primitives_of}
 use Rattle.walk.specs.Walk.{Item, walk_of}
 use Rattle.evaluate.specs.Output.{Output, fits_output, write_output}
-use Rattle.flatten.specs.declared.Flattened.{Flattened}
-use Rattle.flatten.specs.Flatten.{Flattening, flattened}
+use Rattle.flatten.specs.Flatten.{Flattening, Flattened, flattened}
 use Rattle.promises.specs.Accepted.{Job, flattening_of}
 
 -- ---- a way for the quad table to lie: how many rows it takes, a row that is put, and the row of a quad

@@ -11,8 +11,7 @@ use Rattle.store.specs.Drawing.{outcome}
 use Rattle.tables.specs.Tables.{QuadTable, SplineTable, quad_table, spline_table}
 use Rattle.tables.specs.Run.{world}
 use Rattle.evaluate.specs.Delivery.{delivery}
-use Rattle.flatten.specs.declared.Flattened.{Flattened}
-use Rattle.flatten.specs.Flatten.{Output, output, flattening}
+use Rattle.flatten.specs.Flatten.{Flattened, Output, output, flattening}
 use Rattle.listing.specs.declared.Pair as Pairs
 use Rattle.listing.specs.declared.TwoPoints.{TwoPoints}
 use Rattle.listing.specs.declared.ThreePoints.{ThreePoints}

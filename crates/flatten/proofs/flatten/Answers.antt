@@ -1,28 +1,40 @@
--- `flatten::flatten` meets its contract: each way that it ends is one of those of `Whole`, and every lent column keeps its length. Assumes nothing.
+-- `flatten::flatten` meets its contract: each way that it ends is one of those of `Whole`. Assumes nothing.
+use Rattle.std.proofs.Common.{rules, ◌≡◌}
 use mathlib.Core.Path.{sym, ◌∙◌}
-use borrow.Author.Tests.{not-true, not-false}
-use Rattle.flatten.proofs.Whole.{unusable, refused, too_short, done}
+use Rattle.std.specs.Prelude.{Some, None, Result, Err}
+use Rattle.answer.specs.Answer.{Answer, Done}
+use Rattle.answer.specs.declared.Refusal.{Refusal}
+use Rattle.answer.specs.declared.Refusal.TheVariants.{OutputShort}
+use Rattle.flatten.specs.declared.Flattened.{Flattened}
+use Rattle.flatten.specs.declared.Refused.{Refused}
+use Rattle.flatten.proofs.Whole.{unusable, refused, delivered}
 use Rattle.flatten.proofs.flatten.Goals as goal
 
-pub returns-then-not-drawable : goal.returns-then-not-drawable
-returns-then-not-drawable c =
-    unusable _ _ _ _ _ _ _ c.refused.ensures (sym c.drawable.ensures ∙ c.if-not-drawable.true)
+pub returns-then-not-drawable-clause-whole : goal.returns-then-not-drawable-clause-whole
+returns-then-not-drawable-clause-whole c = unusable _ _ _ _ _ _ (sym c.drawable.ensures ∙ c.if-not-drawable.true)
 
-pub returns-then-not-is_done : goal.returns-then-not-is_done
-returns-then-not-is_done c =
-    refused _ _ _ _ _ _ c.fill-state.result _ _ (sym c.drawable.ensures ∙ c.if-not-drawable.false)
-    c.fill-state.ensures _ c.refused-then-not-is_done.ensures (sym c.is_done.ensures ∙ c.if-not-is_done.true)
+pub returns-in_err-map_err-clause-whole : goal.returns-in_err-map_err-clause-whole
+returns-in_err-map_err-clause-whole c =
+    let state = c.fill-state.result in
+    let told : (refusal : Refusal) × (state.answer ≡ Err refusal)
+    × (◌≡◌ {A = Result Flattened Refused} c.from_residual.result (Err (record { refusal = refusal; splines = state.splines; quads = state.quads })))
+    = search rules in
+    rw told.2 (refused _ _ _ _ _ _ state _ _ (sym c.drawable.ensures ∙ c.if-not-drawable.false) c.fill-state.ensures.filled told.0 told.1)
 
-pub returns-then-not-delivered : goal.returns-then-not-delivered
-returns-then-not-delivered c =
-    too_short _ _ _ _ _ _ c.fill-state.result _ _ (sym c.drawable.ensures ∙ c.if-not-drawable.false)
-    c.fill-state.ensures c.deliver-delivered.result.fits c.deliver-delivered.result.points _
-    (sym c.is_done.ensures ∙ c.if-not-is_done.false) c.deliver-delivered.ensures _ c.refused-then-not-delivered.ensures
-    (not-true c.deliver-delivered.result.fits c.if-not-delivered.true)
+pub returns-in_err-points-clause-whole : goal.returns-in_err-points-clause-whole
+returns-in_err-points-clause-whole c =
+    let state = c.fill-state.result in
+    let done : ◌≡◌ {A = Answer} state.answer Done = search rules in
+    let none : c.deliver.result ≡ None = search rules in
+    let told : ◌≡◌ {A = Result Flattened Refused} c.from_residual-in_err-points.result (Err (record { refusal = OutputShort; splines = state.splines; quads = state.quads })) = search rules in
+    rw told
+    (delivered _ _ _ _ _ _ state _ _ (sym c.drawable.ensures ∙ c.if-not-drawable.false) c.fill-state.ensures.filled _ None done
+    c.view.ensures c.view-2.ensures (rw none at c.deliver.ensures.delivered))
 
-pub returns : goal.returns
-returns c =
-    done _ _ _ _ _ _ c.fill-state.result _ _ (sym c.drawable.ensures ∙ c.if-not-drawable.false)
-    c.fill-state.ensures c.deliver-delivered.result.fits c.deliver-delivered.result.points _
-    (sym c.is_done.ensures ∙ c.if-not-is_done.false) c.deliver-delivered.ensures
-    (not-false c.deliver-delivered.result.fits c.if-not-delivered.false)
+pub returns-clause-whole : goal.returns-clause-whole
+returns-clause-whole c =
+    let state = c.fill-state.result in
+    let done : ◌≡◌ {A = Answer} state.answer Done = search rules in
+    let some : c.deliver.result ≡ Some c.in_ok-points.points = search rules in
+    delivered _ _ _ _ _ _ state _ _ (sym c.drawable.ensures ∙ c.if-not-drawable.false) c.fill-state.ensures.filled _ (Some c.in_ok-points.points) done
+    c.view.ensures c.view-2.ensures (rw some at c.deliver.ensures.delivered)
