@@ -3,7 +3,7 @@ use mathlib.Core.Path.{◌≡◌, refl, sym, ap, ◌∙◌}
 use mathlib.Core.Bool.{Bool, true, false}
 use mathlib.Core.List.{List, [], ◌∷◌, ◌++◌}
 use Prim.Native.Nat.{ℕ, zero, suc, ◌+◌, ◌*◌, ◌/◌, ◌%◌, ◌^◌, ◌≤◌, ◌<◌}
-use native.Mathlib.Nat.{mod-eq_of_lt, pow-suc}
+use native.Mathlib.Nat.{mod-eq_of_lt, pow-suc, pow-le-pow_right}
 use native.Mathlib.Omega.{arith}
 use borrow.Author.Tests.{lt-ltb, le-ltb, ltb-true, ltb-false}
 use lib.Dec.{ltb}
@@ -77,3 +77,12 @@ within (suc j) (suc k) n false e h =
 pub decimal_within : (k n : ℕ) → n < 10 ^ suc k → length (decimal_of n) ≤ suc k
 unfolding decimal_of
 decimal_within k n h = within 19 k n (ltb n 10) refl h
+
+-- between two powers of ten
+pub decimal_between : (k n : ℕ) → n < 2 ^ 64 → 10 ^ k ≤ n → n < 10 * 10 ^ k → length (decimal_of n) ≡ k + 1
+decimal_between zero n f l h = ap length (one_digit n (omega arith))
+decimal_between (suc k) n f l h =
+    let e : 10 ^ suc k ≡ 10 ^ k * 10 = pow-suc 10 k in
+    let p : 10 ^ 0 ≤ 10 ^ k = pow-le-pow_right (let z : 0 < 10 = omega arith in z) (let z : 0 ≤ k = omega arith in z) in
+    let t : 10 ≤ n = omega arith in
+    more-length n t f ∙ omega (arith, decimal_between k (n / 10) (omega arith) (omega arith) (omega arith))

@@ -3,61 +3,84 @@ use mathlib.Core.Path.{◌≡◌, refl, sym, ap, ◌∙◌}
 use mathlib.Core.Bool.{Bool, true, false, ◌&&◌, cond, and-true, and-false, and_assoc, and-eq-true_iff}
 use mathlib.Core.List.{List, [], ◌∷◌, ◌++◌}
 use Prim.Native.Nat.{ℕ, zero, suc, ◌+◌, ◌-◌, ◌*◌, ◌/◌, ◌%◌, ◌^◌, ◌≤◌, ◌<◌}
-use native.Mathlib.Nat.{add-zero, pow-suc}
+use native.Mathlib.Nat.{add-zero, pow-suc, le_refl}
 use native.Mathlib.Numerals.{add-one}
 use native.Mathlib.Omega.{arith}
-use borrow.Author.Tests.{ltb-true, lt-ltb, le-ltb, leb-true, le-leb, lt-leb, ltb-false, eqb-true}
+use borrow.Author.Tests.{ltb-true, lt-ltb, le-ltb, leb-true, le-leb, lt-leb, ltb-false, eqb-true, ne_eqb}
 use lib.Dec.{leb, ltb, eqb, eqb-suc-suc, eqb-zero-suc}
 use lib.ListN.{length, take, drop, get_or, length-append, length-take, take-append-drop}
+use Rattle.std.proofs.Common.{take-take}
 use lib.Seq.{drop-drop, get_or-drop, take-suc, take_all, take-append_seam}
-use Rattle.text.specs.declared.HexAt.{HexAt}
-use Rattle.text.specs.declared.HexAt.TheVariants.{Number, Wrong}
+use Rattle.std.specs.Prelude.{Option, None, Some}
 use Rattle.text.specs.Bytes.{part_at}
-use Rattle.text.specs.Hex.{hex_digit_of, hex_value_of, all_hex, hex_number, hex_stands_at, hex_number_at, hex_at_of, hex_digits, hex_of}
+use Rattle.text.specs.Hex.{hex_digit_of, hex_value_of, digit_in, all_hex, hex_number, hex_stands_at, hex_number_at, hex_at_of, hex_digits, hex_of}
 
 -- k more digits, after those whose number is n
-unfoldable pub digits_in : List ℕ → ℕ → ℕ → HexAt
-digits_in rest k n = cond (eqb (length (take k rest)) k && all_hex (take k rest)) (Number (hex_number n (take k rest))) Wrong
+unfoldable pub digits_in : List ℕ → ℕ → ℕ → Option ℕ
+digits_in rest k n = cond (eqb (length (take k rest)) k && all_hex (take k rest)) (Some (hex_number n (take k rest))) None
 
-pub digits_none : (rest : List ℕ) (n : ℕ) → digits_in rest 0 n ≡ Number n
+pub digits_none : (rest : List ℕ) (n : ℕ) → digits_in rest 0 n ≡ Some n
 unfolding digits_in all_hex hex_number
 digits_none rest n = refl
 
-pub digits_all : (text : List ℕ) (at : ℕ) → hex_at_of text at ≡ digits_in (drop at text) 8 0
+-- the eight digits from a place on, where there are so many bytes
+pub digits_all : (text : List ℕ) (at : ℕ) (rest digits : List ℕ) → rest ≡ drop at text → digits ≡ take 8 rest → hex_at_of text at ≡ digits_in digits 8 0
 unfolding hex_at_of hex_stands_at hex_number_at part_at digits_in
-digits_all text at = refl
+digits_all text at rest digits e d =
+    ap (λ (l : List ℕ). cond (eqb (length l) 8 && all_hex l) (Some (hex_number 0 l)) None)
+    (ap (take 8) (sym e) ∙ sym d ∙ sym (ap (take 8) d ∙ take-take 8 8 rest (le_refl 8) ∙ sym d))
 
-digits_on : (rest : List ℕ) (k n : ℕ) → ltb (hex_value_of (get_or rest 0 0)) 16 ≡ true → digits_in rest (suc k) n ≡ digits_in (drop 1 rest) k (16 * n + hex_value_of (get_or rest 0 0))
+pub digits_short : (text : List ℕ) (at : ℕ) → length (drop at text) < 8 → hex_at_of text at ≡ None
+unfolding hex_at_of hex_stands_at part_at
+digits_short text at h =
+    let e : length (take 8 (drop at text)) < 8 = rw length-take (omega arith) in
+    rw (ne_eqb (length (take 8 (drop at text))) 8 (λ f. omega arith))
+
+-- what a digit is, or is not
+value_is : (b v : ℕ) → Some v ≡ digit_in (hex_value_of b) → (ltb (hex_value_of b) 16 ≡ true) × (v ≡ hex_value_of b)
+value_is b v e = go (ltb (hex_value_of b) 16) e
+  where
+    go : (t : Bool) → ◌≡◌ {A = Option ℕ} (Some v) (cond t (Some (hex_value_of b)) None) → (t ≡ true) × (v ≡ hex_value_of b)
+    go true f = (refl, cc)
+    go false f = cc
+
+no_value : (b : ℕ) → None ≡ digit_in (hex_value_of b) → ltb (hex_value_of b) 16 ≡ false
+no_value b e = go (ltb (hex_value_of b) 16) e
+  where
+    go : (t : Bool) → ◌≡◌ {A = Option ℕ} None (cond t (Some (hex_value_of b)) None) → t ≡ false
+    go true f = cc
+    go false f = refl
+
+pub value_small : (b v : ℕ) → Some v ≡ digit_in (hex_value_of b) → v < 16
+value_small b v e = let r = value_is b v e in let l : hex_value_of b < 16 = ltb-true (hex_value_of b) 16 r.0 in omega (arith, r.1)
+
+-- the first of k + 1 digits
+digits_on : (rest : List ℕ) (k n v : ℕ) → Some v ≡ digit_in (hex_value_of (get_or rest 0 0)) → digits_in rest (suc k) n ≡ digits_in (drop 1 rest) k (16 * n + v)
 unfolding digits_in all_hex hex_number hex_value_of
-digits_on [] k n h = absurd (let z : ◌≡◌ {A = ℕ} 0 1 = cc in omega arith)
-digits_on (b ∷ rest) k n h = rw (eqb-suc-suc, h)
+digits_on [] k n v e = cc
+digits_on (b ∷ rest) k n v e = let r = value_is b v e in rw (eqb-suc-suc, r.0, r.1)
 
-digits_off : (rest : List ℕ) (k n : ℕ) → ltb (hex_value_of (get_or rest 0 0)) 16 ≡ false → digits_in rest (suc k) n ≡ Wrong
+digits_off : (rest : List ℕ) (k n : ℕ) → None ≡ digit_in (hex_value_of (get_or rest 0 0)) → digits_in rest (suc k) n ≡ None
 unfolding digits_in all_hex
-digits_off [] k n h = rw eqb-zero-suc
-digits_off (b ∷ rest) k n h = rw (h, and-false)
+digits_off [] k n e = rw eqb-zero-suc
+digits_off (b ∷ rest) k n e = rw (no_value b e, and-false)
 
--- at a place of the text, with i digits read
-module _ (text : List ℕ) (at i n : ℕ) where
-  abbrev value : ℕ
-  value = hex_value_of (get_or text (at + i) 0)
+-- with i digits read
+module _ (digits : List ℕ) (i n : ℕ) (h : i < 8) where
+  next : get_or (drop i digits) 0 0 ≡ get_or digits i 0
+  next = get_or-drop i digits 0 0 ∙ ap (λ (m : ℕ). get_or digits m 0) (add-zero i)
 
-  first : get_or (drop (at + i) text) 0 0 ≡ get_or text (at + i) 0
-  first = get_or-drop (at + i) text 0 0 ∙ ap (λ (m : ℕ). get_or text m 0) (add-zero (at + i))
+  more : 8 - i ≡ suc (8 - (i + 1))
+  more = omega arith
 
-  pub digit_on : i < 8 → ltb value 16 ≡ true → digits_in (drop (at + i) text) (8 - i) n ≡ digits_in (drop (at + (i + 1)) text) (8 - (i + 1)) (16 * n + value)
-  digit_on h t =
-      let k : 8 - i ≡ suc (8 - (i + 1)) = omega arith in
-      let p : at + i + 1 ≡ at + (i + 1) = omega arith in
-      ap (λ (m : ℕ). digits_in (drop (at + i) text) m n) k
-      ∙ digits_on (drop (at + i) text) (8 - (i + 1)) n (rw first t)
-      ∙ ap (λ (m : ℕ). digits_in (drop 1 (drop (at + i) text)) (8 - (i + 1)) (16 * n + hex_value_of m)) first
-      ∙ ap (λ (r : List ℕ). digits_in r (8 - (i + 1)) (16 * n + value)) (drop-drop 1 (at + i) text ∙ ap (λ (m : ℕ). drop m text) p)
+  pub digit_on : (v : ℕ) → Some v ≡ digit_in (hex_value_of (get_or digits i 0)) → digits_in (drop i digits) (8 - i) n ≡ digits_in (drop (i + 1) digits) (8 - (i + 1)) (16 * n + v)
+  digit_on v e =
+      ap (λ (m : ℕ). digits_in (drop i digits) m n) more
+      ∙ digits_on (drop i digits) (8 - (i + 1)) n v (rw next e)
+      ∙ ap (λ (r : List ℕ). digits_in r (8 - (i + 1)) (16 * n + v)) (drop-drop 1 i digits)
 
-  pub digit_off : i < 8 → ltb value 16 ≡ false → digits_in (drop (at + i) text) (8 - i) n ≡ Wrong
-  digit_off h t =
-      let k : 8 - i ≡ suc (8 - (i + 1)) = omega arith in
-      ap (λ (m : ℕ). digits_in (drop (at + i) text) m n) k ∙ digits_off (drop (at + i) text) (8 - (i + 1)) n (rw first t)
+  pub digit_off : None ≡ digit_in (hex_value_of (get_or digits i 0)) → digits_in (drop i digits) (8 - i) n ≡ None
+  digit_off e = ap (λ (m : ℕ). digits_in (drop i digits) m n) more ∙ digits_off (drop i digits) (8 - (i + 1)) n (rw next e)
 
 -- n of i digits and one digit more
 pub one_more : (i n v : ℕ) → n < 16 ^ i → v < 16 → 16 * n + v < 16 ^ (i + 1)

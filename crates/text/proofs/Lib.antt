@@ -3,6 +3,7 @@ pub mod Hexes
 pub mod Shapes
 pub mod Decimals
 pub mod Stores
+pub mod Bases
 pub mod Minus
 pub mod ReadDecimal
 pub mod Written

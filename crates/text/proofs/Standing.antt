@@ -6,8 +6,12 @@ use mathlib.Core.List.{List, [], ◌∷◌, ◌++◌}
 use Prim.Native.Nat.{ℕ, suc, ◌+◌, ◌≤◌, ◌<◌}
 use native.Mathlib.Nat.{add-zero}
 use native.Mathlib.Omega.{arith}
-use borrow.Author.Tests.{eqb-true, eq-eqb}
+use borrow.Author.Tests.{eqb-true, eq-eqb, ne_eqb}
+use mathlib.Core.Logic.{inl, inr}
+use Rattle.std.proofs.lemmas.Bool.{cases_eq}
 use lib.Dec.{eqb}
+use lib.Pointwise.{pointwise}
+use Rattle.std.specs.List.{starts_with}
 use lib.ListN.{length, take, drop, get_or, length-take, length-drop, take-append-drop, drop_of_length-le}
 use lib.Seq.{take-length, drop-cons, drop-drop, take-append_seam, drop-append_seam}
 use Rattle.text.specs.Bytes.{same_bytes, part_at, stands_at}
@@ -62,6 +66,21 @@ unfolding stands_at part_at
 stands_inside text at fixed some h =
     let e : length (take (length fixed) (drop at text)) ≡ length fixed = same_length (take (length fixed) (drop at text)) fixed h in
     omega (arith, simp (length-take, length-drop) at e)
+
+eqb_swap : (a b : ℕ) → eqb a b ≡ eqb b a
+eqb_swap a b = elim (cases_eq a b) [ inl e ↦ eq-eqb a b e ∙ sym (eq-eqb b a (sym e)) | inr n ↦ ne_eqb a b n ∙ sym (ne_eqb b a (λ e. n (sym e))) ]
+
+-- what the library's `starts_with` answers of the text from the place on
+pairwise : (xs ys : List ℕ) → pointwise eqb ys xs ≡ same_bytes xs ys
+unfolding same_bytes
+pairwise [] [] = refl
+pairwise [] (b ∷ ys) = refl
+pairwise (a ∷ xs) [] = refl
+pairwise (a ∷ xs) (b ∷ ys) = rw (eqb_swap b a, pairwise xs ys)
+
+pub stands_begins : (text : List ℕ) (at : ℕ) (fixed rest : List ℕ) → rest ≡ drop at text → starts_with eqb rest fixed ≡ stands_at text at fixed
+unfolding stands_at part_at
+stands_begins text at fixed rest e = pairwise (take (length fixed) rest) fixed ∙ ap (λ (l : List ℕ). same_bytes (take (length fixed) l) fixed) e
 
 -- a fixed string that is as long as the text is all of it
 pub stands_whole : (text fixed : List ℕ) → length text ≡ length fixed → stands_at text 0 fixed ≡ same_bytes text fixed

@@ -1,7 +1,5 @@
 -- RULES, The program 4: "Numbers are eight lowercase hex digits". Assumes nothing.
-use Rattle.std.specs.Prelude.{ℕ, zero, suc, ◌+◌, ◌-◌, ◌*◌, ◌/◌, ◌%◌, Bool, true, ◌&&◌, cond, List, [], ◌∷◌, ◌++◌, leb, ltb, eqb, length}
-use Rattle.text.specs.declared.HexAt.{HexAt}
-use Rattle.text.specs.declared.HexAt.TheVariants.{Number, Wrong}
+use Rattle.std.specs.Prelude.{ℕ, zero, suc, ◌+◌, ◌-◌, ◌*◌, ◌/◌, ◌%◌, Bool, true, ◌&&◌, cond, List, [], ◌∷◌, ◌++◌, Option, None, Some, leb, ltb, eqb, length}
 use Rattle.text.specs.Bytes.{part_at}
 
 -- 0 to 9, then a to f
@@ -11,6 +9,10 @@ hex_digit_of v = cond (ltb v 10) (0x30 + v) (0x57 + v)
 -- the value of a lowercase hex digit; 16 for any other byte
 unfoldable pub hex_value_of : ℕ → ℕ
 hex_value_of b = cond (leb 0x30 b && leb b 0x39) (b - 0x30) (cond (leb 0x61 b && leb b 0x66) (b - 0x57) 16)
+
+-- the value, where it is one
+abbrev pub digit_in : ℕ → Option ℕ
+digit_in v = cond (ltb v 16) (Some v) None
 
 unfoldable pub all_hex : List ℕ → Bool
 all_hex [] = true
@@ -28,8 +30,8 @@ hex_stands_at text at = eqb (length (part_at text at 8)) 8 && all_hex (part_at t
 unfoldable pub hex_number_at : List ℕ → ℕ → ℕ
 hex_number_at text at = hex_number 0 (part_at text at 8)
 
-unfoldable pub hex_at_of : List ℕ → ℕ → HexAt
-hex_at_of text at = cond (hex_stands_at text at) (Number (hex_number_at text at)) Wrong
+unfoldable pub hex_at_of : List ℕ → ℕ → Option ℕ
+hex_at_of text at = cond (hex_stands_at text at) (Some (hex_number_at text at)) None
 
 -- the k lowest digits of n, the highest first
 unfoldable pub hex_digits : ℕ → ℕ → List ℕ

@@ -5,3 +5,4 @@ pub mod Places
 pub mod Signed
 pub mod ReadDecimal
 pub mod Written
+pub mod Digits

@@ -1,80 +1,37 @@
 // Reading and writing eight lowercase hex digits.
 
-ghost use Rattle.std.specs.Prelude.{◌≡◌, ◌+◌, ◌<◌, get_or};
+ghost use Rattle.std.specs.Prelude.{◌≡◌};
 ghost use Rattle.std.proofs.lemmas.List.Edits.{sets};
-ghost use Rattle.text.specs.Hex.{hex_digit_of, hex_value_of, hex_of, hex_at_of};
+ghost use Rattle.text.specs.Hex.{hex_value_of, digit_in, hex_of, hex_at_of};
 
-use crate::HexAt;
-use crate::fixed::put_byte;
+use crate::digits::put_digits;
 
-fn hex_digit(v: u32) -> u8
-    requires { v < 16 }
-    ensures { result ≡ hex_digit_of v }
+#[tactic(auto, unfolding(crate::specs::Hex::hex_value_of))]
+fn hex_value(b: u8) -> Option<u32>
+    ensures { result ≡ digit_in (hex_value_of b) }
 {
-    if v < 10 {
-        return (0x30 + v) as u8;
+    match b {
+        b'0'..=b'9' => Some(u32::from(b - b'0')),
+        b'a'..=b'f' => Some(u32::from(b - b'a') + 10),
+        _ => None,
     }
-    (0x57 + v) as u8
 }
 
-// 16 for a byte that is no lowercase hex digit.
-fn hex_value(b: u8) -> u32
-    ensures { result ≡ hex_value_of b }
-{
-    if b < 0x30 {
-        return 16;
-    }
-    if b <= 0x39 {
-        return b as u32 - 0x30;
-    }
-    if b < 0x61 {
-        return 16;
-    }
-    if b <= 0x66 {
-        return b as u32 - 0x57;
-    }
-    16
-}
-
-// The value of the digit i bytes after a place; 16 past the end, where there is no digit.
-fn hex_value_at(text: &[u8], at: usize, i: usize) -> u32
-    ensures { result ≡ hex_value_of (get_or text.now (at + i) 0) }
-{
-    let n = text.len();
-    if n <= at {
-        return 16;
-    }
-    if n - at <= i {
-        return 16;
-    }
-    hex_value(text[at + i])
-}
-
-pub fn hex_at(text: &[u8], at: usize) -> HexAt
+// The number whose eight digits stand at a place.
+pub fn hex_at(text: &[u8], at: usize) -> Option<u32>
     ensures { result ≡ hex_at_of text.now at }
 {
-    let mut n: u32 = 0;
-    let mut i = 0;
-    while i < 8 {
-        let v = hex_value_at(text, at, i);
-        if v >= 16 {
-            return HexAt::Wrong;
-        }
-        n = 16 * n + v;
-        i += 1;
+    let digits = text.get(at..)?.first_chunk::<8>()?;
+    let mut n = 0;
+    for b in digits {
+        n = 16 * n + hex_value(*b)?;
     }
-    HexAt::Number(n)
+    Some(n)
 }
 
-// Writes eight digits from a place on, the last digit first.
+// Writes eight digits from a place on.
 pub fn put_hex(buffer: &mut [u8], at: usize, n: u32)
     ensures { buffer.new ≡ sets buffer.old at (hex_of n) }
 {
-    let mut rest = n;
-    let mut left = 8;
-    while left > 0 {
-        left -= 1;
-        put_byte(buffer, at, left, hex_digit(rest % 16));
-        rest /= 16;
-    }
+    put_digits::<16>(buffer, at, 8, u64::from(n));
 }

@@ -2,6 +2,7 @@
 #![tactic(auto)]
 
 mod decimal;
+mod digits;
 mod fixed;
 mod hex;
 mod signed;
@@ -10,10 +11,3 @@ pub use decimal::{decimal_length, put_decimal};
 pub use fixed::{byte_stands_at, put_byte, put_bytes, stands_at};
 pub use hex::{hex_at, put_hex};
 pub use signed::{put_signed, signed_length};
-
-// What is found where a number must come: eight digits, or something else.
-#[derive(Clone, Copy)]
-pub enum HexAt {
-    Number(u32),
-    Wrong,
-}

@@ -1,28 +1,16 @@
 // Writing signed numbers in plain decimal: a minus sign before the digits of a number below zero, and none before a zero.
 
-ghost use Rattle.std.specs.Prelude.{◌≡◌, nat_abs, length};
+ghost use Rattle.std.specs.Prelude.{◌≡◌, length};
 ghost use Rattle.std.proofs.lemmas.List.Edits.{sets};
 ghost use Rattle.text.specs.Signed.{signed_of};
 
 use crate::decimal::{decimal_length, put_decimal};
 use crate::fixed::put_byte;
 
-// The size of n without its sign; the least i64 has one too.
-fn magnitude(n: i64) -> u64
-    ensures { result ≡ nat_abs n }
-{
-    if n < 0 {
-        let below = -1 - n;
-        let most = below as u64;
-        return most + 1;
-    }
-    n as u64
-}
-
 pub fn signed_length(n: i64) -> usize
     ensures { result ≡ length (signed_of n) }
 {
-    let digits = decimal_length(magnitude(n));
+    let digits = decimal_length(n.unsigned_abs());
     if n < 0 {
         return digits + 1;
     }
@@ -37,9 +25,9 @@ pub fn put_signed(buffer: &mut [u8], at: usize, n: i64) -> usize
         if at >= buffer.len() {
             return signed_length(n);
         }
-        put_byte(buffer, at, 0, 0x2d);
-        let digits = put_decimal(buffer, at + 1, magnitude(n));
+        put_byte(buffer, at, 0, b'-');
+        let digits = put_decimal(buffer, at + 1, n.unsigned_abs());
         return digits + 1;
     }
-    put_decimal(buffer, at, magnitude(n))
+    put_decimal(buffer, at, n.unsigned_abs())
 }

@@ -33,19 +33,19 @@ returns-then-at-buffer c =
     (c.signed_length.ensures ∙ ap (λ (z : ℤ). length (signed_of z)) (back c.args.n c.ranges.n), sym (sets_out c.args.buffer.now c.args.at (signed_of c.args.n) c.if-at-buffer.true))
 
 pub overflow_add-result : goal.overflow_add-result
-overflow_add-result c = record { fits = omega (arith, c.put_decimal-digits.ensures.0, decimal_short c.magnitude.result) }
+overflow_add-result c = record { fits = omega (arith, c.put_decimal-digits.ensures.0, decimal_short c.unsigned_abs.result) }
 
 pub returns-then-n-lt0 : goal.returns-then-n-lt0
 returns-then-n-lt0 c =
     let n = c.args.n in
     signed_stored n _ _ _ _ _ _ (below_zero n c.ranges.n c.if-n-lt0.true)
-    (c.magnitude.ensures ∙ ap nat_abs (back n c.ranges.n)) c.put_byte.ensures c.put_decimal-digits.ensures.0
+    (c.unsigned_abs.ensures.value ∙ ap nat_abs (back n c.ranges.n)) c.put_byte.ensures c.put_decimal-digits.ensures.0
     c.put_decimal-digits.ensures.1
 
 pub returns : goal.returns
 returns c =
     let n = c.args.n in
-    let e = c.magnitude-2.ensures ∙ ap nat_abs (back n c.ranges.n) in
+    let e = c.unsigned_abs-2.ensures.value ∙ ap nat_abs (back n c.ranges.n) in
     let k = plain_digits n (not_below n c.ranges.n c.if-n-lt0.false) in (
       c.put_decimal.ensures.0 ∙ ap (λ (m : ℕ). length (decimal_of m)) e ∙ ap length k,
       c.put_decimal.ensures.1

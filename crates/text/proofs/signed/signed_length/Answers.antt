@@ -10,7 +10,7 @@ use Rattle.text.proofs.Minus.{back, below_zero, not_below, minus_digits, plain_d
 use Rattle.text.proofs.signed.signed_length.Goals as goal
 
 pub overflow_add-result : goal.overflow_add-result
-overflow_add-result c = record { fits = omega (arith, c.decimal_length-digits.ensures, decimal_short c.magnitude.result) }
+overflow_add-result c = record { fits = omega (arith, c.decimal_length-digits.ensures, decimal_short c.unsigned_abs.result) }
 
 pub returns-then-n-lt0 : goal.returns-then-n-lt0
 returns-then-n-lt0 c =
@@ -18,7 +18,7 @@ returns-then-n-lt0 c =
     omega (
       arith,
       c.decimal_length-digits.ensures,
-      ap (λ (m : ℕ). length (decimal_of m)) (c.magnitude.ensures ∙ ap nat_abs (back n c.ranges.n)),
+      ap (λ (m : ℕ). length (decimal_of m)) (c.unsigned_abs.ensures.value ∙ ap nat_abs (back n c.ranges.n)),
       ap length (minus_digits n (below_zero n c.ranges.n c.if-n-lt0.true)),
     )
 
@@ -26,5 +26,5 @@ pub returns : goal.returns
 returns c =
     let n = c.args.n in
     c.decimal_length-digits.ensures
-    ∙ ap (λ (m : ℕ). length (decimal_of m)) (c.magnitude.ensures ∙ ap nat_abs (back n c.ranges.n))
+    ∙ ap (λ (m : ℕ). length (decimal_of m)) (c.unsigned_abs.ensures.value ∙ ap nat_abs (back n c.ranges.n))
     ∙ ap length (plain_digits n (not_below n c.ranges.n c.if-n-lt0.false))
