@@ -8,8 +8,7 @@ use lib.Ieee.{Float}
 use lib.ListN.{length}
 use mathlib.Mathlib.Data.Bool.Basic.{and_elim_right}
 use Rattle.leaves.specs.Bits.{float_of}
-use Rattle.text.specs.declared.HexAt.{HexAt}
-use Rattle.text.specs.declared.HexAt.TheVariants as Hex
+use Rattle.std.specs.Prelude.{Option, None, Some}
 use Rattle.text.specs.Bytes.{stands_at}
 use Rattle.text.specs.Hex.{hex_stands_at, hex_number_at, hex_at_of}
 use Rattle.text.proofs.Standing.{stands_append, stands_inside}
@@ -18,11 +17,11 @@ use Rattle.listing.specs.declared.Field.TheVariants.{Value, Wrong}
 use Rattle.listing.specs.Reading.{Placed, field_stands_at, field_value_at, field_at_of, field_width, Fields, read, wrong, fields_from}
 
 -- ---- one field
-number_there : (b : Bool) (n m : ℕ) → ◌≡◌ {A = HexAt} (cond b (Hex.Number n) Hex.Wrong) (Hex.Number m) → (b ≡ true) × (n ≡ m)
+number_there : (b : Bool) (n m : ℕ) → ◌≡◌ {A = Option ℕ} (cond b (Some n) None) (Some m) → (b ≡ true) × (n ≡ m)
 number_there true n m h = (refl, cc)
 number_there false n m h = absurd (let z : ◌≡◌ {A = ℕ} 0 1 = cc in omega arith)
 
-number_missing : (b : Bool) (n : ℕ) → ◌≡◌ {A = HexAt} (cond b (Hex.Number n) Hex.Wrong) Hex.Wrong → b ≡ false
+number_missing : (b : Bool) (n : ℕ) → ◌≡◌ {A = Option ℕ} (cond b (Some n) None) None → b ≡ false
 number_missing true n h = absurd (let z : ◌≡◌ {A = ℕ} 0 1 = cc in omega arith)
 number_missing false n h = refl
 
@@ -56,7 +55,7 @@ module _ (text : List ℕ) (at : ℕ) (key : List ℕ) where
   unfolding field_at_of
   no_equals h = rw (parts, h, and-false)
 
-  pub no_number : hex_at_of text (at + length key + 1) ≡ Hex.Wrong → Wrong ≡ field_at_of text at key
+  pub no_number : hex_at_of text (at + length key + 1) ≡ None → Wrong ≡ field_at_of text at key
   unfolding field_at_of hex_at_of
   no_number h =
       let e : hex_stands_at text (at + length key + 1) ≡ false = number_missing (hex_stands_at text (at + length key + 1)) (hex_number_at text (at + length key + 1)) h in
@@ -66,7 +65,7 @@ module _ (text : List ℕ) (at : ℕ) (key : List ℕ) where
   unfolding field_at_of
   no_end h = rw (parts, h, and-false)
 
-  pub all_there : (n : ℕ) → keyed ≡ true → equals ≡ true → hex_at_of text (at + length key + 1) ≡ Hex.Number n → ended ≡ true → Value (float_of n) ≡ field_at_of text at key
+  pub all_there : (n : ℕ) → keyed ≡ true → equals ≡ true → hex_at_of text (at + length key + 1) ≡ Some n → ended ≡ true → Value (float_of n) ≡ field_at_of text at key
   unfolding field_at_of hex_at_of field_value_at
   all_there n k q h l =
       let e : (hex_stands_at text (at + length key + 1) ≡ true) × (hex_number_at text (at + length key + 1) ≡ n) = number_there (hex_stands_at text (at + length key + 1)) (hex_number_at text (at + length key + 1)) n h in

@@ -6,7 +6,6 @@ ghost use Rattle.listing.specs.Reading.{Placed, field_width, field_at_of, fields
 
 use crate::{Field, Pair, ThreePoints, TwoPoints};
 use point::Point;
-use text::HexAt;
 
 // The only reader of a field.
 pub fn field_at(listing: &[u8], at: usize, key: &[u8]) -> Field
@@ -21,7 +20,7 @@ pub fn field_at(listing: &[u8], at: usize, key: &[u8]) -> Field
     }
     let digits = at + n + 1;
     let number = text::hex_at(listing, digits);
-    let HexAt::Number(b) = number else {
+    let Some(b) = number else {
         return Field::Wrong;
     };
     if !text::byte_stands_at(listing, digits, 8, b'\n') {

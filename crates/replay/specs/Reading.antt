@@ -1,13 +1,11 @@
 -- What a list of numbers says, byte by byte: a number takes nine bytes, eight lowercase hex digits and one more. Assumes nothing.
-use Rattle.std.specs.Prelude.{ℕ, zero, suc, Bool, true, ◌&&◌, List, ◌==◌, slice_index, take, drop}
-use Rattle.text.specs.declared.HexAt.{HexAt}
-use Rattle.text.specs.declared.HexAt.TheVariants.{Number, Wrong}
+use Rattle.std.specs.Prelude.{ℕ, zero, suc, Bool, true, ◌&&◌, List, Option, None, Some, ◌==◌, slice_index, take, drop}
 use Rattle.text.specs.Hex.{hex_at_of}
 
 -- 0 where no number stands
-abbrev pub number_or_zero : HexAt → ℕ
-number_or_zero (Number n) = n
-number_or_zero Wrong = 0
+abbrev pub number_or_zero : Option ℕ → ℕ
+number_or_zero (Some n) = n
+number_or_zero None = 0
 
 -- the number that stands first
 unfoldable pub number_in : List ℕ → ℕ

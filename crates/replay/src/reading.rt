@@ -8,7 +8,6 @@ ghost use Rattle.replay.specs.Reading.{number_in, followed_by};
 use crate::numbers::number_at;
 use std::io;
 use std::io::Read;
-use text::HexAt;
 
 // The next number; 0 if the bytes are no number, or at the end of the list.
 pub fn number<R: Read>(list: &mut R) -> io::Result<u32>
@@ -18,10 +17,7 @@ pub fn number<R: Read>(list: &mut R) -> io::Result<u32>
 {
     let mut digits = [0u8; 9];
     let n = input::read_full(list, &mut digits)?;
-    match text::hex_at(&digits[..n], 0) {
-        HexAt::Number(value) => Ok(value),
-        HexAt::Wrong => Ok(0),
-    }
+    Ok(text::hex_at(&digits[..n], 0).unwrap_or(0))
 }
 
 // A float is its bits.

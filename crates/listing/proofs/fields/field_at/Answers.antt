@@ -45,5 +45,5 @@ returns c =
     ap Value c.from_bits.ensures
     ∙ all_there _ _ _ _ (sym c.stands_at.ensures ∙ c.if-not-stands_at.false)
     (sym c.byte_stands_at.ensures ∙ c.if-not-byte_stands_at.false)
-    (sym c.hex_at-number.ensures ∙ c.in-Number.is)
+    (sym c.hex_at-number.ensures ∙ c.in-Some.is)
     (line_end _ _ _ true (sym c.byte_stands_at-2.ensures ∙ c.if-not-byte_stands_at-2.false))
