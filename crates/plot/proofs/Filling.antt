@@ -2,7 +2,7 @@
 use mathlib.Core.Path.{◌≡◌, refl, sym, ap, ap₂, ◌∙◌, subst₂}
 use mathlib.Core.Bool.{Bool, true, ◌&&◌, and-eq-true_iff}
 use mathlib.Core.List.{List, [], ◌∷◌, ◌++◌, map}
-use Prim.Native.Nat.{ℕ, suc, ◌+◌, ◌≤◌, ◌<◌}
+use Prim.Native.Nat.{ℕ, suc, ◌+◌, ◌≤◌}
 use native.Mathlib.Numerals.{add-one}
 use native.Mathlib.Omega.{arith}
 use lib.Ieee.{Float}
@@ -23,20 +23,18 @@ use Rattle.plot.proofs.Counting.{printable_at}
 abbrev pub moves_from : List (Vertex Float) → Bool → ℕ → List ℕ
 moves_from points up i = moves_of up (map whole_vertex (drop i points))
 
--- at point i of n: all that is left is printable, and written from here on it makes the whole text
-pub record Filled (points : List (Vertex Float)) (text₀ : List ℕ) (n : ℕ) (text : List ℕ) (at : ℕ) (up : Bool) (i : ℕ) : Type 0 where
-  pub within : i ≤ n
-  pub count : n ≡ length points
+-- at point i: all that is left is printable, and written from here on it makes the whole text
+pub record Filled (points : List (Vertex Float)) (text₀ text : List ℕ) (at : ℕ) (up : Bool) (i : ℕ) : Type 0 where
   pub printable : all_printable (drop i points) ≡ true
   pub kept : length text ≡ length text₀
   pub total : 3 + length (moves_from points true 0) ≡ at + length (moves_from points up i)
   pub stored : sets text₀ 3 (moves_from points true 0) ≡ sets text at (moves_from points up i)
 
-module _ (points : List (Vertex Float)) (text₀ : List ℕ) (n : ℕ) where
-  pub filled_start : n ≡ length points → all_printable points ≡ true → Filled points text₀ n text₀ 3 true 0
-  filled_start e p = record { within = omega arith; count = e; printable = p; kept = refl; total = refl; stored = refl }
+module _ (points : List (Vertex Float)) (text₀ : List ℕ) where
+  pub filled_start : all_printable points ≡ true → Filled points text₀ text₀ 3 true 0
+  filled_start p = record { printable = p; kept = refl; total = refl; stored = refl }
 
-  module _ (text : List ℕ) (at : ℕ) (up : Bool) (i : ℕ) (inv : Filled points text₀ n text at up i) (v : Vertex Float)
+  module _ (text : List ℕ) (at : ℕ) (up : Bool) (i : ℕ) (inv : Filled points text₀ text at up i) (v : Vertex Float)
       (here : drop i points ≡ v ∷ drop (suc i) points) where
     rest : moves_from points up i ≡ move_of (pen_of up) (whole_vertex v).position ++ moves_from points v.end (suc i)
     unfolding moves_of whole_vertex
@@ -57,13 +55,11 @@ module _ (points : List (Vertex Float)) (text₀ : List ℕ) (n : ℕ) where
     filled_room h =
         omega (arith, inv.total, left, inv.kept, h, move_length_is up (whole_vertex v).position, move_length_is true (whole_vertex v).position)
 
-    pub filled_on : (text' : List ℕ) (at' : ℕ) (up' : Bool) → up' ≡ v.end → i < n → length text' ≡ length text → WrittenAs (move_of (pen_of up) (whole_vertex v).position) text at text' at'
-        → Filled points text₀ n text' at' up' (i + 1)
-    filled_on text' at' up' e h k w =
-        subst₂ (Filled points text₀ n text' at') (sym e) (sym (add-one i))
+    pub filled_on : (text' : List ℕ) (at' : ℕ) (up' : Bool) → up' ≡ v.end → length text' ≡ length text → WrittenAs (move_of (pen_of up) (whole_vertex v).position) text at text' at'
+        → Filled points text₀ text' at' up' (i + 1)
+    filled_on text' at' up' e k w =
+        subst₂ (Filled points text₀ text' at') (sym e) (sym (add-one i))
         record {
-          within = omega arith;
-          count = inv.count;
           printable = ((and-eq-true_iff (printable_at v) (all_printable (drop (suc i) points))).0 tested).1;
           kept = k ∙ inv.kept;
           total = omega (arith, inv.total, left, w.next);
@@ -74,11 +70,10 @@ module _ (points : List (Vertex Float)) (text₀ : List ℕ) (n : ℕ) where
               ∙ ap₂ (λ (b : List ℕ) (m : ℕ). sets b m (moves_from points v.end (suc i))) (sym w.stored) (sym w.next);
         }
 
-  pub filled_end : (text : List ℕ) (at : ℕ) (up : Bool) (i : ℕ) → Filled points text₀ n text at up i → n ≤ i → WrittenAs (moves_from points true 0) text₀ 3 text at
+  pub filled_end : (text : List ℕ) (at : ℕ) (up : Bool) (i : ℕ) → Filled points text₀ text at up i → length points ≤ i → WrittenAs (moves_from points true 0) text₀ 3 text at
   unfolding moves_of
   filled_end text at up i inv h =
-      let l : length points ≤ i = omega (arith, inv.count) in
-      let e : moves_from points up i ≡ [] = ap (λ (l : List (Vertex Float)). moves_of up (map whole_vertex l)) (drop_of_length-le points l) in
+      let e : moves_from points up i ≡ [] = ap (λ (l : List (Vertex Float)). moves_of up (map whole_vertex l)) (drop_of_length-le points h) in
       record { stored = sym (inv.stored ∙ ap (sets text at) e); next = omega (arith, inv.total, ap length e) }
 
 -- ---- the first three bytes, and the moves after them

@@ -1,9 +1,9 @@
 pub mod Moves
 pub mod Spots
 pub mod Measure
+pub mod Places
 pub mod Room
 pub mod Writes
 pub mod Counting
 pub mod Filling
-pub mod Outcomes
 pub mod ReadBack

@@ -1,18 +1,17 @@
 -- A point in plotter units, from its two coordinates; and signed numbers as the machine holds them. Assumes nothing.
 use mathlib.Core.Path.{◌≡◌, refl, sym, ap, ap₂, ◌∙◌, subst}
-use mathlib.Core.Bool.{Bool, true, false, ◌&&◌, cond, and-false}
-use Prim.Native.Nat.{ℕ}
-use native.Mathlib.Omega.{arith}
+use mathlib.Core.Bool.{Bool, true, false, ◌&&◌, cond, and-false, and-eq-true_iff}
 use lib.IntN.{ℤ}
 use lib.Ieee.{Float}
 use mir.Syntax.{w32, w64}
 use mir.Val.{SFits, to_z, of_z}
 use mir.ValLaws.{to_z-of_z}
 use mir.Facts.{sfits_widen}
-use Rattle.units.specs.declared.Unit.TheVariants.{Whole, Beyond}
+use Rattle.std.specs.Prelude.{Option, Some, None}
 use Rattle.units.specs.Whole.{whole_of, printable_of, unit_of}
-use Rattle.plot.specs.declared.Spot.{Spot}
-use Rattle.plot.specs.declared.Spot.TheVariants as found
+use Rattle.units.proofs.Nearest.{whole_range}
+use Rattle.units.proofs.Units.{range_fits}
+use Rattle.units.proofs.Points.{unit_beyond, unit_whole, unit_written}
 use Rattle.plot.specs.Plot.{spot_of}
 
 -- ---- a number of 32 bits, and widened to 64
@@ -30,50 +29,44 @@ module _ (z : ℤ) (F : SFits w32 z) where
   wide_back = to_z-of_z w64 (to_z w32 (of_z w32 z)) wide_fits ∙ narrow_back
 
 -- ---- what the two coordinates are
-whole_yes : (b : Bool) (n m : ℤ) → Whole m ≡ cond b (Whole n) Beyond → (b ≡ true) × (m ≡ n)
-whole_yes true n m h = (refl, cc)
-whole_yes false n m h = absurd (let z : ◌≡◌ {A = ℕ} 0 1 = cc in omega arith)
-
-whole_no : (b : Bool) (n : ℤ) → Beyond ≡ cond b (Whole n) Beyond → b ≡ false
-whole_no true n h = absurd (let z : ◌≡◌ {A = ℕ} 0 1 = cc in omega arith)
-whole_no false n h = refl
-
 module _ (x y : Float) where
-  abbrev chosen : Bool → Spot
-  chosen b = cond b (found.At (whole_of x) (whole_of y)) found.Beyond
+  abbrev chosen : Bool → Option (ℤ × ℤ)
+  chosen b = cond b (Some (whole_of x, whole_of y)) None
 
-  pub no_x : Beyond ≡ unit_of x → found.Beyond ≡ spot_of x y
-  unfolding unit_of spot_of
-  no_x h = sym (ap (λ (b : Bool). chosen (b && printable_of y)) (whole_no (printable_of x) (whole_of x) h))
+  pub no_x : unit_of x ≡ None → None ≡ spot_of x y
+  unfolding spot_of
+  no_x h = sym (ap (λ (b : Bool). chosen (b && printable_of y)) (unit_beyond x h))
 
-  pub no_y : Beyond ≡ unit_of y → found.Beyond ≡ spot_of x y
-  unfolding unit_of spot_of
-  no_y h = sym (ap (λ (b : Bool). chosen (printable_of x && b)) (whole_no (printable_of y) (whole_of y) h) ∙ ap chosen (and-false (printable_of x)))
+  pub no_y : unit_of y ≡ None → None ≡ spot_of x y
+  unfolding spot_of
+  no_y h = sym (ap (λ (b : Bool). chosen (printable_of x && b)) (unit_beyond y h) ∙ ap chosen (and-false (printable_of x)))
 
-  pub both : (a b : ℤ) → Whole a ≡ unit_of x → Whole b ≡ unit_of y → found.At a b ≡ spot_of x y
-  unfolding unit_of spot_of
+  pub both : (a b : ℤ) → unit_of x ≡ Some a → unit_of y ≡ Some b → Some (to_z w32 (of_z w32 a), to_z w32 (of_z w32 b)) ≡ spot_of x y
+  unfolding spot_of
   both a b h k =
-      let p = whole_yes (printable_of x) (whole_of x) a h in
-      let q = whole_yes (printable_of y) (whole_of y) b k in
-      ap₂ found.At p.1 q.1 ∙ sym (ap₂ (λ (s t : Bool). chosen (s && t)) p.0 q.0)
+      ap₂ (λ (m n : ℤ). Some (m, n)) (unit_written x a h) (unit_written y b k)
+      ∙ sym (ap₂ (λ (s t : Bool). chosen (s && t)) (unit_whole x a h).0 (unit_whole y b k).0)
 
--- ---- and back: what a found point says of its coordinates
-spot_cases : (b : Bool) (n m x y : ℤ) → found.At n m ≡ cond b (found.At x y) found.Beyond → (b ≡ true) × (n ≡ x) × (m ≡ y)
-spot_cases true n m x y h = (refl, cc, cc)
-spot_cases false n m x y h = absurd (let z : ◌≡◌ {A = ℕ} 0 1 = cc in omega arith)
+-- ---- and back: what a found point says of its coordinates, which are as the machine holds them
+held : (x : Float) (z : ℤ) → printable_of x ≡ true → z ≡ whole_of x → to_z w32 (of_z w32 z) ≡ whole_of x
+held x z h e = ap (λ (n : ℤ). to_z w32 (of_z w32 n)) e ∙ to_z-of_z w32 (whole_of x) (range_fits (whole_of x) (whole_range x h))
 
-none_cases : (b : Bool) (x y : ℤ) → found.Beyond ≡ cond b (found.At x y) found.Beyond → b ≡ false
-none_cases true x y h = absurd (let z : ◌≡◌ {A = ℕ} 0 1 = cc in omega arith)
-none_cases false x y h = refl
+spot_cases : (b : Bool) (p : ℤ × ℤ) (x y : ℤ) → Some p ≡ cond b (Some (x, y)) None → (b ≡ true) × (p.0 ≡ x) × (p.1 ≡ y)
+spot_cases true p x y h = (refl, cc, cc)
+spot_cases false p x y h = (cc, cc, cc)
 
-pub spot_yes : (x y : Float) (n m : ℤ) → found.At n m ≡ spot_of x y → (printable_of x && printable_of y ≡ true) × (n ≡ whole_of x) × (m ≡ whole_of y)
+none_cases : (b : Bool) (p : ℤ × ℤ) → None ≡ cond b (Some p) None → b ≡ false
+none_cases true p h = cc
+none_cases false p h = refl
+
+pub spot_yes : (x y : Float) (p : ℤ × ℤ) → Some p ≡ spot_of x y
+    → (printable_of x && printable_of y ≡ true) × (to_z w32 (of_z w32 p.0) ≡ whole_of x) × (to_z w32 (of_z w32 p.1) ≡ whole_of y)
 unfolding spot_of
-spot_yes x y n m h = spot_cases (printable_of x && printable_of y) n m (whole_of x) (whole_of y) h
+spot_yes x y p h =
+    let s = spot_cases (printable_of x && printable_of y) p (whole_of x) (whole_of y) h in
+    let b = (and-eq-true_iff (printable_of x) (printable_of y)).0 s.0 in
+    (s.0, held x p.0 b.0 s.1, held y p.1 b.1 s.2)
 
-pub spot_no : (x y : Float) → found.Beyond ≡ spot_of x y → printable_of x && printable_of y ≡ false
+pub spot_no : (x y : Float) → None ≡ spot_of x y → printable_of x && printable_of y ≡ false
 unfolding spot_of
-spot_no x y h = none_cases (printable_of x && printable_of y) (whole_of x) (whole_of y) h
-
--- the coordinates as they were read
-pub spot_read : (s : Spot) (a b x y : Float) → s ≡ spot_of a b → a ≡ x → b ≡ y → s ≡ spot_of x y
-spot_read s a b x y h e f = h ∙ ap₂ spot_of e f
+spot_no x y h = none_cases (printable_of x && printable_of y) (whole_of x, whole_of y) h

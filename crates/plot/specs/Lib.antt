@@ -1,3 +1,4 @@
 pub mod Text
 pub mod Plot
 pub mod ReadBack
+pub mod Lent

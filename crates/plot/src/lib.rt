@@ -1,58 +1,56 @@
 // Finished points to HP-GL, exact to the byte: all points are tested and measured before the first byte is written.
 #![tactic(auto)]
 
-ghost use Rattle.std.specs.Prelude.{◌≡◌};
+ghost use Rattle.std.specs.Prelude.{◌≡◌, length, get_or};
+ghost use Rattle.std.specs.Float.{nan};
+ghost use Rattle.columns.specs.Flags.{is_flag_of};
 ghost use Rattle.contours.specs.Finished.{finished_of};
-ghost use Rattle.plot.specs.Plot.{plot, plot_of};
+ghost use Rattle.plot.specs.Plot.{plot, plot_of, plotted_of, spot_of};
+ghost use Rattle.plot.specs.Lent.{points_of};
 
-use answer::{Answer, Refusal};
-use measuring::measured;
-use writing::put_text;
+use answer::Refusal;
+use columns::{is_flag, read};
 
 mod measuring;
 mod writing;
 
-// A point in plotter units; or one of its coordinates has none.
+// Finished points, as many as the shortest column has entries.
 #[derive(Clone, Copy)]
-pub enum Spot {
-    At(i32, i32),
-    Beyond,
+struct Finished<'a> {
+    x: &'a [f32],
+    y: &'a [f32],
+    end: &'a [u8],
 }
 
-// Whether all points have plotter units, and then whether their text fits.
-#[derive(Clone, Copy)]
-pub enum Measured {
-    Fits,
-    Short,
-    Unprintable,
-}
+impl Finished<'_> {
+    fn len(&self) -> usize
+        ensures { result ≡ length (points_of self.now) }
+    {
+        contours::shortest(self.x.len(), self.y.len(), self.end.len())
+    }
 
-// The answer, and how many bytes were written.
-#[derive(Clone, Copy)]
-pub struct Plotted {
-    pub answer: Answer,
-    pub written: usize,
+    // A point in plotter units; none where one of its coordinates has none.
+    fn spot(&self, i: usize) -> Option<(i32, i32)>
+        ensures { result ≡ spot_of (get_or self.now.x.now i nan) (get_or self.now.y.now i nan) }
+    {
+        let px = units::whole(read(self.x, i, f32::NAN))?;
+        let py = units::whole(read(self.y, i, f32::NAN))?;
+        Some((px, py))
+    }
+
+    fn flag(&self, i: usize) -> bool
+        ensures { result ≡ is_flag_of (get_or self.now.end.now i 0) }
+    {
+        is_flag(read(self.end, i, 0))
+    }
 }
 
 // 12 before 13; neither writes a byte.
-pub fn plot(x: &[f32], y: &[f32], end: &[u8], text: &mut [u8]) -> Plotted
-    ensures { plot result text.new ≡ plot_of (finished_of x.now y.now end.now) text.old }
+#[tactic(auto, using(std::proofs::lemmas::Bool::Decides::nat_tests), unfolding(crate::specs::Plot::measured_of, crate::specs::Plot::plot_in, crate::specs::Plot::plot_of))]
+pub fn plot(x: &[f32], y: &[f32], end: &[u8], text: &mut [u8]) -> Result<usize, Refusal>
+    ensures { plot (plotted_of result) text.new ≡ plot_of (finished_of x.now y.now end.now) text.old }
 {
-    match measured(x, y, end, text.len()) {
-        Measured::Unprintable => Plotted {
-            answer: Err(Refusal::NotPrintable),
-            written: 0,
-        },
-        Measured::Short => Plotted {
-            answer: Err(Refusal::BufferShort),
-            written: 0,
-        },
-        Measured::Fits => {
-            let written = put_text(x, y, end, text);
-            Plotted {
-                answer: Ok(()),
-                written,
-            }
-        }
-    }
+    let points = Finished { x, y, end };
+    points.measured(text.len())?;
+    Ok(points.put_text(text))
 }

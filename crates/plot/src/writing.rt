@@ -3,24 +3,20 @@
 ghost use Rattle.std.specs.Prelude.{◌≡◌, true, [], ◌∷◌, ◌++◌, map, ◌+◌, ◌≤◌, length};
 ghost use Rattle.text.specs.Signed.{signed_of};
 ghost use Rattle.text.specs.Written.{WrittenAs};
-ghost use Rattle.contours.specs.Finished.{position, finished_of};
+ghost use Rattle.contours.specs.Finished.{position};
 ghost use Rattle.plot.specs.Text.{pen_of, move_of, moves_of};
 ghost use Rattle.plot.specs.Plot.{all_printable, whole_vertex, plot_text};
+ghost use Rattle.plot.specs.Lent.{points_of};
 
-use crate::Spot;
-use crate::measuring::spot;
-use columns::{is_flag, read};
+use crate::Finished;
 
 // Writes the pen's letters and the blank after them, and gives the place after both.
 fn put_pen(text: &mut [u8], at: usize, up: bool) -> usize
     requires { at + 3 ≤ length text.old }
     ensures { WrittenAs (pen_of up ++ (0x20 ∷ [])) text.old at text.new result }
 {
-    if up {
-        text::put_bytes(text, at, b"PU ");
-        return at + 3;
-    }
-    text::put_bytes(text, at, b"PD ");
+    let letters = if up { b"PU " } else { b"PD " };
+    text::put_bytes(text, at, letters);
     at + 3
 }
 
@@ -40,38 +36,37 @@ fn put_move(text: &mut [u8], at: usize, up: bool, x: i32, y: i32) -> usize
     ensures { WrittenAs (move_of (pen_of up) (position x y)) text.old at text.new result }
 {
     let first = put_pen(text, at, up);
-    let second = put_number(text, first, x, 0x2c);
-    put_number(text, second, y, 0x3b)
+    let second = put_number(text, first, x, b',');
+    put_number(text, second, y, b';')
 }
 
-// Writes the moves after the first three bytes. A contour begins at the first point and after each flagged one.
-fn put_moves(x: &[f32], y: &[f32], end: &[u8], text: &mut [u8]) -> usize
-    requires { (all_printable (finished_of x.now y.now end.now) ≡ true) × (3 + length (moves_of true (map whole_vertex (finished_of x.now y.now end.now))) ≤ length text.old) }
-    ensures { WrittenAs (moves_of true (map whole_vertex (finished_of x.now y.now end.now))) text.old 3 text.new result }
-{
-    let n = contours::shortest(x.len(), y.len(), end.len());
-    let mut at = 3;
-    let mut up = true;
-    let mut i = 0;
-    while i < n {
-        match spot(read(x, i, f32::NAN), read(y, i, f32::NAN)) {
-            // This never happens: all points were tested.
-            Spot::Beyond => return at,
-            Spot::At(px, py) => {
-                let flag = is_flag(read(end, i, 0));
-                at = put_move(text, at, up, px, py);
-                up = flag;
-                i += 1;
-            }
+impl Finished<'_> {
+    // Writes the moves after the first three bytes. A contour begins at the first point and after each flagged one.
+    fn put_moves(&self, text: &mut [u8]) -> usize
+        requires printable { all_printable (points_of self.now) ≡ true }
+        requires room { 3 + length (moves_of true (map whole_vertex (points_of self.now))) ≤ length text.old }
+        ensures { WrittenAs (moves_of true (map whole_vertex (points_of self.now))) text.old 3 text.new result }
+    {
+        let mut at = 3;
+        let mut up = true;
+        for i in 0..self.len() {
+            // This is never none: all points were tested.
+            let Some((px, py)) = self.spot(i) else {
+                return at;
+            };
+            let flag = self.flag(i);
+            at = put_move(text, at, up, px, py);
+            up = flag;
         }
+        at
     }
-    at
-}
 
-pub fn put_text(x: &[f32], y: &[f32], end: &[u8], text: &mut [u8]) -> usize
-    requires { (all_printable (finished_of x.now y.now end.now) ≡ true) × (length (plot_text (finished_of x.now y.now end.now)) ≤ length text.old) }
-    ensures { WrittenAs (plot_text (finished_of x.now y.now end.now)) text.old 0 text.new result }
-{
-    text::put_bytes(text, 0, b"IN;");
-    put_moves(x, y, end, text)
+    pub fn put_text(&self, text: &mut [u8]) -> usize
+        requires printable { all_printable (points_of self.now) ≡ true }
+        requires room { length (plot_text (points_of self.now)) ≤ length text.old }
+        ensures { WrittenAs (plot_text (points_of self.now)) text.old 0 text.new result }
+    {
+        text::put_bytes(text, 0, b"IN;");
+        self.put_moves(text)
+    }
 }

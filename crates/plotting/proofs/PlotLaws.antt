@@ -13,8 +13,7 @@ use Rattle.columns.specs.Flags.{is_flag_of}
 use Rattle.answer.specs.Number.{is_done}
 use Rattle.point.specs.declared.Setting.{Setting}
 use Rattle.contours.specs.Finished.{position, Vertex, vertex, finished_of}
-use Rattle.plot.specs.declared.Plotted.{Plotted}
-use Rattle.plot.specs.Plot.{Plot, plot, all_printable, plot_text, plot_in, plot_of}
+use Rattle.plot.specs.Plot.{Plotted, Plot, plot, all_printable, plot_text, plot_in, plot_of}
 use Rattle.listing.specs.Writing.{column_points}
 use Rattle.listing.specs.Program.{Said, program_output, said_of}
 use Rattle.listing.specs.Told.{Telling, told_of}

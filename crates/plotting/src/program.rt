@@ -24,10 +24,9 @@ pub fn plot_listing(setting: Setting, input: &[u8], text: &mut [u8]) -> PlotAcco
     }
     let n = told.points;
     let plotted = plot::plot(&x[0..n], &y[0..n], &end[0..n], text);
-    let plot_answer = plotted.answer;
     PlotAccount {
-        answer: plot_answer,
+        answer: plotted.map(|_| ()),
         line: 0,
-        written: plotted.written,
+        written: plotted.unwrap_or(0),
     }
 }

@@ -11,6 +11,11 @@ use lib.Ieee.{nan}
 use lib.Ieee.Bits.{is_true, is_false}
 use lib.ListN.{length, get_or, drop}
 use lib.Seq.{sets, sets-eq}
+use Rattle.std.specs.Prelude.{Result, Ok, Err}
+use Rattle.answer.specs.declared.Refusal.{Refusal}
+use Rattle.answer.specs.Answer.{Answer}
+use Rattle.units.specs.Columns.{wholes_of}
+use Rattle.plot.specs.Plot.{plotted_of}
 use Rattle.store.specs.Columns.{Columns}
 use Rattle.point.specs.Point.{point_at}
 use Rattle.listing.specs.declared.Pair as Pairs
@@ -77,11 +82,27 @@ plot_reply_settled = told _ (λ p. (p.answer, p.written, p.text)) (λ a. refl)
 pub whole_reply_settled : WholeReplySettled
 whole_reply_settled = told _ (λ w. (w.answer, w.points, w.x, w.y)) (λ a. refl)
 
+-- a result is found again in its answer and its count
+unfoldable counted : Answer → ℕ → Result ℕ Refusal
+counted (Ok done) n = Ok n
+counted (Err r) n = Err r
+
+whole_back : (r : Result ℕ Refusal) → counted (wholes_of r).answer (wholes_of r).points ≡ r
+unfolding counted
+whole_back (Ok n) = refl
+whole_back (Err r) = refl
+
+plot_back : (r : Result ℕ Refusal) → counted (plotted_of r).answer (plotted_of r).written ≡ r
+unfolding counted
+plot_back (Ok n) = refl
+plot_back (Err r) = refl
+
 pub rounding_settled : RoundingSettled
-rounding_settled = told _ (λ w. (w.result, w.x, w.y)) (λ a. refl)
+rounding_settled =
+    told _ (λ w. (counted w.result.answer w.result.points, w.x, w.y)) (λ a. ap (λ (r : Result ℕ Refusal). (r, a.1, a.2)) (whole_back a.0))
 
 pub plot_settled : PlotSettled
-plot_settled = told _ (λ p. (p.result, p.text)) (λ a. refl)
+plot_settled = told _ (λ p. (counted p.result.answer p.result.written, p.text)) (λ a. ap (λ (r : Result ℕ Refusal). (r, a.1)) (plot_back a.0))
 
 pub plotting_settled : PlottingSettled
 plotting_settled = told _ (λ p. (p.result, p.text)) (λ a. refl)

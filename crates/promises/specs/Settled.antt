@@ -2,7 +2,8 @@
 -- what it was lent, and a definition over what it was given. So for each form that a contract has: two outcomes that satisfy it are the same, part by part. Which public
 -- function has which form is a table of docs/PROMISES.md, held to the sources by tests/settled/run.
 -- All NaNs are one value here; which bytes a NaN then has in an f32 column is not settled, and that is the one exception. Assumes nothing.
-use Rattle.std.specs.Prelude.{ℕ, ◌≤◌, ◌<◌, ◌≡◌, ◌⊎◌, Bool, List, ◌++◌, ℤ, Float, length, drop}
+use Rattle.std.specs.Prelude.{ℕ, ◌≤◌, ◌<◌, ◌≡◌, ◌⊎◌, Bool, List, ◌++◌, Result, ℤ, Float, length, drop}
+use Rattle.answer.specs.declared.Refusal.{Refusal}
 use Rattle.answer.specs.Answer.{Answer}
 use Rattle.primitives.specs.declared.State.{State}
 use Rattle.store.specs.declared.StoreState.{StoreState}
@@ -24,10 +25,8 @@ use Rattle.listing.specs.Writing.{listed, listed_as}
 use Rattle.listing.specs.Program.{listing_of}
 use Rattle.listing.specs.Told.{telling}
 use Rattle.abi.specs.Reply.{reply, flat_reply, plot_reply, whole_reply}
-use Rattle.units.specs.declared.Wholes.{Wholes}
-use Rattle.units.specs.Columns.{rounding}
-use Rattle.plot.specs.declared.Plotted.{Plotted}
-use Rattle.plot.specs.Plot.{plot}
+use Rattle.units.specs.Columns.{rounding, wholes_of}
+use Rattle.plot.specs.Plot.{plot, plotted_of}
 use Rattle.plotting.specs.declared.PlotAccount.{PlotAccount}
 use Rattle.plotting.specs.PlotListing.{plotting}
 
@@ -88,10 +87,10 @@ WholeReplySettled = Settles (λ (w : ℕ × ℕ × List ℤ × List ℤ). whole_
 
 -- ---- finished points: in whole units, and as a plot; a listing as a plot
 abbrev pub RoundingSettled : Type 0
-RoundingSettled = Settles (λ (w : Wholes × List ℤ × List ℤ). rounding w.0 w.1 w.2)
+RoundingSettled = Settles (λ (w : Result ℕ Refusal × List ℤ × List ℤ). rounding (wholes_of w.0) w.1 w.2)
 
 abbrev pub PlotSettled : Type 0
-PlotSettled = Settles (λ (p : Plotted × List ℕ). plot p.0 p.1)
+PlotSettled = Settles (λ (p : Result ℕ Refusal × List ℕ). plot (plotted_of p.0) p.1)
 
 abbrev pub PlottingSettled : Type 0
 PlottingSettled = Settles (λ (p : PlotAccount × List ℕ). plotting p.0 p.1)

@@ -13,12 +13,11 @@ use borrow.Author.Tests.{leb-true, lt-leb}
 use mir.Syntax.{w32}
 use mir.Val.{SFits, of_z, to_z}
 use mir.Facts.{to_z-of_z, to_z_pos}
+use Rattle.std.specs.Prelude.{Option, Some, None}
 use Rattle.rounding.specs.Nearest.{signed}
 use Rattle.leaves.specs.Small.{negative_of}
 use Rattle.leaves.specs.Whole.{limit32, whole_near_of}
 use Rattle.leaves.proofs.WholeNear.{beyond, whole_near_is}
-use Rattle.units.specs.declared.Unit.{Unit}
-use Rattle.units.specs.declared.Unit.TheVariants.{Whole, Beyond}
 use Rattle.units.specs.Whole.{whole_of, in_range, printable_of, unit_of}
 
 -- ---- the range, by the sign
@@ -39,14 +38,14 @@ out false n h = range_above n ∙ lt-leb n 32767 (less n h)
     less n h = omega arith
 
 -- ---- a unit of a sign and a size
-abbrev pub of_size : Bool → ℕ → Unit
-of_size s n = cond (in_range (signed s n)) (Whole (signed s n)) Beyond
+abbrev pub of_size : Bool → ℕ → Option ℤ
+of_size s n = cond (in_range (signed s n)) (Some (signed s n)) None
 
-pub size_yes : (s : Bool) (n : ℕ) → in_range (signed s n) ≡ true → Whole (signed s n) ≡ of_size s n
-size_yes s n h = sym (ap (λ (t : Bool). cond t (Whole (signed s n)) Beyond) h)
+pub size_yes : (s : Bool) (n : ℕ) → in_range (signed s n) ≡ true → Some (signed s n) ≡ of_size s n
+size_yes s n h = sym (ap (λ (t : Bool). cond t (Some (signed s n)) None) h)
 
-pub size_no : (s : Bool) (n : ℕ) → in_range (signed s n) ≡ false → Beyond ≡ of_size s n
-size_no s n h = sym (ap (λ (t : Bool). cond t (Whole (signed s n)) Beyond) h)
+pub size_no : (s : Bool) (n : ℕ) → in_range (signed s n) ≡ false → None ≡ of_size s n
+size_no s n h = sym (ap (λ (t : Bool). cond t (Some (signed s n)) None) h)
 
 -- a size above 65,536 is still one after rounding
 far : (N D : ℕ) → 0 < D → 65536 * D < N → 32768 < (2 * N + D) / (2 * D)

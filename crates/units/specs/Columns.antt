@@ -1,16 +1,20 @@
 -- Finished points in whole plotter units: RULES, Whole units. Assumes nothing.
-use Rattle.std.specs.Prelude.{ℕ, min, Bool, true, false, ◌&&◌, List, [], ◌∷◌, map, ℤ, leb, Float, length, take}
+use Rattle.std.specs.Prelude.{ℕ, min, Bool, true, false, ◌&&◌, List, [], ◌∷◌, map, Result, Ok, Err, ℤ, leb, Float, length, take}
 use Rattle.std.proofs.lemmas.List.Edits.{sets}
-use Rattle.answer.specs.Answer.{Answer}
-use Rattle.answer.specs.Answer.{Done, NotPrintable, BufferShort}
-use Rattle.units.specs.declared.Wholes.{Wholes}
+use Rattle.answer.specs.declared.Refusal.{Refusal}
+use Rattle.answer.specs.Answer.{Answer, Done, NotPrintable, BufferShort}
 use Rattle.units.specs.Whole.{whole_of, printable_of}
 
 unfoldable pub all_printable : List Float → Bool
 all_printable [] = true
 all_printable (v ∷ vs) = printable_of v && all_printable vs
 
--- what the caller gets: the answer, how many points there are, and what both columns then hold
+-- the answer, and how many points were written
+pub record Wholes : Type 0 where
+  pub answer : Answer
+  pub points : ℕ
+
+-- what the caller gets: these, and what both columns then hold
 pub record Rounding : Type 0 where
   pub result : Wholes
   pub x : List ℤ
@@ -21,6 +25,11 @@ rounding result x y = record { result = result; x = x; y = y }
 
 abbrev pub wholes : Answer → ℕ → Wholes
 wholes answer points = record { answer = answer; points = points }
+
+-- what a result says: a refusal writes none
+abbrev pub wholes_of : Result ℕ Refusal → Wholes
+wholes_of (Ok points) = wholes Done points
+wholes_of (Err refusal) = wholes (Err refusal) 0
 
 -- 12, then 13; "neither writes"
 unfoldable pub rounding_in : Bool → Bool → List Float → List Float → List ℤ → List ℤ → Rounding

@@ -1,11 +1,9 @@
 -- 02, One: "Each coordinate becomes the nearest whole number, halves away from zero". What that means, and which numbers the plotter takes. Assumes nothing.
-use Rattle.std.specs.Prelude.{◌+◌, ◌*◌, ◌/◌, ◌≤◌, ◌≡◌, Bool, false, cond, ℤ, pos, negsuc, nat_abs, leb, Float}
+use Rattle.std.specs.Prelude.{◌+◌, ◌*◌, ◌/◌, ◌≤◌, ◌≡◌, Bool, false, cond, Option, Some, None, ℤ, pos, negsuc, nat_abs, leb, Float}
 use Rattle.std.specs.Float.{nan, inf, fin}
 use Rattle.std.specs.Float.Ieee.Positive.{num, den}
 use Rattle.rounding.specs.Nearest.{signed, far_from}
 use Rattle.leaves.specs.Small.{negative_of}
-use Rattle.units.specs.declared.Unit.{Unit}
-use Rattle.units.specs.declared.Unit.TheVariants.{Whole, Beyond}
 
 -- a finite x is num x / den x with its sign; one half more, down to a whole number, is the nearest with halves away from zero
 unfoldable pub whole_of : Float → ℤ
@@ -22,8 +20,9 @@ printable_of nan = false
 printable_of (inf s) = false
 printable_of (fin s m e) = in_range (whole_of (fin s m e))
 
-unfoldable pub unit_of : Float → Unit
-unit_of x = cond (printable_of x) (Whole (whole_of x)) Beyond
+-- the number, where there is one
+unfoldable pub unit_of : Float → Option ℤ
+unit_of x = cond (printable_of x) (Some (whole_of x)) None
 
 -- ---- the law, without the formula: n lies within one half of x, no whole number is nearer, and of two that are as near n is farther from zero. Distances are
 -- counted in 1 / den x. Proved in proofs/Nearest, with the law that only one whole number has it

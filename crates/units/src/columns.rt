@@ -1,77 +1,53 @@
 // Finished points to whole plotter units. All are tested before one is written.
 
-ghost use Rattle.std.specs.Prelude.{◌≡◌, true, ◌≤◌, length, take, map};
+ghost use Rattle.std.specs.Prelude.{◌≡◌, true, ◌≤◌, length, map};
 ghost use Rattle.std.proofs.lemmas.List.Edits.{sets};
 ghost use Rattle.units.specs.Whole.{whole_of};
-ghost use Rattle.units.specs.Columns.{all_printable, rounding, rounding_of};
+ghost use Rattle.units.specs.Columns.{all_printable, rounding, rounding_of, wholes_of};
 
 use crate::coordinate::whole;
-use crate::{Unit, Wholes};
 use answer::Refusal;
 
-// Whether the first n entries round into the plotter's range.
-fn all_printable(column: &[f32], n: usize) -> bool
-    requires { n ≤ length column.now }
-    ensures { result ≡ all_printable (take n column.now) }
+// Whether all entries round into the plotter's range.
+fn all_printable(column: &[f32]) -> bool
+    ensures { result ≡ all_printable column.now }
 {
-    let mut i = 0;
-    while i < n {
-        match whole(column[i]) {
-            Unit::Whole(_) => {}
-            Unit::Beyond => return false,
-        }
-        i += 1;
-    }
-    true
+    column.iter().all(|v| whole(*v).is_some())
 }
 
-// The first n entries, rounded.
-fn put_wholes(column: &[f32], n: usize, to: &mut [i32])
-    requires from_room { n ≤ length column.now }
-    requires to_room { n ≤ length to.old }
-    requires printable { all_printable (take n column.now) ≡ true }
-    ensures { to.new ≡ sets to.old 0 (map whole_of (take n column.now)) }
+// The entries, rounded.
+fn put_wholes(from: &[f32], to: &mut [i32])
+    requires room { length from.now ≤ length to.old }
+    requires printable { all_printable from.now ≡ true }
+    ensures { to.new ≡ sets to.old 0 (map whole_of from.now) }
 {
-    let mut i = 0;
-    while i < n {
-        match whole(column[i]) {
-            Unit::Whole(v) => to[i] = v,
-            Unit::Beyond => {}
+    for (i, v) in from.iter().enumerate() {
+        // This is never none: all entries were tested.
+        if let Some(n) = whole(*v) {
+            to[i] = n;
         }
-        i += 1;
     }
 }
 
 // 12 before 13; neither writes.
-pub fn whole_points(x: &[f32], y: &[f32], whole_x: &mut [i32], whole_y: &mut [i32]) -> Wholes
-    ensures { rounding result whole_x.new whole_y.new ≡ rounding_of x.now y.now whole_x.old whole_y.old }
+#[tactic(auto, using(std::proofs::lemmas::Bool::Decides::nat_tests), unfolding(crate::specs::Columns::rounding_in, crate::specs::Columns::rounding_of))]
+pub fn whole_points(
+    x: &[f32],
+    y: &[f32],
+    whole_x: &mut [i32],
+    whole_y: &mut [i32],
+) -> Result<usize, Refusal>
+    ensures { rounding (wholes_of result) whole_x.new whole_y.new ≡ rounding_of x.now y.now whole_x.old whole_y.old }
 {
-    let mut n = x.len();
-    if y.len() < n {
-        n = y.len();
+    let n = x.len().min(y.len());
+    let (x, y) = (&x[..n], &y[..n]);
+    if !all_printable(x) || !all_printable(y) {
+        return Err(Refusal::NotPrintable);
     }
-    if !all_printable(x, n) {
-        return Wholes {
-            answer: Err(Refusal::NotPrintable),
-            points: 0,
-        };
+    if whole_x.len() < n || whole_y.len() < n {
+        return Err(Refusal::BufferShort);
     }
-    if !all_printable(y, n) {
-        return Wholes {
-            answer: Err(Refusal::NotPrintable),
-            points: 0,
-        };
-    }
-    if (whole_x.len() < n) | (whole_y.len() < n) {
-        return Wholes {
-            answer: Err(Refusal::BufferShort),
-            points: 0,
-        };
-    }
-    put_wholes(x, n, whole_x);
-    put_wholes(y, n, whole_y);
-    Wholes {
-        answer: Ok(()),
-        points: n,
-    }
+    put_wholes(x, whole_x);
+    put_wholes(y, whole_y);
+    Ok(n)
 }

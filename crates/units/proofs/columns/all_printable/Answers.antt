@@ -1,17 +1,13 @@
--- `units::columns::all_printable` meets its contract. The loop's invariant: what is left to test gives what the whole gives. Assumes nothing.
-use mathlib.Core.Path.{sym, ◌∙◌}
-use Rattle.units.proofs.Points.{unit_whole, unit_beyond, passed_more, passed_bad, passed_end}
+-- `units::columns::all_printable` meets its contract: `all` of the numbers. Assumes nothing.
+use mathlib.Core.Path.{◌∙◌}
+use Rattle.std.proofs.Common.{rules}
+use Rattle.std.proofs.lemmas.Iterator.{YieldsList-from_slice}
+use Rattle.std.proofs.lemmas.Iterator.Search.{all_from_yields_List}
+use Rattle.units.specs.Whole.{printable_of}
+use Rattle.units.proofs.Points.{some_printable, all_of_each}
 use Rattle.units.proofs.columns.all_printable.Goals as goal
 
-pub returns-in-Beyond : goal.returns-in-Beyond
-returns-in-Beyond c =
-    passed_bad _ _ _ c.requires c.loop-i.invariant _
-    c.loop-i-test.true (unit_beyond _ (sym c.whole.ensures ∙ c.in-Beyond.is))
-
-pub loop-i-preserved : goal.loop-i-preserved
-loop-i-preserved c =
-    passed_more _ _ _ c.requires c.loop-i.invariant _
-    c.loop-i-test.true (unit_whole _ _ (sym c.whole.ensures ∙ c.in-Whole.is)).0
-
 pub returns : goal.returns
-returns c = passed_end _ _ _ c.requires c.loop-i.invariant c.loop-i-test.false
+returns c =
+    all_from_yields_List printable_of _ _ _ c.all.ensures.ran (YieldsList-from_slice c.args.column.now cc) (λ x b q k. search (rules, some_printable))
+    ∙ all_of_each c.args.column.now

@@ -2,7 +2,7 @@
 use mathlib.Core.Path.{sym, ap, ◌∙◌}
 use mathlib.Core.Bool.{true, false}
 use borrow.Author.Tests.{le-leb, lt-leb}
-use Rattle.units.specs.declared.Unit.TheVariants.{Whole}
+use Rattle.std.specs.Prelude.{Some}
 use Rattle.units.proofs.Units.{range_above, range_below, size_yes, size_no, unit_is, negative_is, positive_is}
 use Rattle.units.proofs.coordinate.whole.Goals as goal
 
@@ -16,7 +16,7 @@ returns-then-size-gt32768 c =
 pub returns-then-negative : goal.returns-then-negative
 returns-then-negative c =
     let n = c.whole_near-size.result in
-    ap Whole (negative_is n c.if-size-gt32768.false)
+    ap Some (negative_is n c.if-size-gt32768.false)
     ∙ size_yes true n (range_below n ∙ le-leb n 32768 c.if-size-gt32768.false)
     ∙ unit_is c.args.x true n (sym c.if-negative.true ∙ c.negative.ensures)
     c.whole_near-size.ensures
@@ -31,7 +31,7 @@ returns-then-size-gt32767 c =
 pub returns : goal.returns
 returns c =
     let n = c.whole_near-size.result in
-    ap Whole (positive_is n c.if-size-gt32767.false)
+    ap Some (positive_is n c.if-size-gt32767.false)
     ∙ size_yes false n (range_above n ∙ le-leb n 32767 c.if-size-gt32767.false)
     ∙ unit_is c.args.x false n (sym c.if-negative.false ∙ c.negative.ensures)
     c.whole_near-size.ensures
