@@ -117,13 +117,16 @@ function left_form(s,    out, name, before, path, field, n, i) {
     return out s
 }
 
-# A clause that says that a struct holds the caller's columns still.
-function says_same(s,    word) {
-    if (split(s, word, / /) != 3 || word[1] !~ /^Same[A-Za-z]+$/ || word[2] !~ /^[a-z_]+\.old$/ || word[3] !~ /^[a-z_]+\.new$/) return 0
-    sub(/\.old$/, "", word[2])
-    sub(/\.new$/, "", word[3])
-    if (word[2] != word[3] || !(word[2] in struct_of)) return 0
-    same[word[2]] = 1
+# A clause that says that a struct, or each of several, holds the caller's columns still.
+function says_same(s,    part, n, i, word) {
+    n = split_at(s, " × ", part)
+    for (i = 1; i <= n; i++) {
+        if (split(part[i], word, / /) != 3 || word[1] !~ /^Same[A-Za-z]+$/ || word[2] !~ /^[a-z_]+\.old$/ || word[3] !~ /^[a-z_]+\.new$/) return 0
+        sub(/\.old$/, "", word[2])
+        sub(/\.new$/, "", word[3])
+        if (word[2] != word[3] || !(word[2] in struct_of)) return 0
+        same[word[2]] = 1
+    }
     return 1
 }
 
