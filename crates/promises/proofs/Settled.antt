@@ -11,9 +11,14 @@ use lib.Ieee.{nan}
 use lib.Ieee.Bits.{is_true, is_false}
 use lib.ListN.{length, get_or, drop}
 use lib.Seq.{sets, sets-eq}
-use Rattle.std.specs.Prelude.{Result, Ok, Err}
+use Rattle.std.specs.Prelude.{Option, None, Some, Result, Ok, Err}
 use Rattle.answer.specs.declared.Refusal.{Refusal}
 use Rattle.answer.specs.Answer.{Answer}
+use Rattle.evaluate.specs.Delivery.{Delivery, delivers}
+use Rattle.flatten.specs.declared.Flattened as counts
+use Rattle.flatten.specs.declared.Refused.{Refused}
+use Rattle.flatten.specs.Answer.{answered}
+use Rattle.flatten.specs.Flatten.{Flattened, Output}
 use Rattle.units.specs.Columns.{wholes_of}
 use Rattle.plot.specs.Plot.{plotted_of}
 use Rattle.store.specs.Columns.{Columns}
@@ -32,7 +37,7 @@ use Rattle.listing.specs.Reading.{Fields, read, wrong, pair_fields, two_points_f
 use Rattle.listing.specs.Writing.{Listing, listed, listed_as}
 use Rattle.listing.specs.Program.{listing_of}
 use Rattle.promises.specs.Settled.{Settles, ValueSettled, ResultAndKeptSettled, ColumnsSettled, QuadsSettled, SplinesSettled, OutputSettled, PlotReplySettled, WholeReplySettled, RoundingSettled, PlotSettled, PlottingSettled}
-use Rattle.promises.specs.Settled.{DrawnSettled, TablesSettled, DeliveredSettled, FlattenSettled, ReplySettled, FlatReplySettled}
+use Rattle.promises.specs.Settled.{DrawnSettled, TablesSettled, DeliveredSettled, DeliversSettled, AnsweredSettled, FlattenSettled, ReplySettled, FlatReplySettled}
 use Rattle.promises.specs.Settled.{TellingSettled, ListingSettled, Lists, ListingLists, PairSettled, TwoPointsSettled, ThreePointsSettled, HasStopped}
 use Rattle.promises.specs.Settled.{has_stopped, ReadSettled}
 
@@ -66,6 +71,34 @@ tables_settled = told _ (λ w. (w.state, w.quads, w.splines)) (λ a. refl)
 
 pub delivered_settled : DeliveredSettled
 delivered_settled = told _ (λ o. (o.result.fits, o.result.points, o.output)) (λ a. refl)
+
+-- how many points were delivered, if the walk fits
+unfoldable points_back : Delivery → Option ℕ
+points_back d = cond d.result.fits (Some d.result.points) None
+
+pub delivers_settled : DeliversSettled
+delivers_settled = told _ (λ d. (points_back d, d.output)) (λ a. both a.0 a.1)
+  where
+    both : (r : Option ℕ) (o : Output) → (points_back (delivers r o), (delivers r o).output) ≡ (r, o)
+    unfolding points_back
+    both None o = refl
+    both (Some n) o = refl
+
+-- a flattening's result is found again in its answer and its counts
+unfoldable result_back : Flattened → Result counts.Flattened Refused
+result_back f = result_of f.answer f
+  where
+    result_of : Answer → Flattened → Result counts.Flattened Refused
+    result_of (Ok done) f = Ok (record { splines = f.splines; quads = f.quads; points = f.points })
+    result_of (Err r) f = Err (record { refusal = r; splines = f.splines; quads = f.quads })
+
+pub answered_settled : AnsweredSettled
+answered_settled = told answered result_back same
+  where
+    same : (r : Result counts.Flattened Refused) → result_back (answered r) ≡ r
+    unfolding result_back
+    same (Ok f) = refl
+    same (Err r) = refl
 
 pub flatten_settled : FlattenSettled
 flatten_settled = told _ (λ f. (f.result, f.quads, f.splines, f.output)) (λ a. refl)

@@ -11,7 +11,8 @@ use Rattle.store.specs.Columns.{Columns, columns, state_at}
 use Rattle.store.specs.Drawing.{outcome}
 use Rattle.tables.specs.Tables.{QuadTable, SplineTable, quad_table, spline_table}
 use Rattle.tables.specs.Run.{world}
-use Rattle.evaluate.specs.Delivery.{delivery}
+use Rattle.evaluate.specs.Delivery.{delivery, delivers}
+use Rattle.flatten.specs.Answer.{answered}
 use Rattle.flatten.specs.Flatten.{Flattened, Output, output, flattening}
 use Rattle.listing.specs.declared.Pair as Pairs
 use Rattle.listing.specs.declared.TwoPoints.{TwoPoints}
@@ -69,8 +70,14 @@ TablesSettled = Settles (λ (w : State × QuadTable × SplineTable). world w.0 w
 abbrev pub DeliveredSettled : Type 0
 DeliveredSettled = Settles (λ (o : Bool × ℕ × Output). delivery o.0 o.1 o.2)
 
+abbrev pub DeliversSettled : Type 0
+DeliversSettled = Settles (λ (o : Option ℕ × Output). delivers o.0 o.1)
+
 abbrev pub FlattenSettled : Type 0
 FlattenSettled = Settles (λ (f : Flattened × QuadTable × SplineTable × Output). flattening f.0 f.1 f.2 f.3)
+
+abbrev pub AnsweredSettled : Type 0
+AnsweredSettled = Settles answered
 
 -- ---- the C interface: the answer's number, then each count beside it
 abbrev pub ReplySettled : Type 0
