@@ -84,6 +84,7 @@ impl Store<'_> {
     }
 
     // PathBuilder::new. Old counts are not read.
+    #[tactic(auto, using(crate::proofs::Deciding::fresh_even), unfolding(crate::specs::Drawing::fresh_of))]
     pub fn fresh(&mut self) -> Result<(), Refusal>
         ensures same { SameColumns self.old self.new }
         ensures fresh { outcome result self.new.state (store_columns self.new) ≡ fresh_of (store_columns self.old) }
@@ -101,6 +102,7 @@ impl Store<'_> {
     }
 
     // Any drawing call. The tests for answers 3, 1, 2 and 4, in that order, come before anything is written.
+    #[tactic(auto, unfolding(crate::specs::Drawing::draw_of, crate::specs::Drawing::answer_of, crate::specs::Writing::carried_out))]
     pub fn draw(&mut self, call: Call) -> Result<(), Refusal>
         ensures same { SameColumns self.old self.new }
         ensures drawn { outcome result self.new.state (store_columns self.new) ≡ draw_of call self.old.state (store_columns self.old) }

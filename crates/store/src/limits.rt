@@ -13,12 +13,14 @@ pub fn coordinate_ok(v: f32) -> bool
 }
 
 // From 1/64 to 64.
+#[tactic(auto, unfolding(crate::specs::Drawing::weight_ok_of))]
 pub fn weight_ok(w: f32) -> bool
     ensures { result ≡ weight_ok_of w }
 {
     (0.015625 <= w) & (w <= 64.0)
 }
 
+#[tactic(auto, unfolding(crate::specs::Drawing::every))]
 fn point_ok(p: Point) -> bool
     ensures { result ≡ every coordinate_ok_of (p.x ∷ p.y ∷ []) }
 {
@@ -26,6 +28,7 @@ fn point_ok(p: Point) -> bool
 }
 
 impl Call {
+    #[tactic(auto, unfolding(crate::specs::Drawing::every, crate::specs::Drawing::coordinates_of))]
     pub(crate) fn coordinates_ok(self) -> bool
         ensures { result ≡ every coordinate_ok_of (coordinates_of self) }
     {
@@ -39,6 +42,7 @@ impl Call {
         }
     }
 
+    #[tactic(auto, unfolding(crate::specs::Drawing::every, crate::specs::Drawing::weights_of))]
     pub(crate) fn weights_ok(self) -> bool
         ensures { result ≡ every weight_ok_of (weights_of self) }
     {

@@ -11,12 +11,14 @@ use columns::read;
 use point::{Point, WeightedPoint};
 
 impl Drawing<'_> {
+    #[tactic(auto, unfolding(crate::specs::Columns::even_of))]
     pub(crate) fn even(&self) -> bool
         ensures { result ≡ even_of (drawing_columns self.now) }
     {
         (self.y.len() == self.x.len()) & (self.weight.len() == self.x.len())
     }
 
+    #[tactic(auto, unfolding(crate::specs::Columns::last_command_of))]
     pub(crate) fn last_command(&self) -> u8
         ensures { result ≡ last_command_of self.now.state (drawing_columns self.now) }
     {
@@ -24,6 +26,7 @@ impl Drawing<'_> {
     }
 
     // Answer 3 of the drawing calls. Of the contents only the last command is read.
+    #[tactic(auto, unfolding(crate::specs::Columns::usable_of))]
     pub(crate) fn usable(&self) -> bool
         ensures { result ≡ usable_of self.now.state (drawing_columns self.now) }
     {
@@ -55,6 +58,7 @@ impl Drawing<'_> {
     }
 
     // PathData::close compares the points divided by their weights, not as they are stored.
+    #[tactic(auto, unfolding(crate::specs::Closing::unclosed_of, point::specs::Point::same_of))]
     pub(crate) fn unclosed(&self) -> bool
         ensures { result ≡ unclosed_of self.now.state (drawing_columns self.now) }
     {

@@ -1,7 +1,7 @@
 // What a call writes, once the tests for answers 3, 1 and 2 are passed. Where there is no room for all of it nothing is written.
 
 ghost use Rattle.std.specs.Prelude.{◌≡◌, true, leb, cond, ◌+◌, ◌<◌, ◌^◌, length};
-ghost use Rattle.store.specs.Columns.{usable_of, put_point};
+ghost use Rattle.store.specs.Columns.{usable_of, put_point, put_command};
 ghost use Rattle.store.specs.Drawing.{outcome, writes, appended, writes_of, put_points, put_commands};
 ghost use Rattle.store.specs.Lent.{store_columns, SameColumns};
 ghost use Rattle.store.specs.Writing.{carried_out};
@@ -32,6 +32,16 @@ impl Store<'_> {
         write(self.weight, i, p.weight);
     }
 
+    #[tactic(auto, unfolding(crate::specs::Columns::put_command))]
+    fn put_command(&mut self, i: usize, command: u8)
+        ensures same { SameColumns self.old self.new }
+        ensures state { self.new.state ≡ self.old.state }
+        ensures put { store_columns self.new ≡ put_command (store_columns self.old) i command }
+    {
+        write(self.commands, i, command);
+    }
+
+    #[tactic(auto, using(crate::proofs::Deciding::points_step, crate::proofs::Deciding::points_done))]
     fn put_points(&mut self, at: usize, points: &[WeightedPoint])
         requires { at + length points.now < 2 ^ 64 }
         ensures same { SameColumns self.old self.new }
@@ -43,6 +53,7 @@ impl Store<'_> {
         }
     }
 
+    #[tactic(auto, using(crate::proofs::Deciding::commands_step, crate::proofs::Deciding::commands_done))]
     fn put_commands(&mut self, at: usize, commands: &[u8])
         requires { at + length commands.now < 2 ^ 64 }
         ensures same { SameColumns self.old self.new }
@@ -50,11 +61,12 @@ impl Store<'_> {
         ensures put { store_columns self.new ≡ put_commands at commands.now (store_columns self.old) }
     {
         for (i, command) in commands.iter().enumerate() {
-            write(self.commands, at + i, *command);
+            self.put_command(at + i, *command);
         }
     }
 
     // Points from an index on, commands after the last one, and the open index after the call.
+    #[tactic(auto, unfolding(crate::specs::Drawing::room_of, crate::specs::Drawing::written, crate::specs::Drawing::state_after, crate::specs::Writing::carried_out))]
     pub(crate) fn write(
         &mut self,
         at: usize,
@@ -87,6 +99,7 @@ impl Store<'_> {
     }
 
     // PathData::close.
+    #[tactic(auto, using(crate::proofs::Deciding::close_none), unfolding(crate::specs::Drawing::writes_of, crate::specs::Drawing::closed))]
     fn close(&mut self) -> Result<(), Refusal>
         requires { usable_of self.old.state (store_columns self.old) ≡ true }
         ensures same { SameColumns self.old self.new }
@@ -101,6 +114,7 @@ impl Store<'_> {
     }
 
     // PathBuilder::move_to: a move after a Move overwrites the last point, and any other closes first.
+    #[tactic(auto, unfolding(crate::specs::Drawing::writes_of, crate::specs::Drawing::moved, crate::specs::Drawing::room_of, crate::specs::Writing::carried_out))]
     fn move_on(&mut self, p: Point) -> Result<(), Refusal>
         ensures same { SameColumns self.old self.new }
         ensures written { outcome result self.new.state (store_columns self.new) ≡ carried_out (writes_of (Call.Move p) self.old.state (store_columns self.old)) self.old.state (store_columns self.old) }
@@ -123,6 +137,7 @@ impl Store<'_> {
         self.write(points, &[first, new], &[LINE, MOVE], next)
     }
 
+    #[tactic(auto, unfolding(crate::specs::Drawing::writes_of))]
     pub(crate) fn carry_out(&mut self, call: Call) -> Result<(), Refusal>
         requires { usable_of self.old.state (store_columns self.old) ≡ true }
         ensures same { SameColumns self.old self.new }
