@@ -26,13 +26,11 @@ use Rattle.store.specs.Drawable.{drawable_of}
 use Rattle.store.specs.Drawing.{Outcome, coordinate_ok_of, weight_ok_of, every, coordinates_of, weights_of, writes_of, room_of, answer_of, draw_of, fresh_of}
 use Rattle.store.proofs.Laws.{draw_answer}
 use Rattle.primitives.specs.declared.Capacities.{Capacities}
-use Rattle.primitives.specs.declared.State.{State}
+use Rattle.primitives.specs.Edits.{State, Edit, Keep, Extend, Bend}
 use Rattle.primitives.specs.declared.Primitive.{Primitive}
 use Rattle.primitives.specs.declared.Primitive.TheVariants.{Contour, Line, Quad, Excess}
 use Rattle.primitives.specs.declared.Kind.TheVariants.{Straight, Round}
 use Rattle.primitives.specs.declared.SplineRow.{SplineRow}
-use Rattle.primitives.specs.declared.Edit.{Edit}
-use Rattle.primitives.specs.declared.Edit.TheVariants.{Keep, Extend, Bend}
 use Rattle.primitives.specs.Quads.{curve_of}
 use Rattle.primitives.specs.Splines.{opens_of, line_angle_of, sum_before, spline_edit_of}
 use Rattle.primitives.specs.Plan.{refused_of, marked_of, plan_line_of, quad_row_of, plan_curve_of, plan_legs_of, plan_quad_of, plan_of}

@@ -20,14 +20,12 @@ use Rattle.point.specs.Curve.{curvature_of}
 use Rattle.point.specs.declared.Setting.{Setting}
 use Rattle.point.specs.declared.Setting.TheVariants.{Screen, Knife}
 use Rattle.primitives.specs.declared.Capacities.{Capacities}
-use Rattle.primitives.specs.declared.State.{State}
+use Rattle.primitives.specs.Edits.{State, Edit, Keep, Extend, Bend}
 use Rattle.primitives.specs.declared.Cubic.{Cubic}
 use Rattle.primitives.specs.declared.Primitive.TheVariants.{Contour, Line, Quad}
 use Rattle.primitives.specs.declared.Kind.{Kind}
 use Rattle.primitives.specs.declared.Kind.TheVariants.{Straight, Round}
 use Rattle.primitives.specs.declared.SplineRow.{SplineRow}
-use Rattle.primitives.specs.declared.Edit.{Edit}
-use Rattle.primitives.specs.declared.Edit.TheVariants.{Keep, Extend, Bend}
 use Rattle.primitives.specs.Cubics.{bend_of, cubic_error_of}
 use Rattle.primitives.specs.Quads.{cross_of, leg_of, own_curvature_of, straight_of, curve_of}
 use Rattle.primitives.specs.Splines.{state_of, far_of, spline_kind_of, apart_of, opens_of, line_angle_of, sum_before, spline_edit_of}

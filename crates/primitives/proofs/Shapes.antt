@@ -6,14 +6,12 @@ use Rattle.std.specs.Prelude.{None, Some}
 use Rattle.point.specs.declared.Setting.{Setting}
 use Rattle.point.specs.declared.WeightedPoint.{WeightedPoint}
 use Rattle.primitives.specs.declared.Capacities.{Capacities}
-use Rattle.primitives.specs.declared.State.{State}
+use Rattle.primitives.specs.Edits.{State, Edit, Keep}
 use Rattle.primitives.specs.declared.SplineRow.{SplineRow}
 use Rattle.primitives.specs.declared.Primitive.{Primitive}
 use Rattle.primitives.specs.declared.Primitive.TheVariants as primitive
 use Rattle.primitives.specs.declared.Shape.{Shape}
 use Rattle.primitives.specs.declared.Shape.TheVariants.{Nothing, Mark, Excess, Straight, Curved}
-use Rattle.primitives.specs.declared.Edit.{Edit}
-use Rattle.primitives.specs.declared.Edit.TheVariants.{Keep}
 use Rattle.primitives.specs.Plan.{refused_of, marked_of, plan_line_of, plan_curve_of, plan_legs_of, plan_quad_of, plan_of}
 use Rattle.primitives.specs.Shapes.{legs_of, quad_shape_of, shape_of}
 
@@ -22,7 +20,7 @@ plan_shape_of setting caps st last Nothing = Keep st
 plan_shape_of setting caps st last Mark = Keep (marked_of setting st)
 plan_shape_of setting caps st last Excess = Keep (refused_of st TooManyPieces)
 plan_shape_of setting caps st last (Straight start end) = plan_line_of setting caps st last start end
-plan_shape_of setting caps st last (Curved p0 p1 p2 in-angle out-angle) = plan_curve_of setting caps st last p0 p1 p2 in-angle out-angle
+plan_shape_of setting caps st last (Curved p0 p1 p2 in-angle out-angle) = plan_curve_of setting caps st last p0 p1 p2 (Some in-angle) (Some out-angle)
 
 legs_planned : (setting : Setting) (caps : Capacities) (st : State) (last : SplineRow) (p0 p1 p2 : WeightedPoint) (a b : Angle)
     → plan_legs_of setting caps st last p0 p1 p2 a b ≡ plan_shape_of setting caps st last (legs_of p0 p1 p2 a b)

@@ -1,3 +1,4 @@
+pub mod Edits
 pub mod Quads
 pub mod Cubics
 pub mod Splines

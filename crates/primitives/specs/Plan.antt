@@ -14,16 +14,13 @@ use Rattle.point.specs.Point.{applied_of, minus_of}
 use Rattle.point.specs.Angle.{angle_of}
 use Rattle.point.specs.declared.Setting.{Setting}
 use Rattle.primitives.specs.declared.Capacities.{Capacities}
-use Rattle.primitives.specs.declared.State.{State}
+use Rattle.primitives.specs.Edits.{State, SplineEdit, Edit, Keep, Extend, Bend}
 use Rattle.primitives.specs.declared.Primitive.{Primitive}
 use Rattle.primitives.specs.declared.Primitive.TheVariants.{Contour, Line, Quad, Excess}
 use Rattle.primitives.specs.declared.Kind.TheVariants.{Straight, Round}
 use Rattle.primitives.specs.declared.Curve.{Curve}
 use Rattle.primitives.specs.declared.QuadRow.{QuadRow}
 use Rattle.primitives.specs.declared.SplineRow.{SplineRow}
-use Rattle.primitives.specs.declared.SplineEdit.{SplineEdit}
-use Rattle.primitives.specs.declared.Edit.{Edit}
-use Rattle.primitives.specs.declared.Edit.TheVariants.{Keep, Extend, Bend}
 use Rattle.primitives.specs.Quads.{curve_of}
 use Rattle.primitives.specs.Splines.{state_of, opens_of, line_angle_of, move_angle_of, sum_before, spline_edit_of}
 

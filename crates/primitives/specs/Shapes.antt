@@ -13,7 +13,7 @@ unfoldable pub legs_of : WeightedPoint → WeightedPoint → WeightedPoint → A
 legs_of p0 p1 p2 None None = shape.Nothing
 legs_of p0 p1 p2 None (Some a) = shape.Straight (applied_of p0) (applied_of p2)
 legs_of p0 p1 p2 (Some a) None = shape.Straight (applied_of p0) (applied_of p2)
-legs_of p0 p1 p2 (Some a) (Some b) = shape.Curved p0 p1 p2 (Some a) (Some b)
+legs_of p0 p1 p2 (Some a) (Some b) = shape.Curved p0 p1 p2 a b
 
 unfoldable pub quad_shape_of : WeightedPoint → WeightedPoint → WeightedPoint → Shape
 quad_shape_of p0 p1 p2 = legs_of p0 p1 p2 (angle_of (minus_of (applied_of p1) (applied_of p0))) (angle_of (minus_of (applied_of p2) (applied_of p1)))

@@ -11,11 +11,10 @@ use Rattle.point.specs.Point.{minus_of, len_of}
 use Rattle.point.specs.Angle.{changed_of}
 use Rattle.point.specs.declared.Setting.{Setting}
 use Rattle.point.specs.declared.Setting.TheVariants.{Screen, Knife}
-use Rattle.primitives.specs.declared.State.{State}
+use Rattle.primitives.specs.Edits.{State, SplineEdit}
 use Rattle.primitives.specs.declared.Kind.{Kind}
 use Rattle.primitives.specs.declared.Kind.TheVariants.{Straight, Round}
 use Rattle.primitives.specs.declared.SplineRow.{SplineRow}
-use Rattle.primitives.specs.declared.SplineEdit.{SplineEdit}
 
 -- 0.0625: MAX_ERROR
 abbrev pub max_error : Float

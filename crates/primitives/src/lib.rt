@@ -6,11 +6,7 @@ mod planning;
 mod quads;
 mod splines;
 
-use answer::Answer;
-pub use cubics::{cubic_pieces, cubic_point, piece};
-pub use planning::plan;
-use point::{Point, WeightedPoint};
-pub use splines::below;
+use point::{Point, Setting, WeightedPoint};
 
 // How many quads and splines the tables take.
 #[derive(Clone, Copy)]
@@ -19,14 +15,22 @@ pub struct Capacities {
     pub splines: u32,
 }
 
-// The answer so far, what is stored, whether a contour mark waits, and the last angle.
+// What is stored, whether a contour mark waits, and the last angle.
 #[derive(Clone, Copy)]
 pub struct State {
-    pub answer: Answer,
     pub splines: u32,
     pub quads: usize,
     pub mark: bool,
     pub last: Option<f32>,
+}
+
+// What a primitive is planned from; `last` is the last spline.
+#[derive(Clone, Copy)]
+pub struct Run {
+    pub setting: Setting,
+    pub caps: Capacities,
+    pub st: State,
+    pub last: SplineRow,
 }
 
 #[derive(Clone, Copy)]
@@ -64,7 +68,7 @@ pub struct Curve {
 }
 
 // A line is straight, and so is a quad that is treated as one; any other quad is round. For the knife a spline is of one kind.
-#[derive(Clone, Copy)]
+#[derive(Clone, Copy, PartialEq, Eq)]
 pub enum Kind {
     Straight,
     Round,
@@ -78,7 +82,7 @@ pub enum Shape {
     Mark,
     Excess,
     Straight(Point, Point),
-    Curved(WeightedPoint, WeightedPoint, WeightedPoint, Option<f32>, Option<f32>),
+    Curved(WeightedPoint, WeightedPoint, WeightedPoint, f32, f32),
 }
 
 // One row of the quad table: partial_curvature is the running sum of its spline.

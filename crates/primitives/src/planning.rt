@@ -1,78 +1,26 @@
 // What one primitive changes, or how it is refused: 5, 6, 7, 8 are tested before anything is stored.
 ghost use Rattle.std.specs.Prelude.{◌≡◌};
-ghost use Rattle.primitives.specs.Plan.{refused_of, marked_of, plan_line_of, quad_row_of, plan_curve_of, plan_of};
-ghost use Rattle.primitives.specs.Shapes.{legs_of, quad_shape_of, shape_of};
+ghost use Rattle.answer.specs.Answer.{Done};
+ghost use Rattle.primitives.specs.Edits.{answered, spline_edited, edited_or};
+ghost use Rattle.primitives.specs.Plan.{marked_of, plan_line_of, quad_row_of, plan_curve_of, plan_of};
+ghost use Rattle.primitives.specs.Shapes.{quad_shape_of, shape_of};
 
 use crate::quads::curve;
-use crate::splines::{line_angle, move_angle, opens, spline_edit, sum_before};
-use crate::{
-    Capacities, Edit, Kind, Primitive, QuadRow, Shape, SplineEdit, SplineRow, State, Three,
-};
-use answer::{Answer, Refusal};
-use point::{Point, Setting, WeightedPoint};
+use crate::{Curve, Edit, Kind, Primitive, QuadRow, Run, Shape, SplineEdit, State, Three};
+use answer::Refusal;
+use point::{Point, WeightedPoint};
 
 const SUM_LIMIT: f32 = 65536.0;
 
-// All but the answer stays.
-fn refused(st: State, answer: Answer) -> State
-    ensures { result ≡ refused_of st answer }
-{
-    let last = st.last;
-    State {
-        answer,
-        splines: st.splines,
-        quads: st.quads,
-        mark: st.mark,
-        last,
-    }
-}
-
-// push_contour: a mark waits.
-fn marked(setting: Setting, st: State) -> State
-    ensures { result ≡ marked_of setting st }
-{
-    let answer = st.answer;
-    let before = st.last;
-    let last = move_angle(setting, before);
-    State {
-        answer,
-        splines: st.splines,
-        quads: st.quads,
-        mark: true,
-        last,
-    }
-}
-
-// push_line
-fn plan_line(
-    setting: Setting,
-    caps: Capacities,
-    st: State,
-    last: SplineRow,
-    start: Point,
-    end: Point,
-) -> Edit
-    ensures { result ≡ plan_line_of setting caps st last start end }
-{
-    let angle = (end - start).angle();
-    let opens = opens(setting, Kind::Straight, st, last, angle, start);
-    if opens & (caps.splines <= st.splines) {
-        return Edit::Keep(refused(st, Err(Refusal::SplinesFull)));
-    }
-    let sum = sum_before(opens, last);
-    let before = st.last;
-    let next = line_angle(setting, before, angle);
-    Edit::Extend(spline_edit(opens, st, last, start, end, sum, st.quads, next))
-}
-
+#[tactic(auto, unfolding(crate::specs::Plan::quad_row_of))]
 fn quad_row(
     p0: WeightedPoint,
     p1: WeightedPoint,
     p2: WeightedPoint,
-    curve: crate::Curve,
+    curve: Curve,
     edit: SplineEdit,
 ) -> QuadRow
-    ensures { result ≡ quad_row_of p0 p1 p2 curve edit }
+    ensures { result ≡ quad_row_of p0 p1 p2 curve (spline_edited edit) }
 {
     QuadRow {
         x: Three {
@@ -100,71 +48,22 @@ fn quad_row(
     }
 }
 
-// A quad with both angles.
-fn plan_curve(
-    setting: Setting,
-    caps: Capacities,
-    st: State,
-    last: SplineRow,
-    p0: WeightedPoint,
-    p1: WeightedPoint,
-    p2: WeightedPoint,
-    in_angle: Option<f32>,
-    out_angle: Option<f32>,
-) -> Edit
-    ensures { result ≡ plan_curve_of setting caps st last p0 p1 p2 in_angle out_angle }
-{
-    if caps.quads <= st.quads {
-        return Edit::Keep(refused(st, Err(Refusal::QuadsFull)));
-    }
-    let start = p0.applied();
-    let end = p2.applied();
-    let opens = opens(setting, Kind::Round, st, last, in_angle, start);
-    if opens & (caps.splines <= st.splines) {
-        return Edit::Keep(refused(st, Err(Refusal::SplinesFull)));
-    }
-    let curve = curve(start, p1.applied(), end);
-    let sum = sum_before(opens, last) + curve.curvature;
-    if !(sum <= SUM_LIMIT) {
-        return Edit::Keep(refused(st, Err(Refusal::SumTooLarge)));
-    }
-    let quads = st.quads + 1;
-    let edit = spline_edit(opens, st, last, start, end, sum, quads, out_angle);
-    Edit::Bend(edit, st.quads, quad_row(p0, p1, p2, curve, edit))
-}
-
-// With both legs' angles missing the quad is dropped; with one missing it is a line.
-fn legs(
-    p0: WeightedPoint,
-    p1: WeightedPoint,
-    p2: WeightedPoint,
-    in_angle: Option<f32>,
-    out_angle: Option<f32>,
-) -> Shape
-    ensures { result ≡ legs_of p0 p1 p2 in_angle out_angle }
-{
-    match in_angle {
-        None => match out_angle {
-            None => Shape::Nothing,
-            Some(_) => Shape::Straight(p0.applied(), p2.applied()),
-        },
-        Some(_) => match out_angle {
-            None => Shape::Straight(p0.applied(), p2.applied()),
-            Some(_) => Shape::Curved(p0, p1, p2, in_angle, out_angle),
-        },
-    }
-}
-
-// push_quad
+// push_quad: with both legs' angles missing the quad is dropped; with one missing it is a line.
+#[tactic(auto, unfolding(crate::specs::Shapes::quad_shape_of, crate::specs::Shapes::legs_of))]
 fn quad_shape(p0: WeightedPoint, p1: WeightedPoint, p2: WeightedPoint) -> Shape
     ensures { result ≡ quad_shape_of p0 p1 p2 }
 {
+    let start = p0.applied();
     let mid = p1.applied();
-    let in_angle = (mid - p0.applied()).angle();
-    let out_angle = (p2.applied() - mid).angle();
-    legs(p0, p1, p2, in_angle, out_angle)
+    let end = p2.applied();
+    match ((mid - start).angle(), (end - mid).angle()) {
+        (None, None) => Shape::Nothing,
+        (Some(in_angle), Some(out_angle)) => Shape::Curved(p0, p1, p2, in_angle, out_angle),
+        _ => Shape::Straight(start, end),
+    }
 }
 
+#[tactic(auto, unfolding(crate::specs::Shapes::shape_of))]
 fn shape(p: Primitive) -> Shape
     ensures { result ≡ shape_of p }
 {
@@ -176,18 +75,77 @@ fn shape(p: Primitive) -> Shape
     }
 }
 
-// A line is planned in one place. With a second one the compiler builds each edit in memory, and the copy of it calls memcpy.
-pub fn plan(setting: Setting, caps: Capacities, st: State, last: SplineRow, p: Primitive) -> Edit
-    ensures { result ≡ plan_of setting caps st last p }
-{
-    let shape = shape(p);
-    match shape {
-        Shape::Nothing => Edit::Keep(st),
-        Shape::Mark => Edit::Keep(marked(setting, st)),
-        Shape::Excess => Edit::Keep(refused(st, Err(Refusal::TooManyPieces))),
-        Shape::Straight(start, end) => plan_line(setting, caps, st, last, start, end),
-        Shape::Curved(p0, p1, p2, in_angle, out_angle) => {
-            plan_curve(setting, caps, st, last, p0, p1, p2, in_angle, out_angle)
+impl Run {
+    // push_contour: a mark waits.
+    #[tactic(auto, unfolding(crate::specs::Plan::marked_of))]
+    fn marked(&self) -> State
+        ensures { answered Done result ≡ marked_of self.now.setting (answered Done self.now.st) }
+    {
+        State {
+            mark: true,
+            last: self.move_angle(),
+            ..self.st
+        }
+    }
+
+    // push_line
+    #[tactic(auto, unfolding(crate::specs::Plan::plan_line_of, crate::specs::Plan::refused_of))]
+    fn plan_line(&self, start: Point, end: Point) -> Result<Edit, Refusal>
+        ensures { edited_or self.now.st result ≡ plan_line_of self.now.setting self.now.caps (answered Done self.now.st) self.now.last start end }
+    {
+        let angle = (end - start).angle();
+        let opens = self.opens(Kind::Straight, angle, start);
+        if opens & (self.caps.splines <= self.st.splines) {
+            return Err(Refusal::SplinesFull);
+        }
+        let sum = self.sum_before(opens);
+        let next = self.line_angle(angle);
+        Ok(Edit::Extend(self.spline_edit(opens, start, end, sum, self.st.quads, next)))
+    }
+
+    // A quad with both angles.
+    #[tactic(auto, unfolding(crate::specs::Plan::plan_curve_of, crate::specs::Plan::refused_of))]
+    fn plan_curve(
+        &self,
+        p0: WeightedPoint,
+        p1: WeightedPoint,
+        p2: WeightedPoint,
+        in_angle: f32,
+        out_angle: f32,
+    ) -> Result<Edit, Refusal>
+        ensures { edited_or self.now.st result ≡ plan_curve_of self.now.setting self.now.caps (answered Done self.now.st) self.now.last p0 p1 p2 (Some in_angle) (Some out_angle) }
+    {
+        if self.caps.quads <= self.st.quads {
+            return Err(Refusal::QuadsFull);
+        }
+        let start = p0.applied();
+        let end = p2.applied();
+        let opens = self.opens(Kind::Round, Some(in_angle), start);
+        if opens & (self.caps.splines <= self.st.splines) {
+            return Err(Refusal::SplinesFull);
+        }
+        let curve = curve(start, p1.applied(), end);
+        let sum = self.sum_before(opens) + curve.curvature;
+        if !(sum <= SUM_LIMIT) {
+            return Err(Refusal::SumTooLarge);
+        }
+        let quads = self.st.quads + 1;
+        let edit = self.spline_edit(opens, start, end, sum, quads, Some(out_angle));
+        Ok(Edit::Bend(edit, self.st.quads, quad_row(p0, p1, p2, curve, edit)))
+    }
+
+    // A line is planned in one place. With a second one the compiler builds each edit in memory, and the copy of it calls memcpy.
+    pub fn plan(&self, p: Primitive) -> Result<Edit, Refusal>
+        ensures { edited_or self.now.st result ≡ plan_of self.now.setting self.now.caps (answered Done self.now.st) self.now.last p }
+    {
+        match shape(p) {
+            Shape::Nothing => Ok(Edit::Keep(self.st)),
+            Shape::Mark => Ok(Edit::Keep(self.marked())),
+            Shape::Excess => Err(Refusal::TooManyPieces),
+            Shape::Straight(start, end) => self.plan_line(start, end),
+            Shape::Curved(p0, p1, p2, in_angle, out_angle) => {
+                self.plan_curve(p0, p1, p2, in_angle, out_angle)
+            }
         }
     }
 }

@@ -2,12 +2,14 @@
 ghost use Rattle.std.specs.Prelude.{◌≡◌};
 ghost use Rattle.primitives.specs.Quads.{cross_of, leg_of, own_curvature_of, straight_of, curve_of};
 
+use crate::Curve;
 use leaves::{abs, fma, sqrt};
 use point::Point;
 
 const PIXEL_ACCURACY_RECIP: f32 = 16.0;
 
 // The minus sign belongs to the difference, before the product with h.x.
+#[tactic(auto, unfolding(crate::specs::Quads::cross_of))]
 fn cross(p0: Point, p2: Point, h: Point) -> f32
     ensures { result ≡ cross_of p0 p2 h }
 {
@@ -15,12 +17,14 @@ fn cross(p0: Point, p2: Point, h: Point) -> f32
 }
 
 // x0 of the first leg, and x2 of the second.
+#[tactic(auto, unfolding(crate::specs::Quads::leg_of))]
 fn leg(side: Point, h: Point, cross: f32) -> f32
     ensures { result ≡ leg_of side h cross }
 {
     fma(side.x, h.x, side.y * h.y) * (1.0 / cross)
 }
 
+#[tactic(auto, unfolding(crate::specs::Quads::own_curvature_of))]
 fn own_curvature(dk: f32, scale: f32) -> f32
     ensures { result ≡ own_curvature_of dk scale }
 {
@@ -31,11 +35,10 @@ fn own_curvature(dk: f32, scale: f32) -> f32
 fn straight(curvature: f32) -> bool
     ensures { result ≡ straight_of curvature }
 {
-    let infinity: f32 = f32::from_bits(0x7f80_0000);
-    !(curvature < infinity) | (curvature <= 1.0)
+    !(curvature < f32::INFINITY) | (curvature <= 1.0)
 }
 
-pub fn curve(p0: Point, p1: Point, p2: Point) -> crate::Curve
+pub fn curve(p0: Point, p1: Point, p2: Point) -> Curve
     ensures { result ≡ curve_of p0 p1 p2 }
 {
     let a = p1 - p0;
@@ -50,7 +53,7 @@ pub fn curve(p0: Point, p1: Point, p2: Point) -> crate::Curve
     let curvature = own_curvature(dk, scale);
     if straight(curvature) {
         // The points will be found at t = 0.5 and t = 1.0.
-        return crate::Curve {
+        return Curve {
             x0: 0.036_624_67,
             dx_recip: 1.0,
             k0: 0.0,
@@ -58,7 +61,7 @@ pub fn curve(p0: Point, p1: Point, p2: Point) -> crate::Curve
             curvature: 2.0,
         };
     }
-    crate::Curve {
+    Curve {
         x0,
         dx_recip: 1.0 / (x2 - x0),
         k0,

@@ -1,15 +1,14 @@
 // When a primitive opens a spline, and the spline's row and the state after it: last_spline_or_insert_with as a plain decision.
-ghost use Rattle.std.specs.Prelude.{true, ◌≡◌, ◌-◌, ◌<◌};
+ghost use Rattle.std.specs.Prelude.{true, ◌≡◌, ◌<◌};
+ghost use Rattle.answer.specs.Answer.{Done};
+ghost use Rattle.primitives.specs.Edits.{answered, spline_edited};
 ghost use Rattle.primitives.specs.Splines.{far_of, spline_kind_of, apart_of, opens_of, line_angle_of, move_angle_of, sum_before, quad_count_of, spline_edit_of};
 
-use crate::{Kind, SplineEdit, SplineRow, State};
+use crate::{Kind, Run, SplineEdit, SplineRow, State};
 use point::{Point, Setting, changed};
 
 // The square of MAX_ERROR, 0.0625.
 const MAX_ERROR_SQUARED: f32 = 0.00390625;
-
-// The largest u32.
-const MAX_COUNT: usize = 0xffff_ffff;
 
 // The rounded root reaches 0.0625 exactly when the square reaches 0.0625 squared, so no root is needed.
 fn far(start: Point, last: SplineRow) -> bool
@@ -19,6 +18,7 @@ fn far(start: Point, last: SplineRow) -> bool
 }
 
 // A quad's own curvature is above 1, so a spline with a quad has a sum above 0.
+#[tactic(auto, unfolding(crate::specs::Splines::spline_kind_of))]
 fn spline_kind(spline: SplineRow) -> Kind
     ensures { result ≡ spline_kind_of spline }
 {
@@ -30,150 +30,113 @@ fn spline_kind(spline: SplineRow) -> Kind
 }
 
 // For the knife the joint between straight and round is a vertex.
+#[tactic(auto, unfolding(crate::specs::Splines::apart_of))]
 fn apart(setting: Setting, a: Kind, b: Kind) -> bool
     ensures { result ≡ apart_of setting a b }
 {
     match setting {
         Setting::Screen => false,
-        Setting::Knife => match a {
-            Kind::Straight => match b {
-                Kind::Straight => false,
-                Kind::Round => true,
-            },
-            Kind::Round => match b {
-                Kind::Straight => true,
-                Kind::Round => false,
-            },
-        },
+        Setting::Knife => a != b,
     }
-}
-
-pub fn opens(
-    setting: Setting,
-    kind: Kind,
-    st: State,
-    last: SplineRow,
-    angle: Option<f32>,
-    start: Point,
-) -> bool
-    ensures { result ≡ opens_of setting kind st last angle start }
-{
-    let before = st.last;
-    st.mark
-        | changed(setting, before, angle)
-        | far(start, last)
-        | apart(setting, kind, spline_kind(last))
-}
-
-// The last angle after a line: the knife keeps the one before where a line has none.
-pub fn line_angle(setting: Setting, last: Option<f32>, angle: Option<f32>) -> Option<f32>
-    ensures { result ≡ line_angle_of setting last angle }
-{
-    match setting {
-        Setting::Screen => angle,
-        Setting::Knife => match angle {
-            None => last,
-            Some(a) => Some(a),
-        },
-    }
-}
-
-// The last angle after a Move: the knife forgets it, so that no contour knows the one before.
-pub fn move_angle(setting: Setting, last: Option<f32>) -> Option<f32>
-    ensures { result ≡ move_angle_of setting last }
-{
-    match setting {
-        Setting::Screen => last,
-        Setting::Knife => None,
-    }
-}
-
-pub fn sum_before(opens: bool, last: SplineRow) -> f32
-    ensures { result ≡ sum_before opens last }
-{
-    if opens { 0.0 } else { last.curvature }
-}
-
-// The whole number before, and 0 before 0.
-pub fn below(n: usize) -> usize
-    ensures { result ≡ n - 1 }
-{
-    if n == 0 { 0 } else { n - 1 }
 }
 
 // How many of the quads stored so far a spline has whose first is this one. On a row made by hand the number may not fit: then it is the largest that does.
+#[tactic(auto, unfolding(crate::specs::Splines::quad_count_of))]
 fn quad_count(first: usize, quads: usize) -> u32
     ensures { result ≡ quad_count_of first quads }
 {
-    if quads < first {
-        return 0;
-    }
-    let count = quads - first;
-    if count < MAX_COUNT {
-        return count as u32;
-    }
-    MAX_COUNT as u32
+    u32::try_from(quads.saturating_sub(first)).unwrap_or(u32::MAX)
 }
 
-// Callers first refuse a spline past the capacity, so the count plus one does not wrap.
-pub fn spline_edit(
-    opens: bool,
-    st: State,
-    last: SplineRow,
-    start: Point,
-    end: Point,
-    sum: f32,
-    quads: usize,
-    angle: Option<f32>,
-) -> SplineEdit
-    requires { opens ≡ true → st.splines < 4294967295 }
-    ensures { result ≡ spline_edit_of opens st last start end sum quads angle }
-{
-    if opens {
-        let row = SplineRow {
-            curvature: sum,
-            p0: start,
-            p2: end,
-            contour: true,
-            first_quad: st.quads,
-            quad_count: quad_count(st.quads, quads),
-        };
-        let splines = st.splines + 1;
+impl Run {
+    #[tactic(auto, unfolding(crate::specs::Splines::opens_of))]
+    pub fn opens(&self, kind: Kind, angle: Option<f32>, start: Point) -> bool
+        ensures { result ≡ opens_of self.now.setting kind (answered Done self.now.st) self.now.last angle start }
+    {
+        self.st.mark
+            | changed(self.setting, self.st.last, angle)
+            | far(start, self.last)
+            | apart(self.setting, kind, spline_kind(self.last))
+    }
+
+    // The last angle after a line: the knife keeps the one before where a line has none.
+    #[tactic(auto, unfolding(crate::specs::Splines::line_angle_of))]
+    pub fn line_angle(&self, angle: Option<f32>) -> Option<f32>
+        ensures { result ≡ line_angle_of self.now.setting self.now.st.last angle }
+    {
+        match self.setting {
+            Setting::Screen => angle,
+            Setting::Knife => angle.or(self.st.last),
+        }
+    }
+
+    // The last angle after a Move: the knife forgets it, so that no contour knows the one before.
+    #[tactic(auto, unfolding(crate::specs::Splines::move_angle_of))]
+    pub fn move_angle(&self) -> Option<f32>
+        ensures { result ≡ move_angle_of self.now.setting self.now.st.last }
+    {
+        match self.setting {
+            Setting::Screen => self.st.last,
+            Setting::Knife => None,
+        }
+    }
+
+    #[tactic(auto, unfolding(crate::specs::Splines::sum_before))]
+    pub fn sum_before(&self, opens: bool) -> f32
+        ensures { result ≡ sum_before opens self.now.last }
+    {
+        if opens { 0.0 } else { self.last.curvature }
+    }
+
+    // Callers first refuse a spline past the capacity, so the count plus one does not wrap.
+    #[tactic(auto, unfolding(crate::specs::Splines::spline_edit_of))]
+    pub fn spline_edit(
+        &self,
+        opens: bool,
+        start: Point,
+        end: Point,
+        sum: f32,
+        quads: usize,
+        angle: Option<f32>,
+    ) -> SplineEdit
+        requires { opens ≡ true → self.now.st.splines < 4294967295 }
+        ensures { spline_edited result ≡ spline_edit_of opens (answered Done self.now.st) self.now.last start end sum quads angle }
+    {
         let next = State {
-            answer: Ok(()),
-            splines,
+            splines: self.st.splines,
             quads,
             mark: false,
             last: angle,
         };
-        return SplineEdit {
-            clears: !st.mark,
-            at: st.splines,
-            row,
+        if opens {
+            let row = SplineRow {
+                curvature: sum,
+                p0: start,
+                p2: end,
+                contour: true,
+                first_quad: self.st.quads,
+                quad_count: quad_count(self.st.quads, quads),
+            };
+            return SplineEdit {
+                clears: !self.st.mark,
+                at: self.st.splines,
+                row,
+                next: State {
+                    splines: self.st.splines + 1,
+                    ..next
+                },
+            };
+        }
+        SplineEdit {
+            clears: false,
+            at: self.st.splines.saturating_sub(1),
+            row: SplineRow {
+                curvature: sum,
+                p2: end,
+                quad_count: quad_count(self.last.first_quad, quads),
+                ..self.last
+            },
             next,
-        };
-    }
-    let at = below(st.splines as usize) as u32;
-    let p0 = last.p0;
-    let row = SplineRow {
-        curvature: sum,
-        p0,
-        p2: end,
-        contour: last.contour,
-        first_quad: last.first_quad,
-        quad_count: quad_count(last.first_quad, quads),
-    };
-    let next = State {
-        answer: Ok(()),
-        splines: st.splines,
-        quads,
-        mark: false,
-        last: angle,
-    };
-    SplineEdit {
-        clears: false,
-        at,
-        row,
-        next,
+        }
     }
 }

@@ -24,7 +24,7 @@ use Rattle.primitives.specs.declared.Kind.TheVariants.{Straight}
 use Rattle.primitives.specs.declared.Primitive.{Primitive}
 use Rattle.primitives.specs.declared.Primitive.TheVariants.{Line}
 use Rattle.primitives.specs.declared.SplineRow.{SplineRow}
-use Rattle.primitives.specs.declared.SplineEdit.{SplineEdit}
+use Rattle.primitives.specs.Edits.{SplineEdit}
 use Rattle.primitives.specs.Splines.{opens_of, line_angle_of, spline_edit_of}
 use Rattle.primitives.specs.Plan.{refused_of, marked_of}
 use Rattle.primitives.specs.Shapes.{shape_of}

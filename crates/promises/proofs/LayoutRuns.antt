@@ -21,15 +21,12 @@ use Rattle.point.specs.Point.{applied_of, minus_of}
 use Rattle.point.specs.Angle.{angle_of}
 use Rattle.point.specs.declared.Setting.{Setting}
 use Rattle.primitives.specs.declared.Capacities.{Capacities}
-use Rattle.primitives.specs.declared.State.{State}
+use Rattle.primitives.specs.Edits.{State, SplineEdit, Edit, Keep, Extend, Bend}
 use Rattle.primitives.specs.declared.Primitive.{Primitive}
 use Rattle.primitives.specs.declared.Primitive.TheVariants.{Contour, Line, Quad, Excess}
 use Rattle.primitives.specs.declared.Kind.TheVariants.{Straight, Round}
 use Rattle.primitives.specs.declared.QuadRow.{QuadRow}
 use Rattle.primitives.specs.declared.SplineRow.{SplineRow}
-use Rattle.primitives.specs.declared.SplineEdit.{SplineEdit}
-use Rattle.primitives.specs.declared.Edit.{Edit}
-use Rattle.primitives.specs.declared.Edit.TheVariants.{Keep, Extend, Bend}
 use Rattle.primitives.specs.Quads.{curve_of}
 use Rattle.primitives.specs.Splines.{opens_of, sum_before, spline_edit_of}
 use Rattle.primitives.specs.Plan.{refused_of, marked_of, plan_line_of, plan_curve_of, plan_legs_of, plan_quad_of, plan_of}

@@ -11,7 +11,7 @@ use lib.Seq.{get_or-set_other, get_or-append-add, get_or-drop}
 use native.Mathlib.Numerals.{lt-add-one}
 use Rattle.columns.specs.Flags.{flag_byte_of}
 use Rattle.answer.specs.Number.{is_done}
-use Rattle.primitives.specs.declared.SplineEdit.{SplineEdit}
+use Rattle.primitives.specs.Edits.{SplineEdit}
 use Rattle.point.specs.declared.Setting.{Setting}
 use Rattle.primitives.specs.declared.Capacities.{Capacities}
 use Rattle.primitives.specs.declared.Primitive.{Primitive}

@@ -18,11 +18,10 @@ use Rattle.std.specs.Prelude.{None, Some}
 use Rattle.point.specs.Point.{applied_of}
 use Rattle.point.specs.declared.Setting.{Setting}
 use Rattle.primitives.specs.declared.Capacities.{Capacities}
-use Rattle.primitives.specs.declared.SplineEdit.{SplineEdit}
+use Rattle.primitives.specs.Edits.{SplineEdit, Keep, Extend, Bend}
 use Rattle.primitives.specs.declared.Primitive.{Primitive}
 use Rattle.primitives.specs.declared.Primitive.TheVariants.{Contour, Line, Quad, Excess}
 use Rattle.primitives.specs.declared.Kind.TheVariants as kind
-use Rattle.primitives.specs.declared.Edit.TheVariants.{Keep, Extend, Bend}
 use Rattle.primitives.specs.Quads.{curve_of}
 use Rattle.primitives.specs.Splines.{line_angle_of, sum_before, spline_edit_of}
 use Rattle.primitives.specs.Plan.{refused_of, marked_of, plan_line_of, quad_row_of, plan_curve_of, plan_legs_of, plan_quad_of, plan_of}

@@ -9,10 +9,8 @@ use Rattle.point.specs.declared.Setting.{Setting}
 use Rattle.primitives.specs.declared.Three.{Three}
 use Rattle.primitives.specs.declared.QuadRow.{QuadRow}
 use Rattle.primitives.specs.declared.Capacities.{Capacities}
-use Rattle.primitives.specs.declared.State.{State}
+use Rattle.primitives.specs.Edits.{State, Edit, Keep, Extend, Bend}
 use Rattle.primitives.specs.declared.Primitive.{Primitive}
-use Rattle.primitives.specs.declared.Edit.{Edit}
-use Rattle.primitives.specs.declared.Edit.TheVariants.{Keep, Extend, Bend}
 use Rattle.primitives.specs.Plan.{plan_of}
 use Rattle.store.specs.declared.StoreState.{StoreState}
 use Rattle.store.specs.Columns.{Columns}

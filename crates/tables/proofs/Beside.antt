@@ -15,7 +15,7 @@ use Rattle.point.specs.Angle.{changed_of}
 use Rattle.primitives.specs.declared.Capacities.{Capacities}
 use Rattle.primitives.specs.declared.Kind.{Kind}
 use Rattle.primitives.specs.declared.SplineRow.{SplineRow}
-use Rattle.primitives.specs.declared.SplineEdit.{SplineEdit}
+use Rattle.primitives.specs.Edits.{SplineEdit}
 use Rattle.primitives.specs.Splines.{far_of, spline_kind_of, apart_of, opens_of, line_angle_of, sum_before, quad_count_of, spline_edit_of}
 use Rattle.primitives.proofs.Opening.{joins}
 use Rattle.tables.specs.Tables.{quad_capacity_of, spline_capacity_of, quad_row_at, spline_at}

@@ -7,6 +7,7 @@ use native.Mathlib.Nat.{le_of_eq, lt_of_lt_of_le, lt_of_le_of_lt}
 use native.Mathlib.Numerals.{add-one}
 use native.Mathlib.Omega.{arith}
 use lib.Ieee.{Float}
+use Rattle.std.specs.Prelude.{Some}
 use Rattle.answer.specs.Number.{is_done}
 use Rattle.point.specs.declared.Point.{Point}
 use Rattle.point.specs.declared.WeightedPoint.{WeightedPoint}
@@ -20,8 +21,7 @@ use Rattle.primitives.specs.declared.Kind.{Kind}
 use Rattle.primitives.specs.declared.Kind.TheVariants.{Straight, Round}
 use Rattle.primitives.specs.declared.Shape.{Shape}
 use Rattle.primitives.specs.declared.Shape.TheVariants as shape
-use Rattle.primitives.specs.declared.SplineEdit.{SplineEdit}
-use Rattle.primitives.specs.declared.Edit.{Edit}
+use Rattle.primitives.specs.Edits.{SplineEdit, Edit}
 use Rattle.primitives.specs.Splines.{opens_of, line_angle_of, sum_before, spline_edit_of}
 use Rattle.primitives.specs.Plan.{quad_row_of}
 use Rattle.primitives.specs.Shapes.{shape_of}
@@ -82,12 +82,14 @@ module _ (setting : Setting) (caps : Capacities) (w : World) where
         curved = λ z. absurd (not_both refl z);
       }
 
-  pub drew_round : (p : Primitive) (p0 p1 p2 : WeightedPoint) (a b : Angle) → shape_of p ≡ shape.Curved p0 p1 p2 a b
+  pub drew_round : (p : Primitive) (p0 p1 p2 : WeightedPoint) (in-angle out-angle : Float) → shape_of p ≡ shape.Curved p0 p1 p2 in-angle out-angle
       → is_done (push_of setting caps p w).state.answer ≡ true → Sound caps w
-      → Drew setting Round (applied_of p0) (applied_of p2) a b w (push_of setting caps p w)
+      → Drew setting Round (applied_of p0) (applied_of p2) (Some in-angle) (Some out-angle) w (push_of setting caps p w)
   unfolding plan_shape_of apply_of quad_row_of
-  drew_round p p0 p1 p2 a b e d S =
-      let c = comes_to p (shape.Curved p0 p1 p2 a b) e in
+  drew_round p p0 p1 p2 in-angle out-angle e d S =
+      let a : Angle = Some in-angle in
+      let b : Angle = Some out-angle in
+      let c = comes_to p (shape.Curved p0 p1 p2 in-angle out-angle) e in
       let n = curve_needs setting caps w p0 p1 p2 a b (ap (λ (v : World). is_done v.state.answer) (sym c) ∙ d) in
       let opens = curve_opens setting caps w p0 p1 p2 a b in
       let row = quad_row_of p0 p1 p2 (own_curve setting caps w p0 p1 p2 a b) (curve_edit setting caps w p0 p1 p2 a b opens) in

@@ -9,7 +9,7 @@ use lib.ListN.{length, get_or, set, length-set}
 use lib.Seq.{get_or-set_same, get_or-set_other, set-get_or}
 use Rattle.point.specs.declared.Point.{Point}
 use Rattle.point.specs.Point.{point_at}
-use Rattle.primitives.specs.declared.SplineEdit.{SplineEdit}
+use Rattle.primitives.specs.Edits.{SplineEdit}
 use Rattle.tables.specs.Tables.{SplineTable, spline_capacity_of, put_spline, spline_at}
 
 -- ---- the rows after a spline is written

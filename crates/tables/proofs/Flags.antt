@@ -23,7 +23,7 @@ use Rattle.primitives.specs.declared.Capacities.{Capacities}
 use Rattle.primitives.specs.declared.Kind.{Kind}
 use Rattle.primitives.specs.declared.Primitive.{Primitive}
 use Rattle.primitives.specs.declared.SplineRow.{SplineRow}
-use Rattle.primitives.specs.declared.SplineEdit.{SplineEdit}
+use Rattle.primitives.specs.Edits.{SplineEdit}
 use Rattle.primitives.specs.Splines.{spline_edit_of}
 use Rattle.primitives.specs.Plan.{refused_of, marked_of}
 use Rattle.tables.specs.Tables.{QuadTable, SplineTable, clear_flag, put_spline, spline_at}

@@ -19,7 +19,7 @@ use Rattle.primitives.specs.declared.Kind.{Kind}
 use Rattle.primitives.specs.declared.Kind.TheVariants.{Straight, Round}
 use Rattle.primitives.specs.declared.Primitive.{Primitive}
 use Rattle.primitives.specs.declared.SplineRow.{SplineRow}
-use Rattle.primitives.specs.declared.SplineEdit.{SplineEdit}
+use Rattle.primitives.specs.Edits.{SplineEdit}
 use Rattle.primitives.specs.Splines.{spline_kind_of, opens_of, sum_before, spline_edit_of}
 use Rattle.primitives.specs.Plan.{refused_of, marked_of}
 use Rattle.primitives.proofs.Opening.{joins, same_kind}

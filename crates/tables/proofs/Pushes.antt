@@ -34,8 +34,7 @@ use Rattle.primitives.specs.declared.Kind.{Kind}
 use Rattle.primitives.specs.declared.Kind.TheVariants.{Straight, Round}
 use Rattle.primitives.specs.declared.QuadRow.{QuadRow}
 use Rattle.primitives.specs.declared.SplineRow.{SplineRow}
-use Rattle.primitives.specs.declared.SplineEdit.{SplineEdit}
-use Rattle.primitives.specs.declared.Edit.TheVariants.{Keep, Extend, Bend}
+use Rattle.primitives.specs.Edits.{SplineEdit, Keep, Extend, Bend}
 use Rattle.primitives.specs.Splines.{spline_kind_of, apart_of, opens_of, line_angle_of, sum_before, spline_edit_of}
 use Rattle.primitives.specs.Plan.{refused_of, marked_of, plan_line_of, quad_row_of, plan_curve_of, plan_legs_of, plan_quad_of, plan_of}
 use Rattle.primitives.proofs.Opening.{joins}

@@ -22,9 +22,7 @@ use Rattle.primitives.specs.declared.Primitive.{Primitive}
 use Rattle.primitives.specs.declared.Primitive.TheVariants.{Contour, Line, Quad, Excess}
 use Rattle.primitives.specs.declared.Kind.TheVariants.{Straight, Round}
 use Rattle.primitives.specs.declared.QuadRow.{QuadRow}
-use Rattle.primitives.specs.declared.SplineEdit.{SplineEdit}
-use Rattle.primitives.specs.declared.Edit.{Edit}
-use Rattle.primitives.specs.declared.Edit.TheVariants.{Extend}
+use Rattle.primitives.specs.Edits.{SplineEdit, Edit, Extend}
 use Rattle.primitives.specs.Splines.{spline_edit_of}
 use Rattle.primitives.specs.Plan.{refused_of, plan_line_of, quad_row_of, plan_curve_of, plan_legs_of, plan_quad_of, plan_of}
 use Rattle.tables.specs.Tables.{QuadTable, quad_capacity_of, put_quad, quad_row_at, put_spline}

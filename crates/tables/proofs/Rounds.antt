@@ -16,8 +16,7 @@ use Rattle.primitives.specs.declared.Kind.TheVariants.{Straight, Round}
 use Rattle.primitives.specs.declared.Primitive.{Primitive}
 use Rattle.primitives.specs.declared.QuadRow.{QuadRow}
 use Rattle.primitives.specs.declared.SplineRow.{SplineRow}
-use Rattle.primitives.specs.declared.SplineEdit.{SplineEdit}
-use Rattle.primitives.specs.declared.State.{State}
+use Rattle.primitives.specs.Edits.{SplineEdit, State}
 use Rattle.primitives.specs.Splines.{spline_kind_of, spline_edit_of}
 use Rattle.primitives.specs.Plan.{refused_of, marked_of}
 use Rattle.primitives.proofs.Opening.{same_kind}

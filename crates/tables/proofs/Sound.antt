@@ -28,12 +28,10 @@ use Rattle.primitives.specs.declared.Capacities.{Capacities}
 use Rattle.primitives.specs.declared.Kind.{Kind}
 use Rattle.primitives.specs.declared.Primitive.{Primitive}
 use Rattle.primitives.specs.declared.SplineRow.{SplineRow}
-use Rattle.primitives.specs.declared.State.{State}
-use Rattle.primitives.specs.declared.Edit.TheVariants.{Extend, Bend}
+use Rattle.primitives.specs.Edits.{State, Extend, Bend, SplineEdit}
 use Rattle.point.specs.declared.Point.{Point}
 use Rattle.point.specs.Angle.{Angle}
 use Rattle.command.specs.Packing.{index_limit}
-use Rattle.primitives.specs.declared.SplineEdit.{SplineEdit}
 use Rattle.primitives.specs.declared.QuadRow.{QuadRow}
 use Rattle.primitives.specs.Splines.{sum_before, quad_count_of, spline_edit_of}
 use Rattle.primitives.specs.Plan.{refused_of, marked_of}

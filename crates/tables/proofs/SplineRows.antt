@@ -11,7 +11,7 @@ use lib.Seq.{get_or-set_same, get_or-set_other}
 use Rattle.columns.proofs.Flags.{flag_back}
 use Rattle.columns.specs.Flags.{flag_byte_of, is_flag_of}
 use Rattle.primitives.specs.declared.SplineRow.{SplineRow}
-use Rattle.primitives.specs.declared.SplineEdit.{SplineEdit}
+use Rattle.primitives.specs.Edits.{SplineEdit}
 use Rattle.tables.specs.Tables.{SplineTable, spline_capacity_of, clear_flag, put_spline, spline_at}
 
 -- a row with this flag

@@ -9,7 +9,7 @@ use native.Mathlib.Omega.{arith}
 use Rattle.point.specs.Angle.{Angle}
 use Rattle.point.specs.declared.Setting.{Setting}
 use Rattle.primitives.specs.declared.Capacities.{Capacities}
-use Rattle.primitives.specs.declared.SplineEdit.{SplineEdit}
+use Rattle.primitives.specs.Edits.{SplineEdit}
 use Rattle.primitives.specs.Splines.{line_angle_of}
 use Rattle.tables.specs.Tables.{QuadTable, quad_capacity_of, spline_capacity_of, quad_row_at, put_spline, spline_at}
 use Rattle.tables.specs.Run.{World, world}

@@ -20,9 +20,7 @@ use Rattle.point.specs.Angle.{angle_of}
 use Rattle.primitives.specs.declared.Capacities.{Capacities}
 use Rattle.primitives.specs.declared.Kind.TheVariants.{Straight, Round}
 use Rattle.primitives.specs.declared.Curve.{Curve}
-use Rattle.primitives.specs.declared.SplineEdit.{SplineEdit}
-use Rattle.primitives.specs.declared.Edit.{Edit}
-use Rattle.primitives.specs.declared.Edit.TheVariants.{Keep, Extend, Bend}
+use Rattle.primitives.specs.Edits.{SplineEdit, Edit, Keep, Extend, Bend}
 use Rattle.primitives.specs.Quads.{curve_of}
 use Rattle.primitives.specs.Splines.{opens_of, line_angle_of, sum_before}
 use Rattle.primitives.specs.Plan.{refused_of, plan_line_of, quad_row_of, plan_curve_of}

@@ -13,7 +13,7 @@ use lib.Seq.{sets}
 use borrow.Author.Tests.{lt-ltb}
 use Rattle.columns.specs.Flags.{flag_byte_of}
 use Rattle.primitives.specs.declared.QuadRow.{QuadRow}
-use Rattle.primitives.specs.declared.SplineEdit.{SplineEdit}
+use Rattle.primitives.specs.Edits.{SplineEdit}
 use Rattle.tables.specs.Tables.{QuadTable, SplineTable, spline_table, whole_rows_of, numbers_of, number_at, quad_row_at, clear_flag, put_spline}
 use Rattle.tables.specs.Threes.{set_three, row_from, no_row}
 

@@ -1,11 +1,15 @@
 -- The lent columns as tables: what the structs of references in src/lent.rt hold, and that they hold the caller's references still. Assumes nothing.
-use Rattle.std.specs.Prelude.{◌≡◌}
+use Rattle.std.specs.Prelude.{◌≡◌, Result, Ok, Err}
 use Rattle.tables.specs.declared.lent.QuadColumns.{QuadColumns}
 use Rattle.tables.specs.declared.lent.QuadColumnsMut.{QuadColumnsMut}
 use Rattle.tables.specs.declared.lent.SplineColumns.{SplineColumns}
 use Rattle.tables.specs.declared.lent.SplineColumnsMut.{SplineColumnsMut}
 use Rattle.tables.specs.declared.lent.Tables.{Tables}
+use Rattle.answer.specs.Answer.{Answer, Done}
 use Rattle.primitives.specs.declared.State.{State}
+use Rattle.primitives.specs.declared.Run.{Run}
+use Rattle.primitives.specs.Edits.{answered}
+use Rattle.tables.specs.declared.lent.Refused.{Refused}
 use Rattle.tables.specs.Tables.{QuadTable, SplineTable, quad_table, spline_table}
 use Rattle.tables.specs.Run.{World, world}
 
@@ -21,8 +25,16 @@ quads_mut_of q = quad_table q.quad_rows.now q.partial_splines.now
 abbrev pub splines_mut_of : SplineColumnsMut → SplineTable
 splines_mut_of s = spline_table s.curvature.now s.p0x.now s.p0y.now s.p2x.now s.p2y.now s.contour.now s.first_quad.now s.quad_count.now
 
-abbrev pub world_of : State → Tables → World
-world_of st t = world st (quads_mut_of t.quads) (splines_mut_of t.splines)
+abbrev pub world_of : Answer → State → Tables → World
+world_of answer st t = world (answered answer st) (quads_mut_of t.quads) (splines_mut_of t.splines)
+
+abbrev pub filled_world : Result State Refused → Tables → World
+filled_world (Ok st) t = world_of Done st t
+filled_world (Err refused) t = world_of (Err refused.refusal) refused.state t
+
+-- the setting and the room stay
+abbrev pub SameRun : Run → Run → Type 0
+SameRun old new = (new.setting ≡ old.setting) × (new.caps ≡ old.caps)
 
 -- what is written goes to the columns that were lent
 abbrev pub SameQuads : QuadColumnsMut → QuadColumnsMut → Type 0

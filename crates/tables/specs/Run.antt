@@ -6,10 +6,8 @@ use Rattle.answer.specs.Number.{is_done}
 use Rattle.std.specs.Prelude.{None}
 use Rattle.point.specs.declared.Setting.{Setting}
 use Rattle.primitives.specs.declared.Capacities.{Capacities}
-use Rattle.primitives.specs.declared.State.{State}
+use Rattle.primitives.specs.Edits.{State, Edit, Keep, Extend, Bend}
 use Rattle.primitives.specs.declared.Primitive.{Primitive}
-use Rattle.primitives.specs.declared.Edit.{Edit}
-use Rattle.primitives.specs.declared.Edit.TheVariants.{Keep, Extend, Bend}
 use Rattle.primitives.specs.Splines.{state_of}
 use Rattle.primitives.specs.Plan.{plan_of}
 use Rattle.tables.specs.Tables.{QuadTable, SplineTable, put_quad, put_spline, last_spline_of}

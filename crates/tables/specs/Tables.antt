@@ -10,7 +10,7 @@ use Rattle.command.specs.Packing.{index_limit}
 use Rattle.primitives.specs.declared.Three.{Three}
 use Rattle.primitives.specs.declared.QuadRow.{QuadRow}
 use Rattle.primitives.specs.declared.SplineRow.{SplineRow}
-use Rattle.primitives.specs.declared.SplineEdit.{SplineEdit}
+use Rattle.primitives.specs.Edits.{SplineEdit}
 use Rattle.primitives.specs.declared.Capacities.{Capacities}
 
 -- quad i has the numbers 15·i to 15·i + 14 of the rows, and entry i of partial_splines, the number of its spline

@@ -1,13 +1,15 @@
 // The commands of a store, taken in order: PathData::segments.
 ghost use Rattle.std.specs.Prelude.{◌≡◌};
 ghost use Rattle.store.specs.Lent.{drawing_columns};
-ghost use Rattle.tables.specs.Lent.{quads_mut_of, splines_mut_of, SameTables, world_of};
+ghost use Rattle.answer.specs.Answer.{Done};
+ghost use Rattle.tables.specs.Lent.{quads_mut_of, splines_mut_of, SameTables, SameRun, world_of, filled_world};
 ghost use Rattle.tables.specs.Run.{run_of};
 ghost use Rattle.tables.specs.Commands.{cubic_from, command_primitives_of, tables_of};
 
-use crate::lent::Tables;
+use crate::lent::{Refused, Tables};
+use answer::Refusal;
 use point::Setting;
-use primitives::{Capacities, Cubic, Primitive, State};
+use primitives::{Capacities, Cubic, Primitive, Run, State};
 use store::{Drawing, LINE, MOVE, QUAD, uses};
 
 // The cubic whose start is point i. No column is so long that the last index has a point.
@@ -26,15 +28,14 @@ impl Tables<'_, '_> {
     // The primitives of the command k, where j points are used up before it: it starts from the last of them.
     fn push_command(
         &mut self,
-        setting: Setting,
-        caps: Capacities,
+        run: &mut Run,
         drawing: &Drawing<'_>,
-        st: State,
         k: u8,
         j: usize,
-    ) -> State
+    ) -> Result<(), Refusal>
         ensures same { SameTables self.old self.new }
-        ensures ran { world_of result self.new ≡ run_of setting caps (command_primitives_of (drawing_columns drawing.now) k j) (world_of st self.old) }
+        ensures goes_on { SameRun run.old run.new }
+        ensures ran { world_of result run.new.st self.new ≡ run_of run.old.setting run.old.caps (command_primitives_of (drawing_columns drawing.now) k j) (world_of Done run.old.st self.old) }
     {
         let before = j.saturating_sub(1);
         let p = match k {
@@ -45,36 +46,41 @@ impl Tables<'_, '_> {
                 let p1 = drawing.stored_point(j);
                 Primitive::Quad(p0, p1, drawing.stored_point(j.saturating_add(1)))
             }
-            _ => return self.push_cubic(setting, caps, st, cubic_from(drawing, before)),
+            _ => return self.push_cubic(run, cubic_from(drawing, before)),
         };
-        self.push(setting, caps, st, p)
+        self.push(run, p)
     }
 
     // The tables of a drawing: its commands are taken in order, and a refusal stops the run.
-    pub fn fill(&mut self, setting: Setting, drawing: &Drawing<'_>) -> State
+    pub fn fill(&mut self, setting: Setting, drawing: &Drawing<'_>) -> Result<State, Refused>
         ensures same { SameTables self.old self.new }
-        ensures filled { world_of result self.new ≡ tables_of setting drawing.now.state (drawing_columns drawing.now) (quads_mut_of self.old.quads) (splines_mut_of self.old.splines) }
+        ensures filled { filled_world result self.new ≡ tables_of setting drawing.now.state (drawing_columns drawing.now) (quads_mut_of self.old.quads) (splines_mut_of self.old.splines) }
     {
-        let caps = Capacities {
-            quads: self.quads.view().capacity(),
-            splines: self.splines.view().capacity(),
+        let mut run = Run {
+            setting,
+            caps: Capacities {
+                quads: self.quads.view().capacity(),
+                splines: self.splines.view().capacity(),
+            },
+            st: State {
+                splines: 0,
+                quads: 0,
+                mark: true,
+                last: None,
+            },
+            last: self.splines.view().last(0),
         };
         let n = drawing.state.commands.min(drawing.commands.len());
-        let mut state = State {
-            answer: Ok(()),
-            splines: 0,
-            quads: 0,
-            mark: true,
-            last: None,
-        };
         let mut j = 0usize;
         for k in &drawing.commands[..n] {
-            if state.answer.is_err() {
-                break;
+            if let Err(refusal) = self.push_command(&mut run, drawing, *k, j) {
+                return Err(Refused {
+                    refusal,
+                    state: run.st,
+                });
             }
-            state = self.push_command(setting, caps, drawing, state, *k, j);
             j = j.saturating_add(uses(*k));
         }
-        state
+        Ok(run.st)
     }
 }

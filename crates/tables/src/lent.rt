@@ -2,6 +2,9 @@
 ghost use Rattle.std.specs.Prelude.{◌≡◌};
 ghost use Rattle.tables.specs.Lent.{quads_of, splines_of, quads_mut_of, splines_mut_of};
 
+use answer::Refusal;
+use primitives::State;
+
 // How many numbers a quad has.
 pub const WIDTH: usize = 15;
 
@@ -46,6 +49,13 @@ pub struct SplineColumnsMut<'a> {
 pub struct Tables<'q, 's> {
     pub quads: QuadColumnsMut<'q>,
     pub splines: SplineColumnsMut<'s>,
+}
+
+// Why a drawing is refused, and what was stored before.
+#[derive(Clone, Copy)]
+pub struct Refused {
+    pub refusal: Refusal,
+    pub state: State,
 }
 
 impl QuadColumnsMut<'_> {

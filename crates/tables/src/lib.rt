@@ -7,4 +7,4 @@ mod lent;
 mod rows;
 mod run;
 
-pub use lent::{QuadColumns, QuadColumnsMut, SplineColumns, SplineColumnsMut, Tables};
+pub use lent::{QuadColumns, QuadColumnsMut, Refused, SplineColumns, SplineColumnsMut, Tables};

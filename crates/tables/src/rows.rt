@@ -3,6 +3,7 @@ ghost use Rattle.std.specs.Prelude.{◌≡◌, ◌+◌, ◌≤◌, length};
 ghost use Rattle.std.proofs.lemmas.List.Edits.{sets};
 ghost use Rattle.tables.specs.Tables.{numbers_of, put_quad, sum_at_of, quad_row_at, clear_flag, put_spline, spline_at, last_spline_of};
 ghost use Rattle.tables.specs.Lent.{quads_of, splines_of, quads_mut_of, splines_mut_of, SameQuads, SameSplines};
+ghost use Rattle.primitives.specs.Edits.{spline_edited};
 ghost use Rattle.tables.specs.Threes.{set_three, three_from, row_from, no_row};
 
 use crate::lent::{QuadColumns, QuadColumnsMut, SplineColumns, SplineColumnsMut, WIDTH};
@@ -133,7 +134,7 @@ fn clear_flag(clears: bool, contour: &mut [u8], k: usize)
 impl SplineColumnsMut<'_> {
     pub fn put(&mut self, edit: SplineEdit)
         ensures same { SameSplines self.old self.new }
-        ensures put { splines_mut_of self.new ≡ put_spline (splines_mut_of self.old) edit }
+        ensures put { splines_mut_of self.new ≡ put_spline (splines_mut_of self.old) (spline_edited edit) }
     {
         let k = edit.at as usize;
         let row = edit.row;

@@ -2,7 +2,7 @@
 -- nothing.
 use mathlib.Core.Path.{◌≡◌, refl, ap, ◌∙◌}
 use mathlib.Core.Bool.{true, false, not, ◌||◌}
-use lib.Ieee.{Float, nan, inf, fin, binary32, lt, le, of_bits, nan_bits}
+use lib.Ieee.{Float, nan, inf, fin, binary32, lt, le, of_bits}
 use Rattle.leaves.specs.Single.{one32}
 use Rattle.primitives.specs.Quads.{straight_of}
 use Rattle.primitives.proofs.quads.straight.Goals as goal
@@ -17,10 +17,6 @@ straight_is nan = refl
 straight_is (inf true) = refl
 straight_is (inf false) = refl
 straight_is (fin s m e) = refl
-
-pub float_from_bits-infinity : goal.float_from_bits-infinity
-unfolding nan_bits
-float_from_bits-infinity c = tt
 
 pub returns : goal.returns
 returns c = ap (λ (i : Float). not (lt c.args.curvature i) || le c.args.curvature one32) infinity_is ∙ straight_is c.args.curvature

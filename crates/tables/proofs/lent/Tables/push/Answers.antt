@@ -1,15 +1,16 @@
--- `Tables::push` meets its contract: what is planned is applied, unless something was refused before. Assumes nothing.
-use mathlib.Core.Path.{sym, ap, ◌∙◌}
-use mathlib.Core.Bool.{not}
-use Rattle.answer.proofs.Laws.{ok_is_done}
-use Rattle.tables.proofs.Runs.{refused_before, pushes}
+-- `Tables::push` meets its contract: what is planned is applied, or the refusal stands beside the state. Assumes nothing.
+use mathlib.Core.Path.{refl}
+use Rattle.std.proofs.lemmas.Result.{err_from_is_err_and}
+use Rattle.tables.proofs.Runs.{keeps, pushes}
 use Rattle.tables.proofs.lent.Tables.push.Goals as goal
 
-pub returns-then-is_err-clause-ran : goal.returns-then-is_err-clause-ran
-returns-then-is_err-clause-ran c = refused_before _ _ _ _ _ _ (sym (ok_is_done c.args.st.answer) ∙ c.is_err.ensures.negation ∙ ap not c.if-is_err.true)
+pub returns-in_err-edit-clause-ran : goal.returns-in_err-edit-clause-ran
+returns-in_err-edit-clause-ran c =
+    let p = err_from_is_err_and c.from_residual.result c.from_residual.ensures.1 in
+    let last = rw c.view.ensures at c.last-run.ensures in
+    rw (p.1, p.2) (pushes _ _ _ _ _ _ refl last c.in_err-edit.ensures (keeps _ _ refl))
 
 pub returns-clause-ran : goal.returns-clause-ran
 returns-clause-ran c =
-    let s = c.view.ensures in
-    pushes _ _ _ _ _ _ (sym (ok_is_done c.args.st.answer) ∙ c.is_err.ensures.negation ∙ ap not c.if-is_err.false)
-    (rw s at c.last-last.ensures) c.plan.ensures c.apply.ensures.applied
+    let last = rw c.view.ensures at c.last-run.ensures in
+    pushes _ _ _ _ _ _ refl last c.in_ok-edit.ensures c.apply-run.ensures.applied
