@@ -11,6 +11,7 @@ ghost use Rattle.flatten.specs.Flatten.{flattening, flatten_of};
 use answer::Refusal;
 use evaluate::Outputs;
 use point::Setting;
+use primitives::State;
 use store::Drawing;
 use tables::Tables;
 
@@ -47,15 +48,14 @@ pub fn flatten(
             quads: 0,
         });
     }
-    let state = tables.fill(setting, drawing);
-    let splines = state.splines as usize;
-    let quads = state.quads;
-    let refused = |refusal| Refused {
+    let refused = |refusal, state: State| Refused {
         refusal,
-        splines,
-        quads,
+        splines: state.splines as usize,
+        quads: state.quads,
     };
-    state.answer.map_err(refused)?;
+    let state = tables
+        .fill(setting, drawing)
+        .map_err(|stop| refused(stop.refusal, stop.state))?;
     let points = evaluate::deliver(
         setting,
         &tables.quads.view(),
@@ -63,10 +63,10 @@ pub fn flatten(
         state.splines,
         outputs,
     )
-    .ok_or(refused(Refusal::OutputShort))?;
+    .ok_or(refused(Refusal::OutputShort, state))?;
     Ok(Flattened {
-        splines,
-        quads,
+        splines: state.splines as usize,
+        quads: state.quads,
         points,
     })
 }
