@@ -7,7 +7,6 @@ use crate::layout::{
 };
 use flatten::Flattened;
 use point::Setting;
-use primitives::below;
 use replay::Tally;
 use store::StoreState;
 
@@ -54,12 +53,12 @@ fn splines_kept(
 
 // The last spline carries the flag until the next one opens.
 fn last_flagged(got: &[u32; ALL], n: usize) -> bool {
-    (n == 0) | (entry(got, 11, below(n)) == 1)
+    (n == 0) | (entry(got, 11, n.saturating_sub(1)) == 1)
 }
 
 // The sum of spline `last` up to the quad before `place`.
 fn sum_so_far(whole: &[u32; ALL], place: usize, last: usize) -> u32 {
-    let before = below(place);
+    let before = place.saturating_sub(1);
     if (place == 0) | (entry(whole, PARTIAL_SPLINES, before) as usize != last) {
         return 0;
     }
@@ -85,7 +84,7 @@ fn ranges_to(got: &[u32; ALL], place: usize, last: usize) -> bool {
 fn open_kept(got: &[u32; ALL], whole: &[u32; ALL], place: usize, last: usize) -> bool {
     let summed = entry(got, 6, last) == sum_so_far(whole, place, last);
     let start = extent(QUADS, place);
-    let before = extent(QUADS, below(place));
+    let before = extent(QUADS, place.saturating_sub(1));
     let at_start = ends_at(got, whole, last, start, start + 3);
     let at_end = (place > 0) & ends_at(got, whole, last, before + 2, before + 5);
     summed & ranges_to(got, place, last) & (at_start | at_end)
@@ -99,7 +98,7 @@ fn quads_refused(
     place: usize,
 ) -> bool {
     let n = r.splines;
-    let last = below(n);
+    let last = n.saturating_sub(1);
     let answer = r.answer;
     let opens = entry(whole, PARTIAL_SPLINES, place) as usize == n;
     let ended = if opens { n } else { last };
@@ -123,7 +122,7 @@ fn splines_refused(
     let refused = answer::number(answer) == 7;
     let counted = (n == place) & (r.quads <= quads) & (r.points == 0);
     let pushed = all_kept(got, whole, QUADS, SPLINES, r.quads);
-    let held = splines_kept(got, whole, n, n, below(n));
+    let held = splines_kept(got, whole, n, n, n.saturating_sub(1));
     refused & counted & pushed & held & last_flagged(got, n)
 }
 
