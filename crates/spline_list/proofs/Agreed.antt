@@ -1,16 +1,16 @@
 -- What is known of the lengths if rows are copied: the list has a record for each of the n splines, and no column ends before the nth.
 -- Assumes nothing.
-use mathlib.Core.Path.{◌≡◌, refl, sym, ◌∙◌, subst}
-use mathlib.Core.Bool.{Bool, true, false, ◌&&◌, and-eq-true_iff}
-use Prim.Native.Nat.{ℕ, ◌≤◌, ◌<◌}
-use native.Mathlib.Nat.{not-suc-le-zero}
+use mathlib.Core.Path.{◌≡◌}
+use mathlib.Core.Bool.{Bool, true, ◌&&◌, and-eq-true_iff}
+use Prim.Native.Nat.{ℕ, ◌≤◌}
+use native.Mathlib.Omega.{arith}
 use mathlib.Core.List.{List}
 use lib.Dec.{eqb, leb}
 use lib.ListN.{length}
 use borrow.Author.Tests.{eqb-true, leb-true}
 use Rattle.tables.specs.Tables.{SplineTable}
 use Rattle.primitives.specs.declared.SplineRow.{SplineRow}
-use Rattle.spline_list.specs.Rows.{equal_of, count_of}
+use Rattle.spline_list.specs.Rows.{equal_of}
 
 -- the list has n records, and no column ends before n
 pub record Equal (ys : List SplineRow) (t : SplineTable) (n : ℕ) : Type 0 where
@@ -54,17 +54,6 @@ equal ys t n e =
       quad_count_has = leb-true n (length t.quad_count) h.8;
     }
 
--- a row that is copied is below n, and the lengths agree
-goes_on : (agreed : Bool) (n i : ℕ) → i < count_of agreed n → (agreed ≡ true) × (i < n)
-goes_on true n i h = (refl, h)
-goes_on false n i h = absurd (not-suc-le-zero h)
-
-pub copied :
-    (ys : List SplineRow) (t : SplineTable) (n i : ℕ) {m : ℕ} {agreed : Bool}
-    → agreed ≡ equal_of ys t n
-    → m ≡ count_of agreed n
-    → i < m
-    → Equal ys t n × (i < n)
-copied ys t n i {m} {agreed} e f h =
-    let g = goes_on agreed n i (subst (λ (k : ℕ). i < k) f h) in
-    (equal ys t n (sym e ∙ g.0), g.1)
+-- a loop over the whole list has copied n rows
+pub reached : (ys : List SplineRow) (t : SplineTable) {n i : ℕ} → equal_of ys t n ≡ true → i ≤ length ys → length ys ≤ i → i ≡ n
+reached ys t e below over = omega (arith, (equal ys t _ e).list_is, below, over)

@@ -1,14 +1,11 @@
 -- RULES, The tables 8: the rows of the columns as records, and whole lists copied from the columns and back. Assumes nothing.
-use Rattle.std.specs.Prelude.{ℕ, zero, suc, Bool, false, cond, ◌&&◌, List, eqb, leb, ltb, length, get_or, set}
+use Rattle.std.specs.Prelude.{ℕ, zero, suc, Bool, false, cond, ◌&&◌, List, eqb, leb, ltb, length, get_or, set, Option, Some, None, Result, Ok, Err}
 use Rattle.std.specs.Float.{nan}
 use Rattle.point.specs.Point.{point_at}
 use Rattle.columns.specs.Flags.{flag_byte_of}
 use Rattle.tables.specs.Tables.{SplineTable, spline_table, spline_at}
 use Rattle.primitives.specs.declared.SplineRow.{SplineRow}
-use Rattle.spline_list.specs.declared.Found.{Found}
-use Rattle.spline_list.specs.declared.Found.TheVariants.{At, Past}
-use Rattle.spline_list.specs.declared.Copied.{Copied}
-use Rattle.spline_list.specs.declared.Copied.TheVariants.{All, Unequal}
+use Rattle.spline_list.specs.declared.LengthsDiffer.{LengthsDiffer}
 
 abbrev pub blank : SplineRow
 blank = record { curvature = nan; p0 = point_at nan nan; p2 = point_at nan nan; contour = false; first_quad = 0; quad_count = 0 }
@@ -20,9 +17,9 @@ put_row_of t i v =
     (set t.p2y i v.p2.y) (set t.contour i (flag_byte_of v.contour)) (set t.first_quad i v.first_quad)
     (set t.quad_count i v.quad_count)
 
--- the record at i, or the case `Past` if i is past the list
-abbrev pub spline_at_of : List SplineRow → ℕ → Found
-spline_at_of ys i = cond (ltb i (length ys)) (At (get_or ys i blank)) Past
+-- the record at i, or none if i is past the list
+abbrev pub spline_at_of : List SplineRow → ℕ → Option SplineRow
+spline_at_of ys i = cond (ltb i (length ys)) (Some (get_or ys i blank)) None
 
 -- the list and the columns agree in length: the list has a record for each of the n splines in use, and no column ends before the nth; what a column has
 -- beyond it is capacity
@@ -35,12 +32,9 @@ equal_of ys t n =
     agree_of n (length ys) (length t.curvature) (length t.p0x) (length t.p0y) (length t.p2x) (length t.p2y) (length t.contour)
     (length t.first_quad) (length t.quad_count)
 
-abbrev pub outcome_of : Bool → Copied
-outcome_of agreed = cond agreed All Unequal
-
--- how many rows are copied: all, or none
-abbrev pub count_of : Bool → ℕ → ℕ
-count_of agreed n = cond agreed n 0
+-- all was copied, or nothing
+abbrev pub outcome_of : Bool → Result Unit LengthsDiffer
+outcome_of agreed = cond agreed (Ok tt) (Err (record {}))
 
 -- g 0, g 1, .. are stored to the first n places of a list; its laws are in proofs/Laws.antt
 abbrev pub stores : {X : Type 0} → (ℕ → X) → ℕ → List X → List X

@@ -1,2 +1,2 @@
-# Only how far the loop has come is kept.
-/^  stored :/d
+# Nothing of the list is kept.
+s/^invariant-loop-i l = .*/invariant-loop-i l = Unit/

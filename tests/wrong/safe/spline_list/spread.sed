@@ -1,2 +1,2 @@
-# Only how far the loop has come is kept.
-/^  put :/,/^      (spline_table/d
+# Only that the columns are the lent ones is kept.
+/^  put :/d
