@@ -1,5 +1,6 @@
 -- A column laid out entry by entry: what is left of it, laid after what already is. Assumes nothing.
-use Rattle.std.proofs.Common.{◌≡◌, ℕ, zero, suc, ◌+◌, ◌-◌, ◌<◌, ◌≤◌, List, [], ◌∷◌, length, get_or, drop, set, sym, refl, ap, ◌∙◌, add-one, arith, drop_of_length-le, drop-cons}
+use Rattle.std.proofs.Common.{◌≡◌, ℕ, zero, suc, ◌+◌, ◌-◌, ◌<◌, ◌≤◌, List, [], ◌∷◌, length, get_or, drop, set, min, inl, inr, sym, refl, ap, ◌∙◌, add-one, arith, drop_of_length-le, drop-cons}
+use Rattle.std.proofs.Math.Nat.{eq-or-lt_of_le, min-le_left}
 use Rattle.replay.specs.Numbers.{laid}
 
 module _ {A : Type 0} (number : A → ℕ) where
@@ -44,3 +45,7 @@ module _ {A : Type 0} (number : A → ℕ) where
     lay_end h =
         let p : n - i ≡ 0 = omega (arith, h) in
         sym (whole ∙ ap (λ (m : ℕ). laid number m (at + i) (drop i column) numbers) p ∙ laid_none (at + i) (drop i column) numbers)
+
+    -- i is as many as there are entries, or as were asked for
+    pub lay_all : min n (length column) ≤ i → numbers ≡ laid number n at column numbers₀
+    lay_all h = elim (eq-or-lt_of_le (min-le_left n (length column))) [ inl k ↦ lay_end (omega (arith, h, k)) | inr k ↦ lay_short (omega (arith, h, k)) ]

@@ -3,8 +3,9 @@ use Rattle.std.proofs.Common.{◌≡◌, ℕ, ◌<◌, ◌≤◌, List, [], ◌+
 use Rattle.std.proofs.lemmas.List.{take_all, drop_all, take-append-le, append-nil}
 use Rattle.std.proofs.Math.Nat.{eq-or-lt_of_le}
 use Rattle.std.specs.Io.KnownBytes.{Consumes, IsAtEnd}
+use Rattle.std.specs.Option.{unwrap_or}
 use Rattle.text.specs.Hex.{hex_at_of}
-use Rattle.replay.specs.Reading.{number_or_zero, number_in}
+use Rattle.replay.specs.Reading.{number_in}
 
 -- of the bytes xs the first m were given, or all if there are fewer, and the reader has the others
 pub record Taken (m : ℕ) (given xs : List ℕ) (new : Option (List ℕ)) : Type 0 where
@@ -44,8 +45,8 @@ pub taken-rest : (m : ℕ) (given : List ℕ) (old new : Option (List ℕ)) → 
 taken-rest m given None new t = tt
 taken-rest m given (Some xs) new t = t.rest
 
-pub taken-number : (given : List ℕ) (old new : Option (List ℕ)) (n : ℕ) → IfSome old (λ xs. Taken 9 given xs new) → n ≡ number_or_zero (hex_at_of given 0)
+pub taken-number : (given : List ℕ) (old new : Option (List ℕ)) (n : ℕ) → IfSome old (λ xs. Taken 9 given xs new) → n ≡ unwrap_or (hex_at_of given 0) 0
     → IfSome old (λ xs. n ≡ number_in xs)
 unfolding number_in
 taken-number given None new n t e = tt
-taken-number given (Some xs) new n t e = e ∙ ap (λ (l : List ℕ). number_or_zero (hex_at_of l 0)) t.front
+taken-number given (Some xs) new n t e = e ∙ ap (λ (l : List ℕ). unwrap_or (hex_at_of l 0) 0) t.front

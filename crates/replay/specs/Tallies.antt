@@ -1,6 +1,6 @@
 -- Comparisons counted, and those that are right. The counts wrap, as no list is that long. Assumes nothing.
 use Rattle.std.specs.Prelude.{ℕ, ◌+◌, ◌%◌, ◌^◌, Bool, cond}
-use Rattle.replay.specs.declared.Tally.{Tally}
+use Rattle.replay.specs.declared.counting.Tally.{Tally}
 
 abbrev pub tally : ℕ → ℕ → Tally
 tally all right = record { all = all; right = right }

@@ -1,40 +1,54 @@
 // How many comparisons there are, and how many are right.
-ghost use Rattle.std.specs.Prelude.{◌≡◌};
-ghost use Rattle.replay.specs.Tallies.{tally, counted_of, both_of};
+ghost use Rattle.std.specs.Prelude.{◌≡◌, ◌==◌};
+ghost use Rattle.replay.specs.Tallies.{counted_of, both_of};
 
-use crate::Tally;
-use std::io;
+use std::fmt;
+use std::ops::Add;
 
-pub fn none() -> Tally
-    ensures { result ≡ tally 0 0 }
-{
-    Tally { all: 0, right: 0 }
+// Comparisons, and those of them that are as they must be.
+#[derive(Clone, Copy, Default)]
+pub struct Tally {
+    pub all: u64,
+    pub right: u64,
 }
 
-// One more.
-pub fn counted(t: Tally, right: bool) -> Tally
-    ensures { result ≡ counted_of t right }
-{
-    let all = t.all.wrapping_add(1);
-    if right {
-        let more = t.right.wrapping_add(1);
-        return Tally { all, right: more };
+impl Tally {
+    // One more.
+    #[tactic(auto, unfolding(crate::specs::Tallies::counted_of))]
+    pub fn count(&mut self, right: bool)
+        ensures { self.new ≡ counted_of self.old right }
+    {
+        self.all = self.all.wrapping_add(1);
+        if right {
+            self.right = self.right.wrapping_add(1);
+        }
     }
-    Tally {
-        all,
-        right: t.right,
+
+    // Whether every comparison is right.
+    pub fn is_right(self) -> bool
+        ensures { result ≡ (self.right == self.all) }
+    {
+        self.right == self.all
     }
 }
 
-pub fn both(a: Tally, b: Tally) -> Tally
-    ensures { result ≡ both_of a b }
-{
-    let all = a.all.wrapping_add(b.all);
-    let right = a.right.wrapping_add(b.right);
-    Tally { all, right }
+impl Add for Tally {
+    type Output = Self;
+
+    ghost add_gives = { λ a b r. r ≡ both_of a b };
+
+    #[tactic(auto, unfolding(crate::specs::Tallies::both_of))]
+    fn add(self, other: Self) -> Self {
+        Self {
+            all: self.all.wrapping_add(other.all),
+            right: self.right.wrapping_add(other.right),
+        }
+    }
 }
 
 // As in `3 of 4`.
-pub fn print_of(rt: &impl Print, t: Tally) -> io::Result<()> {
-    print!(rt; "{} of {}", t.right, t.all)
+impl fmt::Display for Tally {
+    fn fmt<W: fmt::Write>(&self, f: &mut fmt::Formatter<W>) -> fmt::Result {
+        write!(f, "{} of {}", self.right, self.all)
+    }
 }

@@ -6,13 +6,6 @@ mod counting;
 mod numbers;
 mod reading;
 
-pub use counting::{both, counted, none, print_of};
-pub use numbers::{all_are, number_at, put_bytes, put_floats, put_sizes, put_words, same};
+pub use counting::Tally;
+pub use numbers::{Entry, all_are, number_at, put, same};
 pub use reading::{float, follow, letter, number};
-
-// Comparisons, and those of them that are as they must be.
-#[derive(Clone, Copy)]
-pub struct Tally {
-    pub all: u64,
-    pub right: u64,
-}

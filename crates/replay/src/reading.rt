@@ -26,8 +26,7 @@ pub fn float<R: Read>(list: &mut R) -> io::Result<f32>
     ensures rest { OnOk result (IfSome (R.remaining list.old) (λ bytes. R.remaining list.new ≡ Some (drop 9 bytes))) }
     ensures err { OnErr result ((bs : List ℕ) × Consumes (R.remaining list.old) (R.remaining list.new) bs × (length bs < 9)) }
 {
-    let bits = number(list)?;
-    Ok(leaves::from_bits(bits))
+    Ok(leaves::from_bits(number(list)?))
 }
 
 // The letter that a line begins with, and the byte after it; 0 at the end.
@@ -38,10 +37,7 @@ pub fn letter<R: Read>(list: &mut R) -> io::Result<u8>
 {
     let mut start = [0u8; 2];
     let n = input::read_full(list, &mut start)?;
-    if n == 0 {
-        return Ok(0);
-    }
-    Ok(start[0])
+    Ok(start[..n].first().copied().unwrap_or(0))
 }
 
 // Whether the next n numbers are those from a place on. All of them are read, even after a difference.
@@ -53,7 +49,7 @@ pub fn follow<R: Read>(list: &mut R, numbers: &[u32], at: usize, n: usize) -> io
     let mut good = true;
     for i in 0..n {
         let expected = number(list)?;
-        good = good & (number_at(numbers, at, i) == expected);
+        good &= number_at(numbers, at, i) == expected;
     }
     Ok(good)
 }

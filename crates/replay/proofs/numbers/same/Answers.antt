@@ -1,25 +1,16 @@
--- `replay::same` meets its contract: what is left is compared as the whole is. Assumes nothing.
-use Rattle.std.proofs.Common.{eqb, get_or}
-use Rattle.replay.specs.Numbers.{same_from}
-use Rattle.replay.proofs.Comparing.{on, off, all, alike, apart, same_ends, same_next}
+-- `replay::same` meets its contract: `all` over the places. Assumes nothing.
+use borrow.Author.Tests.{tests}
+use Rattle.std.proofs.Common.{rules, ◌+◌, eqb, get_or, refl, ◌∙◌}
+use Rattle.std.proofs.Math.Nat.{sub-zero}
+use Rattle.std.proofs.lemmas.Iterator.{YieldsList-from_range}
+use Rattle.std.proofs.lemmas.Iterator.Search.{all_from_yields_List}
+use Rattle.replay.proofs.Comparing.{each_same}
 use Rattle.replay.proofs.numbers.same.Goals as goal
-
-pub returns-then-left-right : goal.returns-then-left-right
-returns-then-left-right c =
-    let a = c.args.a.now in
-    let b = c.args.b.now in
-    off (λ n at. same_from n at a b) (λ at. eqb (get_or a at 0) (get_or b at 0)) (same_ends a b) (same_next a b) _ _ _
-    c.loop-i.invariant c.loop-i-test.true (apart _ _ _ _ c.number_at-left.ensures c.number_at-right.ensures c.if-left-right.true)
-
-pub loop-i-preserved : goal.loop-i-preserved
-loop-i-preserved c =
-    let a = c.args.a.now in
-    let b = c.args.b.now in
-    on (λ n at. same_from n at a b) (λ at. eqb (get_or a at 0) (get_or b at 0)) (same_ends a b) (same_next a b) _ _ _
-    c.loop-i.invariant c.loop-i-test.true (alike _ _ _ _ c.number_at-left.ensures c.number_at-right.ensures c.if-left-right.false)
 
 pub returns : goal.returns
 returns c =
     let a = c.args.a.now in
     let b = c.args.b.now in
-    all (λ n at. same_from n at a b) (λ at. eqb (get_or a at 0) (get_or b at 0)) (same_ends a b) (same_next a b) _ _ _ c.loop-i.invariant c.loop-i-test.false
+    all_from_yields_List (λ i. eqb (get_or a (c.args.at + i) 0) (get_or b (c.args.at + i) 0)) _ _ _ c.all.ensures.ran
+    (YieldsList-from_range 0 c.args.n c.args.n refl (sub-zero c.args.n)) (λ x r q k. search (rules, tests))
+    ∙ each_same a b c.args.n c.args.at
