@@ -4,39 +4,12 @@
 
 use command::PointCommand;
 use point::{Point, Setting, WeightedPoint};
-use replay::{Tally, float, number as word};
+use replay::{Check, check_all, float, number as word};
 use std::io;
 use std::io::Read;
 
-// What is given, and what the list has for it.
-#[derive(Clone, Copy)]
-struct Check {
-    got: u32,
-    want: u32,
-}
-
-impl Check {
-    fn agrees(self) -> bool {
-        self.got == self.want
-    }
-
-    // The first of two that does not agree.
-    fn and(self, next: Check) -> Check {
-        if self.agrees() {
-            return next;
-        }
-        self
-    }
-}
-
-// Against the next word of the list.
-fn against(list: &mut impl Read, got: u32) -> io::Result<Check> {
-    let want = word(list)?;
-    Ok(Check { got, want })
-}
-
 fn against_float(list: &mut impl Read, x: f32) -> io::Result<Check> {
-    against(list, leaves::bits(x))
+    Check::against(list, leaves::bits(x))
 }
 
 fn angle(list: &mut impl Read) -> io::Result<Check> {
@@ -45,8 +18,8 @@ fn angle(list: &mut impl Read) -> io::Result<Check> {
     let d = Point::new(x, y);
     let len = against_float(list, d.len())?;
     let (known, value) = match d.angle() {
-        None => (against(list, 0)?, against(list, 0)?),
-        Some(a) => (against(list, 1)?, against_float(list, a)?),
+        None => (Check::against(list, 0)?, Check::against(list, 0)?),
+        Some(a) => (Check::against(list, 1)?, against_float(list, a)?),
     };
     Ok(len.and(known).and(value))
 }
@@ -54,38 +27,27 @@ fn angle(list: &mut impl Read) -> io::Result<Check> {
 fn angle_read(list: &mut impl Read) -> io::Result<Option<f32>> {
     let known = word(list)?;
     let a = float(list)?;
-    if known == 0 {
-        return Ok(None);
-    }
-    Ok(Some(a))
+    Ok((known != 0).then_some(a))
 }
 
 fn changed(list: &mut impl Read, setting: Setting) -> io::Result<Check> {
     let a0 = angle_read(list)?;
     let a1 = angle_read(list)?;
-    against(list, u32::from(point::changed(setting, a0, a1)))
+    Check::against(list, u32::from(point::changed(setting, a0, a1)))
 }
 
-fn diff(list: &mut impl Read) -> io::Result<Check> {
-    let a0 = float(list)?;
-    let a1 = float(list)?;
-    against_float(list, point::diff(a0, a1))
-}
-
-fn full_diff(list: &mut impl Read) -> io::Result<Check> {
-    let a0 = float(list)?;
-    let a1 = float(list)?;
-    against_float(list, point::full_diff(a0, a1))
-}
-
-fn curvature(list: &mut impl Read) -> io::Result<Check> {
+fn of_float<F: Fn(f32) -> f32>(list: &mut impl Read, function: F) -> io::Result<Check>
+    requires { F.IsAlwaysCallable function }
+{
     let x = float(list)?;
-    against_float(list, point::curvature(x))
+    against_float(list, function(x))
 }
 
-fn inv_curvature(list: &mut impl Read) -> io::Result<Check> {
-    let x = float(list)?;
-    against_float(list, point::inv_curvature(x))
+fn of_two<F: Fn(f32, f32) -> f32>(list: &mut impl Read, function: F) -> io::Result<Check>
+    requires { F.IsAlwaysCallable function }
+{
+    let (a, b) = (float(list)?, float(list)?);
+    against_float(list, function(a, b))
 }
 
 fn weighted_point(list: &mut impl Read) -> io::Result<WeightedPoint> {
@@ -124,9 +86,9 @@ fn eval_quad(list: &mut impl Read) -> io::Result<Check> {
 // The case, its number or its step's bits, and its flag.
 fn against_command(list: &mut impl Read, case: u32, value: u32, flag: u32) -> io::Result<Check> {
     Ok(
-        against(list, case)?
-            .and(against(list, value)?)
-            .and(against(list, flag)?),
+        Check::against(list, case)?
+            .and(Check::against(list, value)?)
+            .and(Check::against(list, flag)?),
     )
 }
 
@@ -138,7 +100,7 @@ fn unpack(list: &mut impl Read) -> io::Result<Check> {
         PointCommand::End(i, flag) => (2, (i % 0x1_0000_0000) as u32, u32::from(flag)),
     };
     let fields = against_command(list, case, value, flag)?;
-    Ok(fields.and(against(list, u32::from(c))?))
+    Ok(fields.and(Check::against(list, u32::from(c))?))
 }
 
 fn pack(list: &mut impl Read) -> io::Result<Check> {
@@ -150,58 +112,7 @@ fn pack(list: &mut impl Read) -> io::Result<Check> {
         1 => PointCommand::Incr(leaves::from_bits(value)),
         _ => PointCommand::End(value as usize, flag != 0),
     };
-    against(list, u32::from(command))
-}
-
-fn one(list: &mut impl Read, function: u8) -> io::Result<Check> {
-    match function {
-        0 => angle(list),
-        1 => changed(list, Setting::Screen),
-        2 => curvature(list),
-        3 => inv_curvature(list),
-        4 => eval_cubic(list),
-        5 => eval_quad(list),
-        6 => unpack(list),
-        7 => pack(list),
-        8 => changed(list, Setting::Knife),
-        9 => diff(list),
-        _ => full_diff(list),
-    }
-}
-
-// The first vector that does not agree, by its number from 1.
-fn write_first(rt: &impl Print, number: u64, c: Check) -> io::Result<()> {
-    println!(rt;
-        "vector {number} gives {:08x} where the list has {:08x}",
-        c.got, c.want
-    )
-}
-
-// The next `count` vectors of a function.
-fn agreeing(rt: &impl Print, list: &mut impl Read, function: u8, count: u64) -> io::Result<Tally> {
-    let mut tally = replay::none();
-    for i in 0..count {
-        let c = one(list, function)?;
-        let agrees = c.agrees();
-        if !agrees & (tally.right == tally.all) {
-            write_first(rt, i + 1, c)?;
-        }
-        tally = replay::counted(tally, agrees);
-    }
-    Ok(tally)
-}
-
-fn run(
-    rt: &impl Print,
-    list: &mut impl Read,
-    name: &str,
-    function: u8,
-    count: u64,
-) -> io::Result<()> {
-    let tally = agreeing(rt, list, function, count)?;
-    print!(rt; "{name} ")?;
-    replay::print_of(rt, tally)?;
-    println!(rt)
+    Check::against(list, u32::from(command))
 }
 
 // Whether the list has no more than was read.
@@ -213,17 +124,29 @@ fn is_at_end(list: &mut impl Read) -> io::Result<bool> {
 
 fn main(rt: HostRuntime) -> io::Result<()> {
     let mut list = rt.stdin();
-    run(&rt, &mut list, "angle", 0, 1224)?;
-    run(&rt, &mut list, "changed", 1, 497)?;
-    run(&rt, &mut list, "curvature", 2, 1024)?;
-    run(&rt, &mut list, "inv_curvature", 3, 1024)?;
-    run(&rt, &mut list, "eval_cubic", 4, 1024)?;
-    run(&rt, &mut list, "eval_quad", 5, 512)?;
-    run(&rt, &mut list, "unpack", 6, 534)?;
-    run(&rt, &mut list, "pack", 7, 87)?;
-    run(&rt, &mut list, "changed for the knife", 8, 1280)?;
-    run(&rt, &mut list, "diff", 9, 783)?;
-    run(&rt, &mut list, "full_diff", 10, 783)?;
+    check_all(&rt, &mut list, "angle", 1224, |list| angle(list))?;
+    check_all(&rt, &mut list, "changed", 497, |list| {
+        changed(list, Setting::Screen)
+    })?;
+    check_all(&rt, &mut list, "curvature", 1024, |list| {
+        of_float(list, |x| point::curvature(x))
+    })?;
+    check_all(&rt, &mut list, "inv_curvature", 1024, |list| {
+        of_float(list, |x| point::inv_curvature(x))
+    })?;
+    check_all(&rt, &mut list, "eval_cubic", 1024, |list| eval_cubic(list))?;
+    check_all(&rt, &mut list, "eval_quad", 512, |list| eval_quad(list))?;
+    check_all(&rt, &mut list, "unpack", 534, |list| unpack(list))?;
+    check_all(&rt, &mut list, "pack", 87, |list| pack(list))?;
+    check_all(&rt, &mut list, "changed for the knife", 1280, |list| {
+        changed(list, Setting::Knife)
+    })?;
+    check_all(&rt, &mut list, "diff", 783, |list| {
+        of_two(list, |a, b| point::diff(a, b))
+    })?;
+    check_all(&rt, &mut list, "full_diff", 783, |list| {
+        of_two(list, |a, b| point::full_diff(a, b))
+    })?;
     if is_at_end(&mut list)? {
         println!(rt; "end of the list")?;
     }

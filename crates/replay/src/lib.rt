@@ -1,11 +1,13 @@
-// What the gate's programs share that replay stored lists: numbers read from a list, columns laid out as numbers and compared, and counting. No crate
+// What the gate's programs share that replay stored lists: numbers read from a list, columns laid out as numbers and compared, and comparisons counted. No crate
 // of the product uses it.
 #![tactic(auto)]
 
 mod counting;
 mod numbers;
 mod reading;
+mod vectors;
 
 pub use counting::Tally;
 pub use numbers::{Entry, all_are, number_at, put, same};
 pub use reading::{float, follow, letter, number};
+pub use vectors::{Check, check_all};
