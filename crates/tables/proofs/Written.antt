@@ -1,46 +1,55 @@
 -- A row written or read column by column, or three numbers at a time, is the table's row. Assumes nothing.
-use mathlib.Core.Path.{◌≡◌}
+use mathlib.Core.Path.{◌≡◌, ◌∙◌}
 use mathlib.Core.List.{List}
 use mathlib.Core.Bool.{false}
-use Prim.Native.Nat.{ℕ, suc, ◌+◌, ◌*◌, ◌<◌}
-use native.Mathlib.Nat.{add-zero, add_assoc}
-use native.Mathlib.Numerals.{towards_suc}
+use Prim.Native.Nat.{ℕ, ◌+◌, ◌-◌, ◌*◌, ◌<◌}
 use native.Mathlib.Omega.{arith}
-use lib.Dec.{ltb}
-use lib.Ieee.{Float}
-use lib.ListN.{get_or, set}
-use lib.Seq.{sets}
+use lib.Dec.{ltb, lit<}
+use lib.Ieee.{Float, nan}
+use lib.ListN.{get_or, set, take, drop, replicate}
+use lib.Seq.{get_or-take, get_or-drop}
 use borrow.Author.Tests.{lt-ltb}
 use Rattle.columns.specs.Flags.{flag_byte_of}
-use Rattle.primitives.specs.declared.QuadRow.{QuadRow}
 use Rattle.primitives.specs.Edits.{SplineEdit}
-use Rattle.tables.specs.Tables.{QuadTable, SplineTable, spline_table, whole_rows_of, numbers_of, number_at, quad_row_at, clear_flag, put_spline}
-use Rattle.tables.specs.Threes.{set_three, row_from, no_row}
+use Rattle.tables.specs.Numbers.{row_of}
+use Rattle.tables.specs.Tables.{QuadTable, SplineTable, spline_table, whole_rows_of, number_at, quad_row_at, clear_flag, put_spline}
 
-nine : (j : ℕ) → j + 9 ≡ suc (j + 8)
-nine j = omega arith
+module _ (q : QuadTable) (i : ℕ) {numbers : List Float} where
+  -- a row that is whole, from its 15 numbers
+  pub row_read : i < whole_rows_of q.rows → numbers ≡ take (15 * i + 15 - 15 * i) (drop (15 * i) q.rows)
+      → row_of numbers (get_or q.partial_splines i 0) ≡ quad_row_at q i
+  unfolding quad_row_at number_at
+  row_read h e =
+      rw (
+        e,
+        fifteen,
+        lt-ltb i (whole_rows_of q.rows) h,
+        at 0 (lit< tt),
+        at 1 (lit< tt),
+        at 2 (lit< tt),
+        at 3 (lit< tt),
+        at 4 (lit< tt),
+        at 5 (lit< tt),
+        at 6 (lit< tt),
+        at 7 (lit< tt),
+        at 8 (lit< tt),
+        at 9 (lit< tt),
+        at 10 (lit< tt),
+        at 11 (lit< tt),
+        at 12 (lit< tt),
+        at 13 (lit< tt),
+        at 14 (lit< tt),
+      )
+    where
+      fifteen : 15 * i + 15 - 15 * i ≡ 15
+      fifteen = omega arith
 
-twelve : (j : ℕ) → j + 12 ≡ suc (suc (suc (suc (j + 8))))
-twelve j = omega arith
+      at : (k : ℕ) → k < 15 → get_or (take 15 (drop (15 * i) q.rows)) k nan ≡ get_or q.rows (15 * i + k) nan
+      at k h = get_or-take 15 (drop (15 * i) q.rows) k nan h ∙ get_or-drop (15 * i) q.rows k nan
 
-pub threes_put :
-    (l : List Float) (j : ℕ) (row : QuadRow) {a b c d e : List Float}
-    → a ≡ set_three l j row.x
-    → b ≡ set_three a (j + 3) row.y
-    → c ≡ set_three b (j + 6) row.weight
-    → d ≡ set_three c (j + 9) (record { a = row.x0; b = row.dx_recip; c = row.k0 })
-    → e ≡ set_three d (j + 12) (record { a = row.dk; b = row.curvature_recip; c = row.partial_curvature })
-    → e ≡ sets l j (numbers_of row)
-unfolding numbers_of
-threes_put l j row e1 e2 e3 e4 e5 = rw (e5, e4, e3, e2, e1) (simp (towards_suc, nine, twelve))
-
-pub row_read : (q : QuadTable) (i : ℕ) → i < whole_rows_of q.rows → row_from q.rows (15 * i) (get_or q.partial_splines i 0) ≡ quad_row_at q i
-unfolding quad_row_at number_at
-row_read q i h = rw (lt-ltb i (whole_rows_of q.rows) h) (simp (add_assoc, add-zero))
-
-pub row_not_whole : (q : QuadTable) (i : ℕ) → ltb i (whole_rows_of q.rows) ≡ false → no_row (get_or q.partial_splines i 0) ≡ quad_row_at q i
-unfolding quad_row_at number_at
-row_not_whole q i e = rw e
+  pub row_not_whole : ltb i (whole_rows_of q.rows) ≡ false → numbers ≡ replicate 15 nan → row_of numbers (get_or q.partial_splines i 0) ≡ quad_row_at q i
+  unfolding quad_row_at number_at
+  row_not_whole e en = rw (e, en)
 
 pub spline_put :
     (s : SplineTable) (edit : SplineEdit) {curvature p0x p0y p2x p2y : List Float} {contour cleared first_quad quad_count : List ℕ} {byte : ℕ}

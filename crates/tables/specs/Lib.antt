@@ -1,5 +1,5 @@
 pub mod Tables
-pub mod Threes
+pub mod Numbers
 pub mod Past
 pub mod Run
 pub mod Lent

@@ -4,48 +4,83 @@ ghost use Rattle.std.proofs.lemmas.List.Edits.{sets};
 ghost use Rattle.tables.specs.Tables.{numbers_of, put_quad, sum_at_of, quad_row_at, clear_flag, put_spline, spline_at, last_spline_of};
 ghost use Rattle.tables.specs.Lent.{quads_of, splines_of, quads_mut_of, splines_mut_of, SameQuads, SameSplines};
 ghost use Rattle.primitives.specs.Edits.{spline_edited};
-ghost use Rattle.tables.specs.Threes.{set_three, three_from, row_from, no_row};
+ghost use Rattle.tables.specs.Numbers.{row_of};
 
 use crate::lent::{QuadColumns, QuadColumnsMut, SplineColumns, SplineColumnsMut, WIDTH};
 use columns::{flag_byte, is_flag, read, write};
 use point::Point;
 use primitives::{QuadRow, SplineEdit, SplineRow, Three};
 
-fn put_three(quad_rows: &mut [f32], j: usize, v: Three)
-    requires { j + 3 ≤ length quad_rows.old }
-    ensures { quad_rows.new ≡ set_three quad_rows.old j v }
+// The numbers of a row, as the table has them.
+#[tactic(auto, unfolding(crate::specs::Tables::numbers_of))]
+fn numbers(row: QuadRow) -> [f32; WIDTH]
+    ensures { result ≡ numbers_of row }
 {
-    let k = j + 1;
-    let l = j + 2;
-    quad_rows[j] = v.a;
-    quad_rows[k] = v.b;
-    quad_rows[l] = v.c;
+    let QuadRow { x, y, weight, .. } = row;
+    [
+        x.a,
+        x.b,
+        x.c,
+        y.a,
+        y.b,
+        y.c,
+        weight.a,
+        weight.b,
+        weight.c,
+        row.x0,
+        row.dx_recip,
+        row.k0,
+        row.dk,
+        row.curvature_recip,
+        row.partial_curvature,
+    ]
 }
 
-// The row whose first number is at j: five times three numbers.
-fn put_row(quad_rows: &mut [f32], j: usize, row: QuadRow)
-    requires { j + 15 ≤ length quad_rows.old }
-    ensures { quad_rows.new ≡ sets quad_rows.old j (numbers_of row) }
+// The row that has these numbers.
+fn quad_row(numbers: [f32; WIDTH], spline: u32) -> QuadRow
+    ensures { result ≡ row_of numbers spline }
 {
-    let fourth = Three {
-        a: row.x0,
-        b: row.dx_recip,
-        c: row.k0,
-    };
-    let fifth = Three {
-        a: row.dk,
-        b: row.curvature_recip,
-        c: row.partial_curvature,
-    };
-    let j3 = j + 3;
-    let j6 = j + 6;
-    let j9 = j + 9;
-    let j12 = j + 12;
-    put_three(quad_rows, j, row.x);
-    put_three(quad_rows, j3, row.y);
-    put_three(quad_rows, j6, row.weight);
-    put_three(quad_rows, j9, fourth);
-    put_three(quad_rows, j12, fifth);
+    let [
+        x0,
+        x1,
+        x2,
+        y0,
+        y1,
+        y2,
+        w0,
+        w1,
+        w2,
+        start,
+        dx_recip,
+        k0,
+        dk,
+        curvature_recip,
+        partial_curvature,
+    ] = numbers;
+    QuadRow {
+        x: Three {
+            a: x0,
+            b: x1,
+            c: x2,
+        },
+        y: Three {
+            a: y0,
+            b: y1,
+            c: y2,
+        },
+        weight: Three {
+            a: w0,
+            b: w1,
+            c: w2,
+        },
+        x0: start,
+        dx_recip,
+        k0,
+        dk,
+        curvature_recip,
+        partial_curvature,
+        spline,
+    }
 }
 
 impl QuadColumnsMut<'_> {
@@ -54,71 +89,10 @@ impl QuadColumnsMut<'_> {
         ensures put { quads_mut_of self.new ≡ put_quad (quads_mut_of self.old) i row }
     {
         if i < self.view().capacity() {
-            put_row(self.quad_rows, WIDTH * i, row);
+            let at = WIDTH * i;
+            self.quad_rows[at..at + WIDTH].copy_from_slice(&numbers(row));
             write(self.partial_splines, i, row.spline);
         }
-    }
-}
-
-fn three_from(quad_rows: &[f32], j: usize) -> Three
-    requires { j + 3 ≤ length quad_rows.now }
-    ensures { result ≡ three_from quad_rows.now j }
-{
-    let k = j + 1;
-    let l = j + 2;
-    Three {
-        a: quad_rows[j],
-        b: quad_rows[k],
-        c: quad_rows[l],
-    }
-}
-
-// The row whose first number is at j.
-fn whole_row(quad_rows: &[f32], j: usize, spline: u32) -> QuadRow
-    requires { j + 15 ≤ length quad_rows.now }
-    ensures { result ≡ row_from quad_rows.now j spline }
-{
-    let j3 = j + 3;
-    let j6 = j + 6;
-    let j9 = j + 9;
-    let j12 = j + 12;
-    let fourth = three_from(quad_rows, j9);
-    let fifth = three_from(quad_rows, j12);
-    QuadRow {
-        x: three_from(quad_rows, j),
-        y: three_from(quad_rows, j3),
-        weight: three_from(quad_rows, j6),
-        x0: fourth.a,
-        dx_recip: fourth.b,
-        k0: fourth.c,
-        dk: fifth.a,
-        curvature_recip: fifth.b,
-        partial_curvature: fifth.c,
-        spline,
-    }
-}
-
-// What is read where a row is not whole.
-fn no_row(spline: u32) -> QuadRow
-    ensures { result ≡ no_row spline }
-{
-    let nan = 0.0 / 0.0;
-    let three = Three {
-        a: nan,
-        b: nan,
-        c: nan,
-    };
-    QuadRow {
-        x: three,
-        y: three,
-        weight: three,
-        x0: nan,
-        dx_recip: nan,
-        k0: nan,
-        dk: nan,
-        curvature_recip: nan,
-        partial_curvature: nan,
-        spline,
     }
 }
 
@@ -151,14 +125,16 @@ impl SplineColumnsMut<'_> {
 }
 
 impl QuadColumns<'_> {
+    // Where the row is not whole, its numbers are NaN.
     pub fn row_at(&self, i: usize) -> QuadRow
         ensures { result ≡ quad_row_at (quads_of self.now) i }
     {
-        let spline = read(self.partial_splines, i, 0);
+        let mut numbers = [f32::NAN; WIDTH];
         if i < self.whole_rows() {
-            return whole_row(self.quad_rows, WIDTH * i, spline);
+            let at = WIDTH * i;
+            numbers.copy_from_slice(&self.quad_rows[at..at + WIDTH]);
         }
-        no_row(spline)
+        quad_row(numbers, read(self.partial_splines, i, 0))
     }
 
     // The sum of quad i, or NaN where its row is not whole.
