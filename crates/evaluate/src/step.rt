@@ -11,45 +11,15 @@ use columns::read;
 use point::{Point, WeightedPoint};
 use tables::QuadColumns;
 
+#[tactic(auto, unfolding(crate::specs::Evaluate::previous_sum_of, tables::specs::Tables::quad_row_at))]
 fn previous_sum(quads: &QuadColumns<'_>, i: usize) -> f32
     ensures { result ≡ previous_sum_of (quad_row_at (quads_of quads.now)) i }
 {
-    if i == 0 {
-        return 0.0;
-    }
-    let j = i - 1;
-    let before = read(quads.partial_splines, j, 0);
-    let own = read(quads.partial_splines, i, 0);
-    if before == own {
-        return quads.sum_at(j);
+    let splines = quads.partial_splines;
+    if i > 0 && read(splines, i - 1, 0) == read(splines, i, 0) {
+        return quads.sum_at(i - 1);
     }
     0.0
-}
-
-pub fn step_quad(quads: &QuadColumns<'_>, i: usize) -> StepQuad
-    ensures { result ≡ step_quad_of (quad_row_at (quads_of quads.now)) i }
-{
-    let row = quads.row_at(i);
-    StepQuad {
-        p0: WeightedPoint {
-            point: Point::new(row.x.a, row.y.a),
-            weight: row.weight.a,
-        },
-        p1: WeightedPoint {
-            point: Point::new(row.x.b, row.y.b),
-            weight: row.weight.b,
-        },
-        p2: WeightedPoint {
-            point: Point::new(row.x.c, row.y.c),
-            weight: row.weight.c,
-        },
-        x0: row.x0,
-        dx_recip: row.dx_recip,
-        k0: row.k0,
-        dk: row.dk,
-        curvature_recip: row.curvature_recip,
-        previous_sum: previous_sum(quads, i),
-    }
 }
 
 // The quad cursor for step p.
@@ -60,23 +30,45 @@ pub fn step_cursor(quads: &QuadColumns<'_>, p: u32, cursor: usize) -> usize
     walk::cursor_at(quads, p as f32, cursor)
 }
 
-// Where on its quad step p of this size lies, from 0 to 1.
-pub fn parameter(quad: StepQuad, size: f32, p: u32) -> f32
-    requires { p ≤ 65537 }
-    ensures { result ≡ parameter_of quad size p }
-{
-    let ratio = leaves::fma(size, p as f32, -quad.previous_sum) * quad.curvature_recip;
-    let x = point::inv_curvature(leaves::fma(ratio, quad.dk, quad.k0));
-    leaves::clamp((x - quad.x0) * quad.dx_recip, 0.0, 1.0)
-}
+impl StepQuad {
+    // Quad i, as a step reads it.
+    pub(crate) fn at(quads: &QuadColumns<'_>, i: usize) -> Self
+        ensures { result ≡ step_quad_of (quad_row_at (quads_of quads.now)) i }
+    {
+        let row = quads.row_at(i);
+        let weighted = |x, y, weight| WeightedPoint {
+            point: Point { x, y },
+            weight,
+        };
+        StepQuad {
+            p0: weighted(row.x.a, row.y.a, row.weight.a),
+            p1: weighted(row.x.b, row.y.b, row.weight.b),
+            p2: weighted(row.x.c, row.y.c, row.weight.c),
+            x0: row.x0,
+            dx_recip: row.dx_recip,
+            k0: row.k0,
+            dk: row.dk,
+            curvature_recip: row.curvature_recip,
+            previous_sum: previous_sum(quads, i),
+        }
+    }
 
-pub fn step_point(quad: StepQuad, size: f32, p: u32) -> Point
-    requires { p ≤ 65537 }
-    ensures { result ≡ step_point_of quad size p }
-{
-    let t = parameter(quad, size, p);
-    let p0 = quad.p0;
-    let p1 = quad.p1;
-    let p2 = quad.p2;
-    point::eval_quad(t, p0, p1, p2)
+    // Where on the quad step p of this size lies, from 0 to 1.
+    #[tactic(auto, unfolding(crate::specs::Evaluate::parameter_of))]
+    fn parameter(self, size: f32, p: u32) -> f32
+        requires { p ≤ 65537 }
+        ensures { result ≡ parameter_of self size p }
+    {
+        let ratio = leaves::fma(size, p as f32, -self.previous_sum) * self.curvature_recip;
+        let x = point::inv_curvature(leaves::fma(ratio, self.dk, self.k0));
+        leaves::clamp((x - self.x0) * self.dx_recip, 0.0, 1.0)
+    }
+
+    #[tactic(auto, unfolding(crate::specs::Evaluate::step_point_of))]
+    pub(crate) fn point(self, size: f32, p: u32) -> Point
+        requires { p ≤ 65537 }
+        ensures { result ≡ step_point_of self size p }
+    {
+        point::eval_quad(self.parameter(size, p), self.p0, self.p1, self.p2)
+    }
 }

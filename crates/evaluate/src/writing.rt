@@ -9,7 +9,7 @@ ghost use Rattle.evaluate.specs.Output.{fits_output};
 ghost use Rattle.evaluate.specs.Writing.{written, write_entry_of, write_start_of, write_steps_of, end_cursor_of, write_spline_of, write_walk_of};
 ghost use Rattle.evaluate.specs.Delivery.{delivers, deliver_of};
 
-use crate::{Outputs, Place, step};
+use crate::{Outputs, Place, StepQuad, step};
 use columns::{flag_byte, write};
 use command::PointCommand;
 use point::{Point, Setting};
@@ -18,6 +18,7 @@ use tables::{QuadColumns, SplineColumns};
 
 impl Outputs<'_> {
     // Whether each holds this many entries.
+    #[tactic(auto, unfolding(crate::specs::Output::fits_output))]
     fn holds(&self, length: u64) -> bool
         ensures { result ≡ fits_output length (output_of self.now) }
     {
@@ -27,6 +28,7 @@ impl Outputs<'_> {
             & (length <= self.end.len() as u64)
     }
 
+    #[tactic(auto, unfolding(crate::specs::Writing::write_entry_of))]
     fn write_entry(&mut self, at: usize, word: u32, point: Point, flag: bool)
         ensures same { SameOutputs self.old self.new }
         ensures written { output_of self.new ≡ write_entry_of at word (finished point flag) (output_of self.old) }
@@ -38,6 +40,7 @@ impl Outputs<'_> {
     }
 
     // The Start of spline k at its first point, if it has one.
+    #[tactic(auto, unfolding(crate::specs::Writing::write_start_of))]
     fn write_start(&mut self, starts: bool, k: u32, first: Point, from: Place) -> Place
         requires { from.at ≤ 0x4000_0000_0000_0000 }
         ensures same { SameOutputs self.old self.new }
@@ -72,8 +75,8 @@ fn write_steps(
     let mut cursor = from.cursor;
     for p in 1..=n {
         cursor = step::step_cursor(quads, p, cursor);
-        let quad = step::step_quad(quads, cursor);
-        let point = step::step_point(quad, size, p);
+        let quad = StepQuad::at(quads, cursor);
+        let point = quad.point(size, p);
         outputs.write_entry(at, word, point, false);
         at += 1;
     }
@@ -82,6 +85,7 @@ fn write_steps(
 
 // The cursor after a spline: on the screen past its last quad, if it has one. For the knife it stays, since the next spline sets it; a first quad lent by hand may
 // be any number, and one more than that may wrap.
+#[tactic(auto, unfolding(crate::specs::Writing::end_cursor_of))]
 fn end_cursor(setting: Setting, sum: f32, cursor: usize) -> usize
     requires { setting ≡ Screen → cursor ≤ 0x4000_0000_0002_0000 }
     ensures { result ≡ end_cursor_of setting sum cursor }

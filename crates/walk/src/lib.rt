@@ -40,6 +40,7 @@ pub fn size(sum: f32) -> f32
 }
 
 // Where the cursor begins a spline: `first` is the spline's first quad, and `cursor` where the spline before left the cursor.
+#[tactic(auto, unfolding(crate::specs::Walk::cursor_start_of))]
 pub fn cursor_start(setting: Setting, first: usize, cursor: usize) -> usize
     ensures { result ≡ cursor_start_of setting first cursor }
 {
@@ -60,6 +61,7 @@ pub fn cursor_at(quads: &QuadColumns<'_>, p: f32, cursor: usize) -> usize
 }
 
 // How many items spline k has.
+#[tactic(auto, unfolding(crate::specs::Length::spline_length_of))]
 pub fn spline_length(k: u32, last: SplineRow, row: SplineRow) -> u64
     ensures { result ≡ spline_length_of k last row }
 {
