@@ -5,18 +5,55 @@ ghost use Rattle.store.specs.Columns.{columns, state_at};
 ghost use Rattle.tables.specs.Tables.{quad_table, spline_table};
 ghost use Rattle.evaluate.specs.Output.{output};
 ghost use Rattle.flatten.specs.Flatten.{flatten_of};
+ghost use Rattle.store.specs.Lent.{drawing_columns};
+ghost use Rattle.tables.specs.Lent.{quads_mut_of, splines_mut_of, SameTables};
+ghost use Rattle.evaluate.specs.Lent.{output_of, SameOutputs};
 ghost use Rattle.abi.specs.Reply.{flat_reply, flat_reply_of, setting_of};
 
+use evaluate::Outputs;
 use point::Setting;
-use store::StoreState;
+use store::{Drawing, StoreState};
+use tables::{QuadColumnsMut, SplineColumnsMut, Tables};
 
+#[tactic(auto, unfolding(crate::specs::Reply::setting_of))]
 fn setting_of(number: u32) -> Setting
     ensures { result ≡ setting_of number }
 {
-    if number == 0 {
-        return Setting::Screen;
+    match number {
+        0 => Setting::Screen,
+        _ => Setting::Knife,
     }
-    Setting::Knife
+}
+
+// The counts are written, and the answer is its number.
+#[tactic(auto, unfolding(crate::specs::Reply::flat_reply_of))]
+fn flat(
+    setting: Setting,
+    drawing: &Drawing<'_>,
+    tables: &mut Tables<'_, '_, '_, '_>,
+    outputs: &mut Outputs<'_>,
+    splines: &mut usize,
+    quads: &mut usize,
+    length: &mut usize,
+) -> u32
+    ensures same { SameTables tables.old tables.new × SameOutputs outputs.old outputs.new }
+    ensures told { flat_reply result splines.new quads.new length.new (quads_mut_of tables.new.quads.now) (splines_mut_of tables.new.splines.now) (output_of outputs.new) ≡ flat_reply_of (flatten_of setting drawing.now.state (drawing_columns drawing.now) (quads_mut_of tables.old.quads.now) (splines_mut_of tables.old.splines.now) (output_of outputs.old)) }
+{
+    let answer = match flatten::flatten(setting, drawing, tables, outputs) {
+        Ok(f) => {
+            *splines = f.splines;
+            *quads = f.quads;
+            *length = f.points;
+            Ok(())
+        }
+        Err(r) => {
+            *splines = r.splines;
+            *quads = r.quads;
+            *length = 0;
+            Err(r.refusal)
+        }
+    };
+    answer::number(answer)
 }
 
 // points, used and opening are the store's; splines, quads and length are written. setting is 0 for the screen, any other number for the knife.
@@ -49,36 +86,47 @@ pub fn kermezhul_flatten(
 ) -> u32
     ensures { flat_reply result splines.new quads.new length.new (quad_table quad_rows.new partial_splines.new) (spline_table curvature.new p0x.new p0y.new p2x.new p2y.new contour.new first_quad.new quad_count.new) (output words.new out_x.new out_y.new out_end.new) ≡ flat_reply_of (flatten_of (setting_of setting) (state_at points used opening) (columns x.now y.now weight.now commands.now) (quad_table quad_rows.old partial_splines.old) (spline_table curvature.old p0x.old p0y.old p2x.old p2y.old contour.old first_quad.old quad_count.old) (output words.old out_x.old out_y.old out_end.old)) }
 {
-    let st = StoreState {
+    let state = StoreState {
         points,
         commands: used,
         opening,
     };
-    let r = flatten::flatten(
-        setting_of(setting),
-        st,
+    let drawing = Drawing {
         x,
         y,
         weight,
         commands,
-        quad_rows,
-        partial_splines,
-        curvature,
-        p0x,
-        p0y,
-        p2x,
-        p2y,
-        contour,
-        first_quad,
-        quad_count,
+        state,
+    };
+    let mut tables = Tables {
+        quads: &mut QuadColumnsMut {
+            quad_rows,
+            partial_splines,
+        },
+        splines: &mut SplineColumnsMut {
+            curvature,
+            p0x,
+            p0y,
+            p2x,
+            p2y,
+            contour,
+            first_quad,
+            quad_count,
+        },
+    };
+    let mut outputs = Outputs {
         words,
-        out_x,
-        out_y,
-        out_end,
-    );
-    *splines = r.splines;
-    *quads = r.quads;
-    *length = r.points;
-    let answer = r.answer;
-    answer::number(answer)
+        x: out_x,
+        y: out_y,
+        end: out_end,
+    };
+    flat(
+        setting_of(setting),
+        &drawing,
+        &mut tables,
+        &mut outputs,
+        splines,
+        quads,
+        length,
+    )
 }

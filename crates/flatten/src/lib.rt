@@ -35,11 +35,11 @@ pub struct Refused {
 pub fn flatten(
     setting: Setting,
     drawing: &Drawing<'_>,
-    tables: &mut Tables<'_, '_>,
+    tables: &mut Tables<'_, '_, '_, '_>,
     outputs: &mut Outputs<'_>,
 ) -> Result<Flattened, Refused>
     ensures same { SameTables tables.old tables.new × SameOutputs outputs.old outputs.new }
-    ensures whole { flattening (answered result) (quads_mut_of tables.new.quads) (splines_mut_of tables.new.splines) (output_of outputs.new) ≡ flatten_of setting drawing.now.state (drawing_columns drawing.now) (quads_mut_of tables.old.quads) (splines_mut_of tables.old.splines) (output_of outputs.old) }
+    ensures whole { flattening (answered result) (quads_mut_of tables.new.quads.now) (splines_mut_of tables.new.splines.now) (output_of outputs.new) ≡ flatten_of setting drawing.now.state (drawing_columns drawing.now) (quads_mut_of tables.old.quads.now) (splines_mut_of tables.old.splines.now) (output_of outputs.old) }
 {
     if !drawing.drawable() {
         return Err(Refused {

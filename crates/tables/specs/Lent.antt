@@ -26,7 +26,7 @@ abbrev pub splines_mut_of : SplineColumnsMut → SplineTable
 splines_mut_of s = spline_table s.curvature.now s.p0x.now s.p0y.now s.p2x.now s.p2y.now s.contour.now s.first_quad.now s.quad_count.now
 
 abbrev pub world_of : Answer → State → Tables → World
-world_of answer st t = world (answered answer st) (quads_mut_of t.quads) (splines_mut_of t.splines)
+world_of answer st t = world (answered answer st) (quads_mut_of t.quads.now) (splines_mut_of t.splines.now)
 
 abbrev pub filled_world : Result State Refused → Tables → World
 filled_world (Ok st) t = world_of Done st t
@@ -52,4 +52,6 @@ SameSplines old new =
     × (new.quad_count.ghost_name ≡ old.quad_count.ghost_name)
 
 abbrev pub SameTables : Tables → Tables → Type 0
-SameTables old new = SameQuads old.quads new.quads × SameSplines old.splines new.splines
+SameTables old new =
+    (new.quads.ghost_name ≡ old.quads.ghost_name) × (new.splines.ghost_name ≡ old.splines.ghost_name)
+    × SameQuads old.quads.now new.quads.now × SameSplines old.splines.now new.splines.now

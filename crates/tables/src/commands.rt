@@ -24,7 +24,7 @@ fn cubic_from(drawing: &Drawing<'_>, i: usize) -> Cubic
     }
 }
 
-impl Tables<'_, '_> {
+impl Tables<'_, '_, '_, '_> {
     // The primitives of the command k, where j points are used up before it: it starts from the last of them.
     fn push_command(
         &mut self,
@@ -54,7 +54,7 @@ impl Tables<'_, '_> {
     // The tables of a drawing: its commands are taken in order, and a refusal stops the run.
     pub fn fill(&mut self, setting: Setting, drawing: &Drawing<'_>) -> Result<State, Refused>
         ensures same { SameTables self.old self.new }
-        ensures filled { filled_world result self.new ≡ tables_of setting drawing.now.state (drawing_columns drawing.now) (quads_mut_of self.old.quads) (splines_mut_of self.old.splines) }
+        ensures filled { filled_world result self.new ≡ tables_of setting drawing.now.state (drawing_columns drawing.now) (quads_mut_of self.old.quads.now) (splines_mut_of self.old.splines.now) }
     {
         let mut run = Run {
             setting,

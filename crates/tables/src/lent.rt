@@ -46,9 +46,9 @@ pub struct SplineColumnsMut<'a> {
 }
 
 #[derive(Drop)]
-pub struct Tables<'q, 's> {
-    pub quads: QuadColumnsMut<'q>,
-    pub splines: SplineColumnsMut<'s>,
+pub struct Tables<'a, 'b, 'q, 's> {
+    pub quads: &'a mut QuadColumnsMut<'q>,
+    pub splines: &'b mut SplineColumnsMut<'s>,
 }
 
 // Why a drawing is refused, and what was stored before.

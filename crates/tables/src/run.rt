@@ -12,11 +12,11 @@ use primitives::{Cubic, Edit, Primitive, Run, State};
 
 const MAX_PIECES: u32 = 1024;
 
-impl Tables<'_, '_> {
+impl Tables<'_, '_, '_, '_> {
     // The few changes of an edit, in the tables.
     fn apply(&mut self, edit: Edit) -> State
         ensures same { SameTables self.old self.new }
-        ensures applied { world_of Done result self.new ≡ apply_of (edited edit) (quads_mut_of self.old.quads) (splines_mut_of self.old.splines) }
+        ensures applied { world_of Done result self.new ≡ apply_of (edited edit) (quads_mut_of self.old.quads.now) (splines_mut_of self.old.splines.now) }
     {
         match edit {
             Edit::Keep(st) => st,

@@ -1,6 +1,0 @@
--- `abi::drawing::kermezhul_line_to` meets its contract: the library's call, its answer as a number. Assumes nothing.
-use Rattle.abi.proofs.Told.{told}
-use Rattle.abi.proofs.drawing.kermezhul_line_to.Goals as goal
-
-pub returns : goal.returns
-returns c = told c.number.ensures c.line_to-drawn.ensures
