@@ -5,7 +5,7 @@
 #   `lent` lines              NAME FIELD.., the fields whose columns a definition of specs/Lent.antt reads
 #   `fn` lines                CRATE NAME, and the function's head on one line, from its name to its contract
 # A contract must be one `ensures` or several with names, each an equation or a product of equations, with a definition over the entry alone on each right side. Its
-# form has `…` for each right side, `@` for each lent column or struct of lent columns at exit, and ` × ` between equations, of one clause or of several. Of a struct
+# form has `…` for each right side, `given` for what was given, `@` for each lent column or struct of lent columns at exit, and ` × ` between equations, of one clause or of several. Of a struct
 # that is lent to be written each field must be told; and beside the equations a clause `Same.. x.old x.new` says that it holds the caller's columns still.
 
 function fault(message) { print "tests/settled: " message; faults++ }
@@ -95,6 +95,8 @@ function left_form(s,    out, name, before, path, field, n, i) {
         out = out before "@" path
         if (name in struct_of) {
             # a definition of Lent.antt tells the fields that it reads; of a field that is a struct itself it must tell all
+            before = out
+            sub(/@[^@]*$/, "", before)
             sub(/^.*\(/, "", before)
             sub(/ .*/, "", before)
             n = 0
@@ -193,7 +195,10 @@ function form_of(head, name,    i, k, lent, list, n, param, type, returns, bodie
             if ((sides[1] sides[2]) ~ /≡|×|→|⊎|↔|λ/ || (" " sides[1] " " sides[2] " ") ~ /[ (](let|if|match) /) problem = "an equation of its contract has more than terms: " parts[i]
             if (sides[2] ~ /\.new/) problem = "the right side of its contract reads what the call leaves: " sides[2]
             if ((" " sides[2] " ") ~ /[ (]result[ ).]/) problem = "the right side of its contract names the result: " sides[2]
-            if (sides[1] ~ /\.(old|now)/) problem = "the left side of its contract reads what was given: " sides[1]
+            # what a reference in a struct refers to
+            while (match(sides[1], /\.new\.[a-z_]+\.now/)) sides[1] = substr(sides[1], 1, RSTART + RLENGTH - 5) substr(sides[1], RSTART + RLENGTH)
+            # a form may need something that was given, as the state that a refusal keeps: the theorem that settles it is for any
+            gsub(/[a-z_]+\.(old|now)(\.[a-z_]+)*/, "given", sides[1])
             used = used sides[1] " "
             sides[1] = left_form(sides[1]) " ≡ …"
             if (equations > 1 || n > 1) sides[1] = "(" sides[1] ")"
