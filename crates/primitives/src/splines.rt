@@ -50,7 +50,7 @@ fn quad_count(first: usize, quads: usize) -> u32
 
 impl Run {
     #[tactic(auto, unfolding(crate::specs::Splines::opens_of))]
-    pub fn opens(&self, kind: Kind, angle: Option<f32>, start: Point) -> bool
+    pub(crate) fn opens(&self, kind: Kind, angle: Option<f32>, start: Point) -> bool
         ensures { result ≡ opens_of self.now.setting kind (answered Done self.now.st) self.now.last angle start }
     {
         self.st.mark
@@ -61,7 +61,7 @@ impl Run {
 
     // The last angle after a line: the knife keeps the one before where a line has none.
     #[tactic(auto, unfolding(crate::specs::Splines::line_angle_of))]
-    pub fn line_angle(&self, angle: Option<f32>) -> Option<f32>
+    pub(crate) fn line_angle(&self, angle: Option<f32>) -> Option<f32>
         ensures { result ≡ line_angle_of self.now.setting self.now.st.last angle }
     {
         match self.setting {
@@ -72,7 +72,7 @@ impl Run {
 
     // The last angle after a Move: the knife forgets it, so that no contour knows the one before.
     #[tactic(auto, unfolding(crate::specs::Splines::move_angle_of))]
-    pub fn move_angle(&self) -> Option<f32>
+    pub(crate) fn move_angle(&self) -> Option<f32>
         ensures { result ≡ move_angle_of self.now.setting self.now.st.last }
     {
         match self.setting {
@@ -82,7 +82,7 @@ impl Run {
     }
 
     #[tactic(auto, unfolding(crate::specs::Splines::sum_before))]
-    pub fn sum_before(&self, opens: bool) -> f32
+    pub(crate) fn sum_before(&self, opens: bool) -> f32
         ensures { result ≡ sum_before opens self.now.last }
     {
         if opens { 0.0 } else { self.last.curvature }
@@ -90,7 +90,7 @@ impl Run {
 
     // Callers first refuse a spline past the capacity, so the count plus one does not wrap.
     #[tactic(auto, unfolding(crate::specs::Splines::spline_edit_of))]
-    pub fn spline_edit(
+    pub(crate) fn spline_edit(
         &self,
         opens: bool,
         start: Point,

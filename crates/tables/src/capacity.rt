@@ -8,7 +8,7 @@ use command::PointCommand;
 
 impl QuadColumns<'_> {
     // How many rows of 15 numbers are whole.
-    pub fn whole_rows(&self) -> usize
+    pub(crate) fn whole_rows(&self) -> usize
         ensures { result ≡ whole_rows_of self.now.quad_rows.now }
     {
         self.quad_rows.len() / WIDTH

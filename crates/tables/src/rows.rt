@@ -40,45 +40,21 @@ fn numbers(row: QuadRow) -> [f32; WIDTH]
 fn quad_row(numbers: [f32; WIDTH], spline: u32) -> QuadRow
     ensures { result ≡ row_of numbers spline }
 {
-    let [
-        x0,
-        x1,
-        x2,
-        y0,
-        y1,
-        y2,
-        w0,
-        w1,
-        w2,
-        start,
-        dx_recip,
-        k0,
-        dk,
-        curvature_recip,
-        partial_curvature,
-    ] = numbers;
+    let three = |k: usize| Three {
+        a: numbers[k],
+        b: numbers[k + 1],
+        c: numbers[k + 2],
+    };
     QuadRow {
-        x: Three {
-            a: x0,
-            b: x1,
-            c: x2,
-        },
-        y: Three {
-            a: y0,
-            b: y1,
-            c: y2,
-        },
-        weight: Three {
-            a: w0,
-            b: w1,
-            c: w2,
-        },
-        x0: start,
-        dx_recip,
-        k0,
-        dk,
-        curvature_recip,
-        partial_curvature,
+        x: three(0),
+        y: three(3),
+        weight: three(6),
+        x0: numbers[9],
+        dx_recip: numbers[10],
+        k0: numbers[11],
+        dk: numbers[12],
+        curvature_recip: numbers[13],
+        partial_curvature: numbers[14],
         spline,
     }
 }
@@ -131,8 +107,8 @@ impl QuadColumns<'_> {
     {
         let mut numbers = [f32::NAN; WIDTH];
         if i < self.whole_rows() {
-            let at = WIDTH * i;
-            numbers.copy_from_slice(&self.quad_rows[at..at + WIDTH]);
+            let start = WIDTH * i;
+            numbers.copy_from_slice(&self.quad_rows[start..start + WIDTH]);
         }
         quad_row(numbers, read(self.partial_splines, i, 0))
     }
