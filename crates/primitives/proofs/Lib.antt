@@ -1,4 +1,3 @@
-pub mod Refusals
 pub mod Examples
 pub mod Shapes
 pub mod Opening

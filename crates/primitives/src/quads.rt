@@ -38,6 +38,7 @@ fn straight(curvature: f32) -> bool
     !(curvature < f32::INFINITY) | (curvature <= 1.0)
 }
 
+#[tactic(auto, unfolding(crate::specs::Quads::curve_of))]
 pub fn curve(p0: Point, p1: Point, p2: Point) -> Curve
     ensures { result ≡ curve_of p0 p1 p2 }
 {

@@ -29,13 +29,6 @@ more n i h = omega arith
 none : (n i : ℕ) → n < i → n + 1 - i ≡ zero
 none n i h = omega arith
 
-pub cut_start :
-    (setting : Setting) (caps : Capacities) (c : Cubic) (n : ℕ) (incr : Float) (start : Point) (w : World)
-    → Cutting setting caps c n incr start w w start 1
-cut_start setting caps c n incr start w =
-    let all : n ≡ n + 1 - 1 = omega arith in
-    record { same = ap (λ (m : ℕ). run_of setting caps (quads_from m 1 start incr c) w) all }
-
 module _
     (setting : Setting) (caps : Capacities) (c : Cubic) (n : ℕ) (incr : Float) (start₀ : Point) (w₀ w : World) (start : Point) (i : ℕ)
     (g : Cutting setting caps c n incr start₀ w₀ w start i)

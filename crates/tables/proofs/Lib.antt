@@ -5,7 +5,6 @@ pub mod RunningSums
 pub mod Growth
 pub mod Pushes
 pub mod Runs
-pub mod Lengths
 pub mod Cuts
 pub mod Taken
 pub mod Spans

@@ -15,7 +15,6 @@ use borrow.Author.Tests.{ltb-true, ltb-false, lt-ltb}
 use Rattle.primitives.specs.declared.QuadRow.{QuadRow}
 use Rattle.tables.specs.Tables.{QuadTable, quad_table, quad_capacity_of, numbers_of, put_quad, number_at, quad_row_at}
 use Rattle.tables.specs.Past.{Past, QuadsPast}
-use Rattle.tables.proofs.Lengths.{QuadLengths}
 
 -- ---- a run of numbers in a column
 module _ {A : Type 0} where
@@ -109,9 +108,6 @@ module _ (q : QuadTable) (i : ℕ) (row : QuadRow) where
       go : (b : Bool) → length (cond b (stored q i row) q).partial_splines ≡ length q.partial_splines
       go true = length-set q.partial_splines i row.spline
       go false = refl
-
-  pub lengths_stay : QuadLengths (put_quad q i row) q
-  lengths_stay = record { rows = rows_length; partial_splines = owners_length }
 
   pub capacity_stays : quad_capacity_of (put_quad q i row) ≡ quad_capacity_of q
   unfolding quad_capacity_of

@@ -1,55 +1,13 @@
--- What an edit, a primitive and a list of primitives do to the tables: the laws by which runs are put together. Assumes nothing.
+-- What a list of primitives does to the tables: the laws by which runs are put together. Assumes nothing.
 use mathlib.Core.Path.{◌≡◌, refl, ap}
 use mathlib.Core.Bool.{Bool, true, false, cond}
 use mathlib.Core.List.{List, [], ◌∷◌, ◌++◌}
-use Prim.Native.Nat.{ℕ}
 use Rattle.answer.specs.Number.{is_done}
 use Rattle.point.specs.declared.Setting.{Setting}
 use Rattle.primitives.specs.declared.Capacities.{Capacities}
-use Rattle.primitives.specs.Edits.{State, SplineEdit, Edit, Keep, Extend, Bend}
 use Rattle.primitives.specs.declared.Primitive.{Primitive}
-use Rattle.primitives.specs.declared.QuadRow.{QuadRow}
-use Rattle.primitives.specs.declared.SplineRow.{SplineRow}
-use Rattle.primitives.specs.Plan.{plan_of}
-use Rattle.tables.specs.Tables.{QuadTable, SplineTable, put_quad, put_spline, last_spline_of}
-use Rattle.tables.specs.Run.{World, world, apply_of, push_of, run_of}
+use Rattle.tables.specs.Run.{World, push_of, run_of}
 
--- ---- each kind of edit
-module _ {edit : Edit} (q : QuadTable) (s : SplineTable) where
-  pub keeps : {st : State} → edit ≡ Keep st → world st q s ≡ apply_of edit q s
-  unfolding apply_of
-  keeps e = rw e
-
-  pub extends : {spline : SplineEdit} {s' : SplineTable} → edit ≡ Extend spline → s' ≡ put_spline s spline → world spline.next q s' ≡ apply_of edit q s
-  unfolding apply_of
-  extends e es = rw (e, es)
-
-  pub bends :
-      {spline : SplineEdit} {i : ℕ} {row : QuadRow} {q' : QuadTable} {s' : SplineTable}
-      → edit ≡ Bend spline i row
-      → q' ≡ put_quad q i row
-      → s' ≡ put_spline s spline
-      → world spline.next q' s' ≡ apply_of edit q s
-  unfolding apply_of
-  bends e eq es = rw (e, eq, es)
-
--- ---- one primitive
-module _ (setting : Setting) (caps : Capacities) (p : Primitive) (st : State) (q : QuadTable) (s : SplineTable) where
-  pub refused_before : is_done st.answer ≡ false → world st q s ≡ run_of setting caps (p ∷ []) (world st q s)
-  unfolding run_of
-  refused_before e = rw e
-
-  pub pushes :
-      {last : SplineRow} {edit : Edit} {w : World}
-      → is_done st.answer ≡ true
-      → last ≡ last_spline_of s st.splines
-      → edit ≡ plan_of setting caps st last p
-      → w ≡ apply_of edit q s
-      → w ≡ run_of setting caps (p ∷ []) (world st q s)
-  unfolding run_of push_of
-  pushes d el ee ew = rw (d, ew, ee, el)
-
--- ---- lists of primitives
 module _ (setting : Setting) (caps : Capacities) where
   -- "a refusal stops the run"
   pub run_stop : (ps : List Primitive) (w : World) → is_done w.state.answer ≡ false → run_of setting caps ps w ≡ w

@@ -133,9 +133,6 @@ module _ (setting : Setting) (caps : Capacities) (w₀ : World) where
 pub record Taking (setting : Setting) (caps : Capacities) (c : Columns) (ks : List ℕ) (w₀ w : World) (i j : ℕ) : Type 0 where
   pub same : run_of setting caps (primitives_from c ks 0) w₀ ≡ run_of setting caps (primitives_from c (drop i ks) j) w
 
-pub take_start : (setting : Setting) (caps : Capacities) (c : Columns) (ks : List ℕ) (w : World) → Taking setting caps c ks w w 0 0
-take_start setting caps c ks w = record { same = refl }
-
 module _
     (setting : Setting) (caps : Capacities) (c : Columns) (ks : List ℕ) (w₀ w : World) (i j : ℕ)
     (g : Taking setting caps c ks w₀ w i j)

@@ -1,4 +1,4 @@
--- A row written or read column by column, or three numbers at a time, is the table's row. Assumes nothing.
+-- A row of 15 numbers, as it is read, is the table's row. Assumes nothing.
 use mathlib.Core.Path.{◌≡◌, ◌∙◌}
 use mathlib.Core.List.{List}
 use mathlib.Core.Bool.{false}
@@ -6,13 +6,11 @@ use Prim.Native.Nat.{ℕ, ◌+◌, ◌-◌, ◌*◌, ◌<◌}
 use native.Mathlib.Omega.{arith}
 use lib.Dec.{ltb, lit<}
 use lib.Ieee.{Float, nan}
-use lib.ListN.{get_or, set, take, drop, replicate}
+use lib.ListN.{get_or, take, drop, replicate}
 use lib.Seq.{get_or-take, get_or-drop}
 use borrow.Author.Tests.{lt-ltb}
-use Rattle.columns.specs.Flags.{flag_byte_of}
-use Rattle.primitives.specs.Edits.{SplineEdit}
 use Rattle.tables.specs.Numbers.{row_of}
-use Rattle.tables.specs.Tables.{QuadTable, SplineTable, spline_table, whole_rows_of, number_at, quad_row_at, clear_flag, put_spline}
+use Rattle.tables.specs.Tables.{QuadTable, whole_rows_of, number_at, quad_row_at}
 
 module _ (q : QuadTable) (i : ℕ) {numbers : List Float} where
   -- a row that is whole, from its 15 numbers
@@ -50,19 +48,3 @@ module _ (q : QuadTable) (i : ℕ) {numbers : List Float} where
   pub row_not_whole : ltb i (whole_rows_of q.rows) ≡ false → numbers ≡ replicate 15 nan → row_of numbers (get_or q.partial_splines i 0) ≡ quad_row_at q i
   unfolding quad_row_at number_at
   row_not_whole e en = rw (e, en)
-
-pub spline_put :
-    (s : SplineTable) (edit : SplineEdit) {curvature p0x p0y p2x p2y : List Float} {contour cleared first_quad quad_count : List ℕ} {byte : ℕ}
-    → curvature ≡ set s.curvature edit.at edit.row.curvature
-    → p0x ≡ set s.p0x edit.at edit.row.p0.x
-    → p0y ≡ set s.p0y edit.at edit.row.p0.y
-    → p2x ≡ set s.p2x edit.at edit.row.p2.x
-    → p2y ≡ set s.p2y edit.at edit.row.p2.y
-    → cleared ≡ clear_flag edit.clears s.contour edit.at
-    → byte ≡ flag_byte_of edit.row.contour
-    → contour ≡ set cleared edit.at byte
-    → first_quad ≡ set s.first_quad edit.at edit.row.first_quad
-    → quad_count ≡ set s.quad_count edit.at edit.row.quad_count
-    → spline_table curvature p0x p0y p2x p2y contour first_quad quad_count ≡ put_spline s edit
-unfolding put_spline
-spline_put s edit e1 e2 e3 e4 e5 e6 e7 e8 e9 e10 = rw (e1, e2, e3, e4, e5, e8, e6, e7, e9, e10)

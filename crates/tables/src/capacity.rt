@@ -14,6 +14,7 @@ impl QuadColumns<'_> {
         self.quad_rows.len() / WIDTH
     }
 
+    #[tactic(auto, unfolding(crate::specs::Tables::quad_capacity_of))]
     pub fn capacity(&self) -> usize
         ensures { result ≡ quad_capacity_of (quads_of self.now) }
     {
@@ -22,6 +23,7 @@ impl QuadColumns<'_> {
 }
 
 impl SplineColumns<'_> {
+    #[tactic(auto, unfolding(crate::specs::Tables::spline_capacity_of))]
     pub fn capacity(&self) -> u32
         ensures { result ≡ spline_capacity_of (splines_of self.now) }
     {

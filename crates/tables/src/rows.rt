@@ -73,6 +73,7 @@ impl QuadColumnsMut<'_> {
 }
 
 // If `clears` is true, the flag of the spline before k is cleared.
+#[tactic(auto, unfolding(crate::specs::Tables::clear_flag))]
 fn clear_flag(clears: bool, contour: &mut [u8], k: usize)
     ensures { contour.new ≡ clear_flag clears contour.old k }
 {
@@ -82,6 +83,7 @@ fn clear_flag(clears: bool, contour: &mut [u8], k: usize)
 }
 
 impl SplineColumnsMut<'_> {
+    #[tactic(auto, unfolding(crate::specs::Tables::put_spline))]
     pub fn put(&mut self, edit: SplineEdit)
         ensures same { SameSplines self.old self.new }
         ensures put { splines_mut_of self.new ≡ put_spline (splines_mut_of self.old) (spline_edited edit) }
@@ -145,6 +147,7 @@ impl SplineColumns<'_> {
     }
 
     // The last of n splines. If there is none, a mark waits, so the spline given in its place decides nothing.
+    #[tactic(auto, unfolding(crate::specs::Tables::last_spline_of))]
     pub fn last(&self, n: u32) -> SplineRow
         ensures { result ≡ last_spline_of (splines_of self.now) n }
     {

@@ -14,6 +14,7 @@ const MAX_PIECES: u32 = 1024;
 
 impl Tables<'_, '_, '_, '_> {
     // The few changes of an edit, in the tables.
+    #[tactic(auto, unfolding(crate::specs::Run::apply_of))]
     fn apply(&mut self, edit: Edit) -> State
         ensures same { SameTables self.old self.new }
         ensures applied { world_of Done result self.new ≡ apply_of (edited edit) (quads_mut_of self.old.quads.now) (splines_mut_of self.old.splines.now) }
@@ -33,6 +34,7 @@ impl Tables<'_, '_, '_, '_> {
     }
 
     // One primitive. On a refusal all stays.
+    #[tactic(auto, unfolding(crate::specs::Run::run_of, crate::specs::Run::push_of, crate::specs::Run::apply_of))]
     pub fn push(&mut self, run: &mut Run, p: Primitive) -> Result<(), Refusal>
         ensures same { SameTables self.old self.new }
         ensures goes_on { SameRun run.old run.new }
