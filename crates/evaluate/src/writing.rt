@@ -91,13 +91,8 @@ fn end_cursor(setting: Setting, sum: f32, cursor: usize) -> usize
     ensures { result ≡ end_cursor_of setting sum cursor }
 {
     match setting {
-        Setting::Screen => {
-            if leaves::whole_up(sum) == 0 {
-                return cursor;
-            }
-            cursor + 1
-        }
-        Setting::Knife => cursor,
+        Setting::Screen if leaves::whole_up(sum) > 0 => cursor + 1,
+        Setting::Screen | Setting::Knife => cursor,
     }
 }
 
