@@ -31,17 +31,12 @@ impl Lent<'_> {
         ensures same { SameLent self.old self.new }
         ensures fresh { reply result (lent_state self.new) (lent_columns self.new) ≡ reply_of (fresh_of (lent_columns self.old)) }
     {
-        let state = StoreState {
-            points: 0,
-            commands: 0,
-            opening: 0,
-        };
         let mut store = Store {
             x: self.x,
             y: self.y,
             weight: self.weight,
             commands: self.commands,
-            state,
+            state: StoreState::default(),
         };
         let answer = store.fresh();
         let state = store.state;

@@ -87,10 +87,10 @@ module _ (c : Columns) where
   turned true o p = refl
   turned false o p = refl
 
-  pub fresh_even : {p : WeightedPoint} → even_of c ≡ true → p ≡ plain (point_at zero32 zero32)
-      → carried_out (writes 0 (p ∷ []) (move_command ∷ []) 0) (state_at 0 0 0) c ≡ fresh_of c
+  pub fresh_even : {p : WeightedPoint} {st : StoreState} → even_of c ≡ true → p ≡ plain (point_at zero32 zero32) → st ≡ state_at 0 0 0
+      → carried_out (writes 0 (p ∷ []) (move_command ∷ []) 0) st c ≡ fresh_of c
   unfolding fresh_of carried_out room_of state_after written put_points put_commands
-  fresh_even e h =
+  fresh_even e h k =
       let n = eqb (length c.x) 0 in
       let m = eqb (length c.commands) 0 in
-      rw (h, e, some (length c.x), some (length c.commands), both n m) (turned (n || m) _ _)
+      rw (k, h, e, some (length c.x), some (length c.commands), both n m) (turned (n || m) _ _)

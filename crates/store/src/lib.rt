@@ -30,7 +30,7 @@ pub const QUAD: u8 = 2;
 pub const CUBIC: u8 = 3;
 
 // The state beside the columns: how many points and commands there are, and which point opened the contour.
-#[derive(Clone, Copy)]
+#[derive(Clone, Copy, Default)]
 pub struct StoreState {
     pub points: usize,
     pub commands: usize,
@@ -89,11 +89,7 @@ impl Store<'_> {
         ensures same { SameColumns self.old self.new }
         ensures fresh { outcome result self.new.state (store_columns self.new) ≡ fresh_of (store_columns self.old) }
     {
-        self.state = StoreState {
-            points: 0,
-            commands: 0,
-            opening: 0,
-        };
+        self.state = StoreState::default();
         if !self.drawing().even() {
             return Err(Refusal::Unusable);
         }
