@@ -14,14 +14,15 @@ use tables::{SplineColumns, SplineColumnsMut};
 #[derive(Clone, Copy, PartialEq, Eq)]
 pub struct LengthsDiffer;
 
-// Row i of the columns, as a record.
+// Row i of the columns, as a record: for them what `spline_at` is for a list.
 pub fn row_at(columns: &SplineColumns<'_>, i: usize) -> SplineRow
     ensures { result ≡ spline_at (splines_of columns.now) i }
 {
     columns.at(i)
 }
 
-// Writes a record to row i of the columns; a column that ends before it stays as it was.
+// Writes a record to row i of the columns; a column that ends before it stays as it was. The tables' own `put` takes an edit instead, which may clear the flag before
+// it as well.
 pub fn put_row(columns: &mut SplineColumnsMut<'_>, i: usize, v: SplineRow)
     ensures same { SameSplines columns.old columns.new }
     ensures put { splines_mut_of columns.new ≡ put_row_of (splines_mut_of columns.old) i v }

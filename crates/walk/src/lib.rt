@@ -72,7 +72,8 @@ pub fn spline_length(k: u32, last: SplineRow, row: SplineRow) -> u64
     n + 1
 }
 
-// How many items the walk over n splines has: at most 65,538 for each, so that the sum fits.
+// How many items the walk over n splines has: at most 65,538 for each, so that the sum fits. A loop, since it keeps the spline before; a sum over an iterator
+// would read each spline twice.
 pub fn walk_length(splines: &SplineColumns<'_>, n: u32) -> u64
     ensures { result ≡ walk_length_of (splines_of splines.now) n }
 {
