@@ -92,9 +92,18 @@ function edit(n, p, path,    i, s, body, at, old, rest) {
     return 1
 }
 
+# The file that declares a type: a method is named by it, wherever its `impl` stands.
+function home(type, otherwise,    command, path) {
+    command = "cd " dir " && grep -rlE '^pub (struct|enum) " type "([ <({;]|$)' src"
+    if ((command | getline path) <= 0) path = otherwise
+    close(command)
+    return path
+}
+
 # The name that the prover gives to entry n.
-function full_name(n,    module) {
-    module = file[n]
+function full_name(n,    module, i) {
+    i = index(name[n], "::")
+    module = i ? home(substr(name[n], 1, i - 1), file[n]) : file[n]
     sub(/^src\//, "", module)
     sub(/\.rt$/, "", module)
     gsub(/\//, "::", module)
