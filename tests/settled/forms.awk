@@ -120,7 +120,7 @@ function left_form(s,    out, name, before, path, field, n, i) {
 }
 
 # A clause that says that a struct, or each of several, holds the caller's columns still.
-function says_same(s,    part, n, i, word) {
+function says_same(s,    part, n, i, k, word, field) {
     n = split_at(s, " × ", part)
     for (i = 1; i <= n; i++) {
         if (split(part[i], word, / /) != 3 || word[1] !~ /^Same[A-Za-z]+$/ || word[2] !~ /^[a-z_]+\.old$/ || word[3] !~ /^[a-z_]+\.new$/) return 0
@@ -128,6 +128,8 @@ function says_same(s,    part, n, i, word) {
         sub(/\.new$/, "", word[3])
         if (word[2] != word[3] || !(word[2] in struct_of)) return 0
         same[word[2]] = 1
+        k = split(substr(told_by[word[1]], 2), field, / /)
+        for (; k > 0; k--) left_field[word[2], field[k]] = 1
     }
     return 1
 }

@@ -32,9 +32,9 @@ abbrev pub filled_world : Result State Refused → Tables → World
 filled_world (Ok st) t = world_of Done st t
 filled_world (Err refused) t = world_of (Err refused.refusal) refused.state t
 
--- the setting and the room stay
+-- all but the state stays
 abbrev pub SameRun : Run → Run → Type 0
-SameRun old new = (new.setting ≡ old.setting) × (new.caps ≡ old.caps)
+SameRun old new = (new.setting ≡ old.setting) × (new.caps ≡ old.caps) × (new.last ≡ old.last)
 
 -- what is written goes to the columns that were lent
 abbrev pub SameQuads : QuadColumnsMut → QuadColumnsMut → Type 0

@@ -40,8 +40,8 @@ impl Tables<'_, '_, '_, '_> {
         ensures goes_on { SameRun run.old run.new }
         ensures ran { world_of result run.new.st self.new ≡ run_of run.old.setting run.old.caps (p ∷ []) (world_of Done run.old.st self.old) }
     {
-        run.last = self.splines.view().last(run.st.splines);
-        let edit = run.plan(p)?;
+        let last = self.splines.view().last(run.st.splines);
+        let edit = Run { last, ..*run }.plan(p)?;
         run.st = self.apply(edit);
         Ok(())
     }
