@@ -14,6 +14,15 @@ use lib.Seq.{sets, sets-eq}
 use Rattle.std.specs.Prelude.{Option, None, Some, Result, Ok, Err}
 use Rattle.answer.specs.declared.Refusal.{Refusal}
 use Rattle.answer.specs.Answer.{Answer}
+use Rattle.primitives.specs.declared.State as stored
+use Rattle.primitives.specs.declared.SplineEdit as changed
+use Rattle.primitives.specs.declared.Edit as planned
+use Rattle.primitives.specs.declared.Edit.TheVariants as variant
+use Rattle.primitives.specs.Edits.{State, SplineEdit, Edit, Keep, Extend, Bend, edited_or}
+use Rattle.tables.specs.Run.{World}
+use Rattle.tables.specs.declared.lent.Tables.{Tables}
+use Rattle.tables.specs.declared.lent.Refused as filling
+use Rattle.tables.specs.Lent.{quads_mut_of, splines_mut_of, filled_world}
 use Rattle.evaluate.specs.Delivery.{Delivery, delivers}
 use Rattle.flatten.specs.declared.Flattened as counts
 use Rattle.flatten.specs.declared.Refused.{Refused}
@@ -37,7 +46,7 @@ use Rattle.listing.specs.Reading.{Fields, read, wrong, pair_fields, two_points_f
 use Rattle.listing.specs.Writing.{Listing, listed, listed_as}
 use Rattle.listing.specs.Program.{listing_of}
 use Rattle.promises.specs.Settled.{Settles, ValueSettled, ResultAndKeptSettled, ColumnsSettled, QuadsSettled, SplinesSettled, OutputSettled, PlotReplySettled, WholeReplySettled, RoundingSettled, PlotSettled, PlottingSettled}
-use Rattle.promises.specs.Settled.{DrawnSettled, TablesSettled, DeliveredSettled, DeliversSettled, AnsweredSettled, FlattenSettled, ReplySettled, FlatReplySettled}
+use Rattle.promises.specs.Settled.{DrawnSettled, TablesSettled, RanSettled, FilledSettled, PlannedSettled, DeliveredSettled, DeliversSettled, AnsweredSettled, FlattenSettled, ReplySettled, FlatReplySettled}
 use Rattle.promises.specs.Settled.{TellingSettled, ListingSettled, Lists, ListingLists, PairSettled, TwoPointsSettled, ThreePointsSettled, HasStopped}
 use Rattle.promises.specs.Settled.{has_stopped, ReadSettled}
 
@@ -68,6 +77,67 @@ drawn_settled = told _ (λ o. (o.answer, o.state, o.columns)) (λ a. refl)
 
 pub tables_settled : TablesSettled
 tables_settled = told _ (λ w. (w.state, w.quads, w.splines)) (λ a. refl)
+
+-- a run's state, without the answer
+plain : State → stored.State
+plain st = record { splines = st.splines; quads = st.quads; mark = st.mark; last = st.last }
+
+pub ran_settled : RanSettled
+ran_settled d a a' st st' t t' h k =
+    let e = h ∙ sym k in
+    (
+      ap (λ (w : World). w.state.answer) e,
+      ap (λ (w : World). plain w.state) e,
+      ap (λ (w : World). w.quads) e,
+      ap (λ (w : World). w.splines) e,
+    )
+
+plain_edit : SplineEdit → changed.SplineEdit
+plain_edit e = record { clears = e.clears; at = e.at; row = e.row; next = plain e.next }
+
+filled_back : World → Result stored.State filling.Refused
+filled_back w = back w.state.answer
+  where
+    back : Answer → Result stored.State filling.Refused
+    back (Ok done) = Ok (plain w.state)
+    back (Err r) = Err (record { refusal = r; state = plain w.state })
+
+filled_same : (r : Result stored.State filling.Refused) (t : Tables) → filled_back (filled_world r t) ≡ r
+unfolding filled_back plain
+filled_same (Ok st) t = refl
+filled_same (Err r) t = refl
+
+pub filled_settled : FilledSettled
+filled_settled d r r' t t' h k =
+    let e = h ∙ sym k in
+    (
+      sym (filled_same r t) ∙ ap filled_back e ∙ filled_same r' t',
+      sym (tables_of r t).0 ∙ ap (λ (w : World). w.quads) e ∙ (tables_of r' t').0,
+      sym (tables_of r t).1 ∙ ap (λ (w : World). w.splines) e ∙ (tables_of r' t').1,
+    )
+  where
+    tables_of : (r : Result stored.State filling.Refused) (t : Tables) → ((filled_world r t).quads ≡ quads_mut_of t.quads.now) × ((filled_world r t).splines ≡ splines_mut_of t.splines.now)
+    tables_of (Ok st) t = (refl, refl)
+    tables_of (Err r) t = (refl, refl)
+
+edit_back : Edit → Result planned.Edit Refusal
+edit_back (Keep st) = back st.answer
+  where
+    back : Answer → Result planned.Edit Refusal
+    back (Ok done) = Ok (variant.Keep (plain st))
+    back (Err r) = Err r
+edit_back (Extend e) = Ok (variant.Extend (plain_edit e))
+edit_back (Bend e i row) = Ok (variant.Bend (plain_edit e) i row)
+
+edit_same : (st : stored.State) (r : Result planned.Edit Refusal) → edit_back (edited_or st r) ≡ r
+unfolding edit_back plain plain_edit
+edit_same st (Ok (variant.Keep st')) = refl
+edit_same st (Ok (variant.Extend e)) = refl
+edit_same st (Ok (variant.Bend e i row)) = refl
+edit_same st (Err r) = refl
+
+pub planned_settled : PlannedSettled
+planned_settled st = told _ edit_back (edit_same st)
 
 pub delivered_settled : DeliveredSettled
 delivered_settled = told _ (λ o. (o.result.fits, o.result.points, o.output)) (λ a. refl)

@@ -4,13 +4,20 @@
 -- All NaNs are one value here; which bytes a NaN then has in an f32 column is not settled, and that is the one exception. Assumes nothing.
 use Rattle.std.specs.Prelude.{ℕ, ◌≤◌, ◌<◌, ◌≡◌, ◌⊎◌, Bool, List, ◌++◌, Result, ℤ, Float, length, drop}
 use Rattle.answer.specs.declared.Refusal.{Refusal}
+use Rattle.answer.specs.declared.Refusal.{Refusal}
 use Rattle.answer.specs.Answer.{Answer}
+use Rattle.primitives.specs.declared.State as stored
+use Rattle.primitives.specs.declared.Edit as planned
+use Rattle.primitives.specs.Edits.{edited_or}
 use Rattle.primitives.specs.Edits.{State}
 use Rattle.store.specs.declared.StoreState.{StoreState}
 use Rattle.store.specs.Columns.{Columns, columns, state_at}
 use Rattle.store.specs.Drawing.{outcome}
 use Rattle.tables.specs.Tables.{QuadTable, SplineTable, quad_table, spline_table}
-use Rattle.tables.specs.Run.{world}
+use Rattle.tables.specs.Run.{World, world}
+use Rattle.tables.specs.declared.lent.Tables.{Tables}
+use Rattle.tables.specs.declared.lent.Refused as filling
+use Rattle.tables.specs.Lent.{quads_mut_of, splines_mut_of, world_of, filled_world}
 use Rattle.evaluate.specs.Delivery.{delivery, delivers}
 use Rattle.flatten.specs.Answer.{answered}
 use Rattle.flatten.specs.Flatten.{Flattened, Output, output, flattening}
@@ -66,6 +73,21 @@ DrawnSettled = Settles (λ (o : Answer × StoreState × Columns). outcome o.0 o.
 
 abbrev pub TablesSettled : Type 0
 TablesSettled = Settles (λ (w : State × QuadTable × SplineTable). world w.0 w.1 w.2)
+
+-- what the code has for them: the result, what a run then has in its state, and the lent tables
+abbrev pub RanSettled : Type 0
+RanSettled =
+    (d : World) (a a' : Answer) (st st' : stored.State) (t t' : Tables) → world_of a st t ≡ d → world_of a' st' t' ≡ d
+    → (a ≡ a') × (st ≡ st') × (quads_mut_of t.quads.now ≡ quads_mut_of t'.quads.now) × (splines_mut_of t.splines.now ≡ splines_mut_of t'.splines.now)
+
+abbrev pub FilledSettled : Type 0
+FilledSettled =
+    (d : World) (r r' : Result stored.State filling.Refused) (t t' : Tables) → filled_world r t ≡ d → filled_world r' t' ≡ d
+    → (r ≡ r') × (quads_mut_of t.quads.now ≡ quads_mut_of t'.quads.now) × (splines_mut_of t.splines.now ≡ splines_mut_of t'.splines.now)
+
+-- what one primitive changes, or how it is refused in this state
+abbrev pub PlannedSettled : Type 0
+PlannedSettled = (st : stored.State) → Settles (λ (r : Result planned.Edit Refusal). edited_or st r)
 
 abbrev pub DeliveredSettled : Type 0
 DeliveredSettled = Settles (λ (o : Bool × ℕ × Output). delivery o.0 o.1 o.2)
