@@ -1,4 +1,3 @@
-pub mod Shifts
 pub mod Comparisons
 pub mod Signs
 pub mod WholeUp
@@ -14,3 +13,4 @@ pub mod SixthLargest
 pub mod Fits
 pub mod FmaOnly
 pub mod SqrtOnly
+pub mod SquareRoot

@@ -6,7 +6,7 @@ use native.Mathlib.Nat.{mul_right_comm, mul-div_cancel, mul_assoc, zero-lt-suc, 
 use native.Mathlib.Omega.{arith}
 use lib.IntN.{ℤ}
 use lib.Pow.{pow-add, pow_pos}
-use lib.Ieee.{Float, inf, fin, binary32, units, up, down, lt, eq, div}
+use lib.Ieee.{nan, Float, inf, fin, binary32, units, up, down, lt, eq}
 use lib.Ieee.Fits.{down_pos}
 use lib.Ieee.Exact.{HasValue}
 use Rattle.rounding.specs.Roots.{root, IsRoot, cut_to}
@@ -72,6 +72,6 @@ pub at_zero : (x : Float) → eq x plain ≡ true → plain ≡ sixth_root_of x
 unfolding sixth_root_of
 at_zero x h = let z = only_zero x h in sym (ap sixth_root_of z.2)
 
-pub elsewhere : (x : Float) → lt plain x ≡ false → eq x plain ≡ false → div binary32 plain plain ≡ sixth_root_of x
-unfolding div sixth_root_of
+pub elsewhere : (x : Float) → lt plain x ≡ false → eq x plain ≡ false → nan ≡ sixth_root_of x
+unfolding sixth_root_of
 elsewhere x h k = sym (Comparisons.elsewhere sixth_root_of refl refl (λ m e. refl) x h k)

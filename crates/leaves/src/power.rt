@@ -57,10 +57,8 @@ fn sixth_power(p: &mut [u64; 4], s: u64)
         return;
     }
     start(p, s);
-    let mut i = 1u64;
-    while i < 6 {
+    for _ in 1..6u64 {
         times(p, s);
-        i += 1;
     }
 }
 

@@ -12,10 +12,8 @@ fn settle(t: u64) -> u64
     ensures { IsRoot 6 (t * 2 ^ 96) result }
 {
     let mut p = [0u64; 4];
-    let mut r = 0u64;
-    let mut i = 24u64;
-    while i > 0 {
-        i -= 1;
+    let mut r = 0;
+    for i in (0..24u64).rev() {
         let s = r + (1u64 << i);
         if power::under(&mut p, s, t) {
             r = s;
@@ -51,8 +49,7 @@ pub fn sixth_root(q: f32) -> f32
     ensures { result ≡ sixth_root_of q }
 {
     if q > 0.0 {
-        let i: f32 = f32::from_bits(0x7f80_0000);
-        if q < i {
+        if q < f32::INFINITY {
             let b = f32::to_bits(q);
             return sixth_parts(parts::digits(b), parts::place(b));
         }
@@ -61,5 +58,5 @@ pub fn sixth_root(q: f32) -> f32
     if q == 0.0 {
         return 0.0;
     }
-    0.0 / 0.0
+    f32::NAN
 }

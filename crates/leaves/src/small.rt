@@ -2,22 +2,20 @@
 ghost use Rattle.std.specs.Prelude.{◌≡◌};
 ghost use Rattle.leaves.specs.Small.{negative_of, abs_of, less_of, min_of, max_of, clamp_of};
 
-use crate::parts;
-
 // The sign, of a zero too; false for a NaN.
 pub fn negative(x: f32) -> bool
     ensures { result ≡ negative_of x }
 {
-    if x != x {
+    if x.is_nan() {
         return false;
     }
-    parts::minus(f32::to_bits(x))
+    x.is_sign_negative()
 }
 
 pub fn abs(x: f32) -> f32
     ensures { result ≡ abs_of x }
 {
-    if negative(x) { -x } else { x }
+    x.abs()
 }
 
 // Whether a is less than b, where -0 counts as less than +0.
@@ -36,7 +34,7 @@ fn less(a: f32, b: f32) -> bool
 pub fn min(a: f32, b: f32) -> f32
     ensures { result ≡ min_of a b }
 {
-    if a != a {
+    if a.is_nan() {
         return b;
     }
     if less(b, a) { b } else { a }
@@ -45,7 +43,7 @@ pub fn min(a: f32, b: f32) -> f32
 pub fn max(a: f32, b: f32) -> f32
     ensures { result ≡ max_of a b }
 {
-    if a != a {
+    if a.is_nan() {
         return b;
     }
     if less(a, b) { b } else { a }

@@ -1,11 +1,11 @@
 -- `leaves::sixth::sixth_root` meets its contract. Assumes nothing.
-use mathlib.Core.Path.{◌≡◌, sym, ap₂, ◌∙◌}
+use mathlib.Core.Path.{◌≡◌, refl, sym, ap₂, ◌∙◌}
 use mathlib.Core.Bool.{true, false}
 use Prim.Native.Nat.{ℕ, ◌*◌, ◌^◌, ◌<◌}
 use native.Mathlib.Nat.{lt_of_lt_of_le, lt_of_le_of_lt, le_of_eq}
 use native.Mathlib.Omega.{arith}
 use lib.Dec.{leb}
-use lib.Ieee.{Float, binary32, lt, div, nan_bits, to_bits}
+use lib.Ieee.{binary32, nan, to_bits, lt, of_bits}
 use Rattle.rounding.specs.Parts.{sig, place}
 use Rattle.rounding.proofs.Parts.{sig_lt, place_le}
 use Rattle.rounding.specs.Roots.{root, cut_to}
@@ -13,34 +13,33 @@ use Rattle.leaves.proofs.Comparisons.{plain, zero_is, above, under, level, held,
 use Rattle.leaves.proofs.SixthParts.{root_value, at_infinity, at_zero, elsewhere}
 use Rattle.leaves.proofs.sixth.sixth_root.Goals as goal
 
-pub float_from_bits-i : goal.float_from_bits-i
-unfolding nan_bits
-float_from_bits-i c = tt
+nan_is : of_bits binary32 0x7fc0_0000 ≡ nan
+unfolding of_bits
+nan_is = refl
 
 pub sixth_parts-requires : goal.sixth_parts-requires
 sixth_parts-requires c =
     let x = c.args.q in
     let b = to_bits binary32 x in
     let p : 0 < sig binary32 b = sig_pos x (held x c.well_formed.0.1) (above x true c.if-q.true)
-    (under x true c.if-q-i.true) in record { m_nonzero = lt_of_lt_of_le p (le_of_eq (sym c.digits.ensures)); m_bound = lt_of_le_of_lt (le_of_eq c.digits.ensures) (sig_lt binary32 b); e_bound = omega (arith, c.place.ensures, place_le binary32 b) }
+    (under x true c.if-q-2.true) in record { m_nonzero = lt_of_lt_of_le p (le_of_eq (sym c.digits.ensures)); m_bound = lt_of_le_of_lt (le_of_eq c.digits.ensures) (sig_lt binary32 b); e_bound = omega (arith, c.place.ensures, place_le binary32 b) }
 
-pub returns-then-q-i : goal.returns-then-q-i
-returns-then-q-i c =
+pub returns-then-q-2 : goal.returns-then-q-2
+returns-then-q-2 c =
     let x = c.args.q in
     let b = to_bits binary32 x in
     let h : lt plain x ≡ true = above x true c.if-q.true in
     c.sixth_parts.ensures
     ∙ ap₂ (λ (m e : ℕ). cut_to binary32 (root 6 (m * 2 ^ e * 2 ^ 745))) c.digits.ensures c.place.ensures
     ∙ root_value x (leb 2147483648 b) (sig binary32 b * 2 ^ place binary32 b) h
-    (bits_value x (held x c.well_formed.0.1) h (under x true c.if-q-i.true))
+    (bits_value x (held x c.well_formed.0.1) h (under x true c.if-q-2.true))
 
 pub returns-then-q : goal.returns-then-q
-returns-then-q c = let x = c.args.q in at_infinity x (above x true c.if-q.true) (under x false c.if-q-i.false)
+returns-then-q c = let x = c.args.q in at_infinity x (above x true c.if-q.true) (under x false c.if-q-2.false)
 
-pub returns-then-q-2 : goal.returns-then-q-2
-returns-then-q-2 c = let x = c.args.q in zero_is ∙ at_zero x (level x true c.if-q-2.true)
+pub returns-then-q-3 : goal.returns-then-q-3
+returns-then-q-3 c = let x = c.args.q in zero_is ∙ at_zero x (level x true c.if-q-3.true)
 
 pub returns : goal.returns
 returns c =
-    let x = c.args.q in ap₂ (λ (a b : Float). div binary32 a b) zero_is zero_is
-    ∙ elsewhere x (above x false c.if-q.false) (level x false c.if-q-2.false)
+    let x = c.args.q in nan_is ∙ elsewhere x (above x false c.if-q.false) (level x false c.if-q-3.false)
