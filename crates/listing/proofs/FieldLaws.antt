@@ -1,19 +1,22 @@
 -- Laws of fields: when the text has one, what it holds and where it ends; a row of fields is read part by part, and ends inside the text. Assumes nothing.
 use mathlib.Core.Path.{◌≡◌, refl, sym, ap, ◌∙◌}
 use mathlib.Core.Bool.{Bool, true, false, ◌&&◌, cond, and-false}
-use mathlib.Core.List.{List, [], ◌∷◌, ◌++◌, append-nil, append_assoc}
-use Prim.Native.Nat.{ℕ, ◌+◌, ◌≤◌}
+use mathlib.Core.List.{List, [], ◌∷◌, ◌++◌}
+use Prim.Native.Nat.{ℕ, zero, suc, ◌+◌, ◌≤◌, ◌<◌}
+use native.Mathlib.Numerals.{add-one}
 use native.Mathlib.Omega.{arith}
 use lib.Ieee.{Float}
-use lib.ListN.{length}
+use lib.ListN.{length, length-map, get_or, set, take, drop}
+use denote.Bor.{Bor}
+use Rattle.std.proofs.lemmas.List.{drop_all, take_more_set}
 use mathlib.Mathlib.Data.Bool.Basic.{and_elim_right}
 use Rattle.leaves.specs.Bits.{float_of}
 use Rattle.std.specs.Prelude.{Option, None, Some}
 use Rattle.text.specs.Bytes.{stands_at}
 use Rattle.text.specs.Hex.{hex_stands_at, hex_number_at, hex_at_of}
 use Rattle.text.proofs.Standing.{stands_append, stands_inside}
-use Rattle.listing.specs.declared.Field.{Field}
-use Rattle.listing.specs.declared.Field.TheVariants.{Value, Wrong}
+use Rattle.std.specs.Prelude.{Option, Some, None}
+use Rattle.listing.specs.Grammar.{key_texts}
 use Rattle.listing.specs.Reading.{Placed, field_stands_at, field_value_at, field_at_of, field_width, Fields, read, wrong, fields_from}
 
 -- ---- one field
@@ -25,11 +28,11 @@ number_missing : (b : Bool) (n : ℕ) → ◌≡◌ {A = Option ℕ} (cond b (So
 number_missing true n h = absurd (let z : ◌≡◌ {A = ℕ} 0 1 = cc in omega arith)
 number_missing false n h = refl
 
-value_there : (b : Bool) (u v : Float) → ◌≡◌ {A = Field} (cond b (Value u) Wrong) (Value v) → (b ≡ true) × (u ≡ v)
+value_there : (b : Bool) (u v : Float) → ◌≡◌ {A = Option Float} (cond b (Some u) None) (Some v) → (b ≡ true) × (u ≡ v)
 value_there true u v h = (refl, cc)
 value_there false u v h = absurd (let z : ◌≡◌ {A = ℕ} 0 1 = cc in omega arith)
 
-value_missing : (b : Bool) (u : Float) → ◌≡◌ {A = Field} (cond b (Value u) Wrong) Wrong → b ≡ false
+value_missing : (b : Bool) (u : Float) → ◌≡◌ {A = Option Float} (cond b (Some u) None) None → b ≡ false
 value_missing true u h = absurd (let z : ◌≡◌ {A = ℕ} 0 1 = cc in omega arith)
 value_missing false u h = refl
 
@@ -47,31 +50,31 @@ module _ (text : List ℕ) (at : ℕ) (key : List ℕ) where
   unfolding field_stands_at
   parts = rw (stands_append text at key (0x3d ∷ []))
 
-  pub no_key : keyed ≡ false → Wrong ≡ field_at_of text at key
+  pub no_key : keyed ≡ false → None ≡ field_at_of text at key
   unfolding field_at_of
   no_key h = rw (parts, h)
 
-  pub no_equals : equals ≡ false → Wrong ≡ field_at_of text at key
+  pub no_equals : equals ≡ false → None ≡ field_at_of text at key
   unfolding field_at_of
   no_equals h = rw (parts, h, and-false)
 
-  pub no_number : hex_at_of text (at + length key + 1) ≡ None → Wrong ≡ field_at_of text at key
+  pub no_number : hex_at_of text (at + length key + 1) ≡ None → None ≡ field_at_of text at key
   unfolding field_at_of hex_at_of
   no_number h =
       let e : hex_stands_at text (at + length key + 1) ≡ false = number_missing (hex_stands_at text (at + length key + 1)) (hex_number_at text (at + length key + 1)) h in
       rw (parts, e, and-false)
 
-  pub no_end : ended ≡ false → Wrong ≡ field_at_of text at key
+  pub no_end : ended ≡ false → None ≡ field_at_of text at key
   unfolding field_at_of
   no_end h = rw (parts, h, and-false)
 
-  pub all_there : (n : ℕ) → keyed ≡ true → equals ≡ true → hex_at_of text (at + length key + 1) ≡ Some n → ended ≡ true → Value (float_of n) ≡ field_at_of text at key
+  pub all_there : (n : ℕ) → keyed ≡ true → equals ≡ true → hex_at_of text (at + length key + 1) ≡ Some n → ended ≡ true → Some (float_of n) ≡ field_at_of text at key
   unfolding field_at_of hex_at_of field_value_at
   all_there n k q h l =
       let e : (hex_stands_at text (at + length key + 1) ≡ true) × (hex_number_at text (at + length key + 1) ≡ n) = number_there (hex_stands_at text (at + length key + 1)) (hex_number_at text (at + length key + 1)) n h in
       rw (parts, k, q, e.0, l, e.1)
 
-  field_stands : (v : Float) → field_at_of text at key ≡ Value v → (field_stands_at text at key ≡ true) × (field_value_at text at key ≡ v)
+  field_stands : (v : Float) → field_at_of text at key ≡ Some v → (field_stands_at text at key ≡ true) × (field_value_at text at key ≡ v)
   unfolding field_at_of
   field_stands v h = value_there (field_stands_at text at key) (field_value_at text at key) v h
 
@@ -80,53 +83,19 @@ module _ (text : List ℕ) (at : ℕ) (key : List ℕ) where
       let e : ended ≡ true = and_elim_right (keyed && equals && hex_stands_at text (at + length key + 1)) ended (sym parts ∙ h) in
       omega (arith, stands_inside text (at + length key + 9) (0x0a ∷ []) (omega arith) e)
 
-  pub field_inside : (v : Float) → field_at_of text at key ≡ Value v → at + length key + 10 ≤ length text
+  pub field_inside : (v : Float) → field_at_of text at key ≡ Some v → at + length key + 10 ≤ length text
   field_inside v h = stands_to_end (field_stands v h).0
 
   -- ---- a field at the head of a row of them
-  pub field_on : (v : Float) → field_at_of text at key ≡ Value v → (line : ℕ) (values : List Float) (keys : List (List ℕ)) → fields_from text at line values (key ∷ keys) ≡ fields_from text (at + field_width key) (line + 1) (values ++ (v ∷ [])) keys
+  pub field_on : (v : Float) → field_at_of text at key ≡ Some v → (line : ℕ) (values : List Float) (keys : List (List ℕ)) → fields_from text at line values (key ∷ keys) ≡ fields_from text (at + field_width key) (line + 1) (values ++ (v ∷ [])) keys
   unfolding fields_from
   field_on v h line values keys = rw ((field_stands v h).0, (field_stands v h).1)
 
-  pub field_off : field_at_of text at key ≡ Wrong → (line : ℕ) (values : List Float) (keys : List (List ℕ)) → fields_from text at line values (key ∷ keys) ≡ wrong line
+  pub field_off : field_at_of text at key ≡ None → (line : ℕ) (values : List Float) (keys : List (List ℕ)) → fields_from text at line values (key ∷ keys) ≡ wrong line
   unfolding fields_from field_at_of
   field_off h line values keys = rw (value_missing (field_stands_at text at key) (field_value_at text at key) h)
 
 -- ---- rows of fields
-abbrev pub before : List Float → Fields → Fields
-before values (read more at line) = read (values ++ more) at line
-before values (wrong line) = wrong line
-
-abbrev pub joined : List ℕ → Fields → List (List ℕ) → Fields
-joined text (read values at line) keys = before values (fields_from text at line [] keys)
-joined text (wrong line) keys = wrong line
-
-before_cond : (values : List Float) (b : Bool) (f g : Fields) → before values (cond b f g) ≡ cond b (before values f) (before values g)
-before_cond values true f g = refl
-before_cond values false f g = refl
-
-joined_cond : (text : List ℕ) (keys : List (List ℕ)) (b : Bool) (f g : Fields) → joined text (cond b f g) keys ≡ cond b (joined text f keys) (joined text g keys)
-joined_cond text keys true f g = refl
-joined_cond text keys false f g = refl
-
-fields_before : (text : List ℕ) (at line : ℕ) (values more : List Float) (keys : List (List ℕ)) → fields_from text at line (values ++ more) keys ≡ before values (fields_from text at line more keys)
-unfolding fields_from
-fields_before text at line values more [] = refl
-fields_before text at line values more (key ∷ keys) =
-    let v = field_value_at text at key in
-    ap (λ (l : List Float). cond (field_stands_at text at key) (fields_from text (at + field_width key) (line + 1) l keys) (wrong line)) (append_assoc values more (v ∷ []))
-    ∙ ap (λ (f : Fields). cond (field_stands_at text at key) f (wrong line)) (fields_before text (at + field_width key) (line + 1) values (more ++ (v ∷ [])) keys)
-    ∙ sym (before_cond values (field_stands_at text at key) (fields_from text (at + field_width key) (line + 1) (more ++ (v ∷ [])) keys) (wrong line))
-
-pub fields_append : (text : List ℕ) (at line : ℕ) (values : List Float) (keys more : List (List ℕ)) → fields_from text at line values (keys ++ more) ≡ joined text (fields_from text at line values keys) more
-unfolding fields_from
-fields_append text at line values [] more =
-    ap (λ (l : List Float). fields_from text at line l more) (sym (append-nil values)) ∙ fields_before text at line values [] more
-fields_append text at line values (key ∷ keys) more =
-    let v = field_value_at text at key in
-    ap (λ (f : Fields). cond (field_stands_at text at key) f (wrong line)) (fields_append text (at + field_width key) (line + 1) (values ++ (v ∷ [])) keys more)
-    ∙ sym (joined_cond text more (field_stands_at text at key) (fields_from text (at + field_width key) (line + 1) (values ++ (v ∷ [])) keys) (wrong line))
-
 -- after a row the place is inside the text again, and no earlier than its start
 pub record Onward (text : List ℕ) (at at' line' : ℕ) : Type 0 where
   pub placed : Placed text at' line'
@@ -150,34 +119,39 @@ fields_onward text at line values got (key ∷ keys) at' line' p h =
     fields_onward text (at + field_width key) (line + 1) (values ++ (field_value_at text at key ∷ [])) got keys at' line' q e.1 in
     record { placed = inner.placed; onward = omega arith }
 
--- ---- the two fields of a point
-module _ (text : List ℕ) (at line : ℕ) (x y : List ℕ) where
-  pub first_off : field_at_of text at x ≡ Wrong → wrong line ≡ fields_from text at line [] (x ∷ y ∷ [])
-  first_off h = sym (field_off text at x h line [] (y ∷ []))
+-- ---- a row of fields, read one after another, with its keys in a lent list
+from_key : (keys : List (Bor (List ℕ))) (i : ℕ) (none : Bor (List ℕ)) → i < length keys → drop i (key_texts keys) ≡ (get_or keys i none).now ∷ drop (suc i) (key_texts keys)
+from_key [] i none h = absurd (omega arith)
+from_key (k ∷ keys) zero none h = refl
+from_key (k ∷ keys) (suc i) none h = from_key keys i none (omega arith)
 
-  module _ (u : Float) (on : field_at_of text at x ≡ Value u) where
-    second : (f : Field) → field_at_of text (at + length x + 10) y ≡ f → field_at_of text (at + field_width x) y ≡ f
-    second f h = let p : at + field_width x ≡ at + length x + 10 = omega arith in ap (λ (m : ℕ). field_at_of text m y) p ∙ h
+next_key : (keys : List (Bor (List ℕ))) (i : ℕ) (none : Bor (List ℕ)) → i < length keys → drop i (key_texts keys) ≡ (get_or keys i none).now ∷ drop (i + 1) (key_texts keys)
+next_key keys i none h = from_key keys i none h ∙ rw add-one
 
-    pub second_off : field_at_of text (at + length x + 10) y ≡ Wrong → wrong (line + 1) ≡ fields_from text at line [] (x ∷ y ∷ [])
-    second_off h = sym (field_on text at x u on line [] (y ∷ []) ∙ field_off text (at + field_width x) y (second Wrong h) (line + 1) (u ∷ []) [])
+module _ (text : List ℕ) (keys : List (Bor (List ℕ))) (values : List Float) (at line i : ℕ) (none : Bor (List ℕ)) (more : i < length keys) where
+  abbrev key_here : List ℕ
+  key_here = (get_or keys i none).now
 
-    pub both_on : (v : Float) → field_at_of text (at + length x + 10) y ≡ Value v → read (u ∷ v ∷ []) (at + field_width x + field_width y) (line + 2) ≡ fields_from text at line [] (x ∷ y ∷ [])
-    unfolding fields_from
-    both_on v h =
-        let l : line + 2 ≡ line + 1 + 1 = omega arith in
-        ap (λ (m : ℕ). read (u ∷ v ∷ []) (at + field_width x + field_width y) m) l
-        ∙ sym (field_on text at x u on line [] (y ∷ []) ∙ field_on text (at + field_width x) y v (second (Value v) h) (line + 1) (u ∷ []) [])
+  pub row_off : field_at_of text at key_here ≡ None → wrong line ≡ fields_from text at line (take i values) (drop i (key_texts keys))
+  row_off h =
+      sym (ap (fields_from text at line (take i values)) (next_key keys i none more) ∙ field_off text at key_here h line (take i values) (drop (i + 1) (key_texts keys)))
 
--- ---- a row in two parts
-module _ (text : List ℕ) (at line : ℕ) (keys more : List (List ℕ)) where
-  pub part_wrong : (l : ℕ) → wrong l ≡ fields_from text at line [] keys → wrong l ≡ fields_from text at line [] (keys ++ more)
-  part_wrong l h = sym (fields_append text at line [] keys more ∙ ap (λ (f : Fields). joined text f more) (sym h))
+  pub row_on : (v : Float) → i < length values → field_at_of text at key_here ≡ Some v
+      → fields_from text (at + field_width key_here) (line + 1) (take (i + 1) (set values i v)) (drop (i + 1) (key_texts keys)) ≡ fields_from text at line (take i values) (drop i (key_texts keys))
+  row_on v room h =
+      ap (λ (vs : List Float). fields_from text (at + field_width key_here) (line + 1) vs (drop (i + 1) (key_texts keys))) (take_more_set values i v room)
+      ∙ sym (ap (fields_from text at line (take i values)) (next_key keys i none more) ∙ field_on text at key_here v h line (take i values) (drop (i + 1) (key_texts keys)))
 
-  pub part_read : (values : List Float) (a a' l l' : ℕ) (f : Fields) → read values a l ≡ fields_from text at line [] keys → a ≡ a' → l ≡ l' → f ≡ fields_from text a' l' [] more → before values f ≡ fields_from text at line [] (keys ++ more)
-  part_read values a a' l l' f h e i g =
-      ap (before values) (g ∙ ap (λ (m : ℕ). fields_from text m l' [] more) (sym e) ∙ ap (λ (m : ℕ). fields_from text a m [] more) (sym i))
-      ∙ sym (fields_append text at line [] keys more ∙ ap (λ (f : Fields). joined text f more) (sym h))
+  pub row_inside : (v : Float) → field_at_of text at key_here ≡ Some v → Placed text at line → Placed text (at + field_width key_here) (line + 1)
+  row_inside v h p = record { inside = omega (arith, field_inside text at key_here v h); counted = omega arith }
+
+pub row_end : (text : List ℕ) (keys : List (Bor (List ℕ))) (values : List Float) (at line i : ℕ) → length keys ≤ i → i ≤ length keys
+    → read (take (length keys) values) at line ≡ fields_from text at line (take i values) (drop i (key_texts keys))
+unfolding fields_from
+row_end text keys values at line i h k =
+    let e : i ≡ length keys = omega arith in
+    let none : drop i (key_texts keys) ≡ [] = drop_all i (key_texts keys) (omega (arith, length-map keys (λ k. k.now))) in
+    ap (λ (n : ℕ). read (take n values) at line) (sym e) ∙ ap (fields_from text at line (take i values)) (sym none)
 
 pub read_at : (values : List Float) (a a' l l' : ℕ) → a ≡ a' → l ≡ l' → read values a l ≡ read values a' l'
 read_at values a a' l l' e i = cc

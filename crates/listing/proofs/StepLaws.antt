@@ -19,14 +19,14 @@ use Rattle.store.specs.Columns.{Columns}
 use Rattle.store.specs.Drawing.{Outcome, outcome, draw_of}
 use Rattle.text.specs.Bytes.{stands_at}
 use Rattle.listing.specs.declared.Op.{Op}
-use Rattle.listing.specs.declared.Op.TheVariants as Ops
-use Rattle.listing.specs.declared.Command.{Command}
-use Rattle.listing.specs.declared.Command.TheVariants.{Drawing, Fault, Finish}
-use Rattle.listing.specs.declared.Progress as Progresses
+
+
+use Rattle.std.specs.Prelude.{Result}
+use Rattle.listing.specs.declared.Refused.{Refused}
 use Rattle.listing.specs.Grammar.{op_line_of, keys_of}
-use Rattle.listing.specs.Reading.{Placed, Fields, read, wrong, fields_from, with_fields, command_from, try_ops, ops, command_at, Progress, going, finished, stopped, after_call, after_command, step_of, steps_of, read_of, progress_of}
+use Rattle.listing.specs.Reading.{Placed, Fields, read, wrong, fields_from, with_fields, command_from, try_ops, ops, Command, Drawing, Fault, Finish, command_at, Progress, going, finished, stopped, after_call, after_command, step_of, steps_of, read_of, progress_of}
 use Rattle.listing.proofs.FieldLaws.{Onward, fields_onward}
-use Rattle.listing.proofs.CommandLaws.{behind_op}
+use Rattle.listing.proofs.CommandLaws.{op_length, behind_op}
 
 -- ---- what a step gives
 module _ (text : List ℕ) (at line : ℕ) (o : Outcome) where
@@ -63,21 +63,12 @@ pub record Further (text : List ℕ) (at at' line' : ℕ) : Type 0 where
   pub placed : Placed text at' line'
   pub further : at < at'
 
-pub op_length : (op : Op) → (n : ℕ) × (length (op_line_of op) ≡ n) × (0 < n)
-unfolding op_line_of
-op_length Ops.Move = (8, refl, omega arith)
-op_length Ops.Line = (8, refl, omega arith)
-op_length Ops.Quad = (8, refl, omega arith)
-op_length Ops.RatQuad = (9, refl, omega arith)
-op_length Ops.Cubic = (9, refl, omega arith)
-op_length Ops.RatCubic = (10, refl, omega arith)
-
 module _ (text : List ℕ) (at line : ℕ) (p : Placed text at line) (call : Call) (at' line' : ℕ) where
   from_onward : (op : Op) → stands_at text at (op_line_of op) ≡ true → command_from text at line op ≡ Drawing call at' line' → Further text at at' line'
   unfolding command_from
   from_onward op stands h =
       let n : (n : ℕ) × (length (op_line_of op) ≡ n) × (0 < n) = op_length op in
-      let q : Placed text (at + length (op_line_of op)) (line + 1) = behind_op text at line op (length (op_line_of op)) p stands refl (omega arith) in
+      let q : Placed text (at + length (op_line_of op)) (line + 1) = behind_op text at line op (op_line_of op) refl p stands in
       let f : (values : List Float) × (fields_from text (at + length (op_line_of op)) (line + 1) [] (keys_of op) ≡ read values at' line') =
       fields_of op (fields_from text (at + length (op_line_of op)) (line + 1) [] (keys_of op)) call at' line' h in
       let on : Onward text (at + length (op_line_of op)) at' line' = fields_onward text (at + length (op_line_of op)) (line + 1) [] f.0 (keys_of op) at' line' q f.1 in
@@ -122,8 +113,8 @@ pub step_onward : (text : List ℕ) (at line : ℕ) (o q : Outcome) (at' line' :
 unfolding step_of
 step_onward text at line o q at' line' p h = call_onward text at line p o q (command_at text at line) at' line' refl (sym h)
 
-pub progress_seen : (r r' : Progresses.Progress) (c : Columns) (p : Progress) → progress_of r c ≡ p → r ≡ r' → progress_of r' c ≡ p
-progress_seen r r' c p h e = sym (ap (λ (q : Progresses.Progress). progress_of q c) e) ∙ h
+pub progress_seen : (r r' : Result StoreState Refused) (c : Columns) (p : Progress) → progress_of r c ≡ p → r ≡ r' → progress_of r' c ≡ p
+progress_seen r r' c p h e = sym (ap (λ (q : Result StoreState Refused). progress_of q c) e) ∙ h
 
 -- ---- many steps
 pub steps_finished : (n : ℕ) (text : List ℕ) (o : Outcome) → steps_of n text (finished o) ≡ finished o

@@ -1,5 +1,6 @@
 -- RULES, The program 3: the six op names, their keys in order, and the call that each makes. Assumes nothing.
-use Rattle.std.specs.Prelude.{ℕ, List, [], ◌∷◌, ◌++◌, Float, get_or}
+use Rattle.std.specs.Prelude.{ℕ, List, [], ◌∷◌, ◌++◌, map, Float, get_or}
+use Rattle.std.specs.Borrow.{Bor}
 use Rattle.std.specs.Float.{nan}
 use Rattle.point.specs.declared.Point.{Point}
 use Rattle.point.specs.Point.{point_at}
@@ -31,6 +32,10 @@ keys_of Quad = quad_keys
 keys_of RatQuad = quad_keys ++ (bytes "w" ∷ [])
 keys_of Cubic = cubic_keys
 keys_of RatCubic = cubic_keys ++ (bytes "w1" ∷ bytes "w2" ∷ [])
+
+-- the keys of a lent list of keys
+abbrev pub key_texts : List (Bor (List ℕ)) → List (List ℕ)
+key_texts keys = map (λ k. k.now) keys
 
 -- the point whose coordinates are the values i and i + 1
 abbrev pub value_point : List Float → ℕ → ℕ → Point

@@ -1,6 +1,6 @@
 -- RULES, The program: "It reads standard input, builds, flattens in the screen setting." All of its output, from all of its input. What it says of a text is
 -- defined for either setting, since other programs read the same texts. Assumes nothing.
-use Rattle.std.specs.Prelude.{ℕ, Bool, true, false, List, [], leb, Float, length, replicate}
+use Rattle.std.specs.Prelude.{ℕ, Bool, true, false, List, [], leb, Float, length, replicate, Result, Ok, Err}
 use Rattle.leaves.specs.Single.{zero32}
 use Rattle.answer.specs.Answer.{Answer}
 use Rattle.answer.specs.Answer.{Done, InputTooLong}
@@ -15,8 +15,7 @@ use Rattle.tables.specs.Tables.{QuadTable, quad_table, SplineTable, spline_table
 use Rattle.walk.specs.Walk.{walk_of}
 use Rattle.evaluate.specs.Evaluate.{Finished, points_of}
 use Rattle.flatten.specs.Flatten.{Flattening, Output, output, flatten_of}
-use Rattle.listing.specs.declared.Drawn as Drawns
-use Rattle.listing.specs.declared.Drawn.TheVariants as Drawing
+use Rattle.listing.specs.declared.Refused.{Refused}
 use Rattle.listing.specs.Reading.{Progress, going, finished, stopped, read_of}
 use Rattle.listing.specs.Writing.{report_of}
 
@@ -42,10 +41,10 @@ pub data Drawn : Type 0 where
   refused : Answer → ℕ → Drawn
   ready : StoreState → Columns → Drawn
 
--- the code's drawing, with what its columns hold
-abbrev pub drawn_as : Drawns.Drawn → Columns → Drawn
-drawn_as (Drawing.Refused answer line) c = refused answer line
-drawn_as (Drawing.Ready state) c = ready state c
+-- as the code has it, with the state of its store and what the columns hold
+abbrev pub drawn_as : Result Unit Refused → StoreState → Columns → Drawn
+drawn_as (Ok done) state c = ready state c
+drawn_as (Err r) state c = refused (Err r.refusal) r.line
 
 -- the final build, refused on line 0
 unfoldable pub built : Bool → Outcome → Drawn

@@ -1,29 +1,23 @@
 -- RULES, The program: reading. Every line has a fixed width, so a place in the text and its line number are all that reading keeps. Assumes nothing.
-use Rattle.std.specs.Prelude.{ℕ, zero, suc, ◌+◌, ◌≤◌, Bool, ◌&&◌, cond, List, [], ◌∷◌, ◌++◌, leb, Float, length}
+use Rattle.std.specs.Prelude.{ℕ, zero, suc, ◌+◌, ◌≤◌, Bool, ◌&&◌, cond, List, [], ◌∷◌, ◌++◌, leb, Float, length, Option, Some, None, Result, Ok, Err}
+use Rattle.std.specs.List.{find}
 use Rattle.leaves.specs.Bits.{float_of}
+use Rattle.answer.specs.declared.Refusal.{Refusal}
+use Rattle.answer.specs.declared.Refusal.TheVariants as refusals
 use Rattle.answer.specs.Answer.{Answer}
 use Rattle.answer.specs.Answer.{Done, BadText}
 use Rattle.answer.specs.Number.{is_done}
+use Rattle.store.specs.declared.Call.{Call}
+use Rattle.store.specs.declared.StoreState.{StoreState}
 use Rattle.store.specs.Columns.{Columns}
 use Rattle.store.specs.Drawing.{Outcome, outcome, draw_of}
 use Rattle.text.specs.Bytes.{bytes, stands_at}
 use Rattle.text.specs.Hex.{hex_stands_at, hex_number_at}
 use Rattle.listing.specs.declared.Op.{Op}
 use Rattle.listing.specs.declared.Op.TheVariants.{Move, Line, Quad, RatQuad, Cubic, RatCubic}
-use Rattle.listing.specs.declared.OpAt.{OpAt}
-use Rattle.listing.specs.declared.OpAt.TheVariants as Ops
-use Rattle.listing.specs.declared.Field.{Field}
-use Rattle.listing.specs.declared.Field.TheVariants.{Value, Wrong}
-use Rattle.listing.specs.declared.Pair as Pairs
-use Rattle.listing.specs.declared.Pair.TheVariants as Pair
-use Rattle.listing.specs.declared.TwoPoints.{TwoPoints}
-use Rattle.listing.specs.declared.TwoPoints.TheVariants as Two
-use Rattle.listing.specs.declared.ThreePoints.{ThreePoints}
-use Rattle.listing.specs.declared.ThreePoints.TheVariants as Three
-use Rattle.listing.specs.declared.Command.{Command}
-use Rattle.listing.specs.declared.Command.TheVariants.{Drawing, Fault, Finish}
-use Rattle.listing.specs.declared.Progress as Progresses
-use Rattle.listing.specs.declared.Progress.TheVariants as Progressing
+use Rattle.listing.specs.declared.BadLine.{BadLine}
+use Rattle.listing.specs.declared.Place.{Place}
+use Rattle.listing.specs.declared.Refused.{Refused}
 use Rattle.listing.specs.Grammar.{op_line_of, keys_of, call_of}
 
 -- a place in the text and its line number: every line before it has at least a byte, so neither number can grow too large
@@ -39,8 +33,8 @@ field_stands_at text at key =
 unfoldable pub field_value_at : List ℕ → ℕ → List ℕ → Float
 field_value_at text at key = float_of (hex_number_at text (at + length key + 1))
 
-unfoldable pub field_at_of : List ℕ → ℕ → List ℕ → Field
-field_at_of text at key = cond (field_stands_at text at key) (Value (field_value_at text at key)) Wrong
+unfoldable pub field_at_of : List ℕ → ℕ → List ℕ → Option Float
+field_at_of text at key = cond (field_stands_at text at key) (Some (field_value_at text at key)) None
 
 abbrev pub field_width : List ℕ → ℕ
 field_width key = length key + 10
@@ -55,20 +49,22 @@ fields_from text at line values [] = read values at line
 fields_from text at line values (key ∷ keys) =
     cond (field_stands_at text at key) (fields_from text (at + field_width key) (line + 1) (values ++ (field_value_at text at key ∷ [])) keys) (wrong line)
 
--- two fields, two points and three points as rows of fields, with the place and line after them
-abbrev pub pair_fields : Pairs.Pair → ℕ → ℕ → Fields
-pair_fields (Pair.Read u v) at line = read (u ∷ v ∷ []) at line
-pair_fields (Pair.Wrong line') at line = wrong line'
-
-abbrev pub two_points_fields : TwoPoints → ℕ → ℕ → Fields
-two_points_fields (Two.Read p1 p2) at line = read (p1.x ∷ p1.y ∷ p2.x ∷ p2.y ∷ []) at line
-two_points_fields (Two.Wrong line') at line = wrong line'
-
-abbrev pub three_points_fields : ThreePoints → ℕ → ℕ → Fields
-three_points_fields (Three.Read p1 p2 p3) at line = read (p1.x ∷ p1.y ∷ p2.x ∷ p2.y ∷ p3.x ∷ p3.y ∷ []) at line
-three_points_fields (Three.Wrong line') at line = wrong line'
-
 -- ---- one command: its call, with the place and line after it; a fault's line; or the end of the text
+pub data Command : Type 0 where
+  Drawing : Call → ℕ → ℕ → Command
+  Fault : ℕ → Command
+  Finish : Command
+
+-- as the code reads it, with the place that it goes on to; a fault leaves the place anywhere
+abbrev pub call_as : Result Call BadLine → Place → Command
+call_as (Ok call) p = Drawing call p.at p.line
+call_as (Err bad) p = Fault bad.0
+
+abbrev pub command_as : Result (Option Call) BadLine → Place → Command
+command_as (Ok (Some call)) p = Drawing call p.at p.line
+command_as (Ok None) p = Finish
+command_as (Err bad) p = Fault bad.0
+
 unfoldable pub with_fields : Op → Fields → Command
 with_fields op (read values at line) = Drawing (call_of op values) at line
 with_fields op (wrong line) = Fault line
@@ -84,9 +80,8 @@ try_ops text at line (op ∷ ops) = cond (stands_at text at (op_line_of op)) (co
 abbrev pub ops : List Op
 ops = Move ∷ Line ∷ Quad ∷ RatQuad ∷ Cubic ∷ RatCubic ∷ []
 
-unfoldable pub op_at_of : List ℕ → ℕ → List Op → OpAt
-op_at_of text at [] = Ops.Wrong
-op_at_of text at (op ∷ ops) = cond (stands_at text at (op_line_of op)) (Ops.Found op) (op_at_of text at ops)
+abbrev pub op_at_of : List ℕ → ℕ → List Op → Option Op
+op_at_of text at ops = find (λ op. stands_at text at (op_line_of op)) ops
 
 unfoldable pub command_at : List ℕ → ℕ → ℕ → Command
 command_at text at line = cond (leb (length text) at) Finish (try_ops text at line ops)
@@ -97,11 +92,10 @@ pub data Progress : Type 0 where
   finished : Outcome → Progress
   stopped : Answer → ℕ → Progress
 
--- the code's progress, with what its columns hold
-abbrev pub progress_of : Progresses.Progress → Columns → Progress
-progress_of (Progressing.Going state at line) c = going at line (outcome Done state c)
-progress_of (Progressing.Finished state) c = finished (outcome Done state c)
-progress_of (Progressing.Stopped answer line) c = stopped answer line
+-- a reading as the code ends it, with the state of its store and what the columns hold
+abbrev pub progress_of : Result Unit Refused → StoreState → Columns → Progress
+progress_of (Ok done) state c = finished (outcome Done state c)
+progress_of (Err r) state c = stopped (Err r.refusal) r.line
 
 -- "`line` is for 1 to 4 the refused command's op line"
 unfoldable pub after_call : ℕ → ℕ → ℕ → Outcome → Progress
@@ -125,3 +119,10 @@ steps_of (suc n) text p = steps_of n text (step_of text p)
 -- "Lines count from 1." There are no more commands than bytes, so one step more than bytes reads the whole text.
 unfoldable pub read_of : List ℕ → Outcome → Progress
 read_of text o = steps_of (length text + 1) text (going 0 1 o)
+
+-- "(0 for the final build)", and for all that is on no line
+abbrev pub on_no_line : Refusal → Refused
+on_no_line refusal = record { refusal = refusal; line = 0 }
+
+abbrev pub bad_text : BadLine → Refused
+bad_text bad = record { refusal = refusals.BadText; line = bad.0 }

@@ -1,11 +1,17 @@
 -- The front half of the program, for programs that share it: from a text to its answer and line, and to its words and points in columns that the caller lends. The
 -- columns may have any length; on a refusal they are as they came. Assumes nothing.
-use Rattle.std.specs.Prelude.{ℕ, List}
-use Rattle.answer.specs.Answer.{Answer}
+use Rattle.std.specs.Prelude.{ℕ, List, Result, Ok, Err}
+use Rattle.answer.specs.Answer.{Answer, Done}
 use Rattle.point.specs.declared.Setting.{Setting}
 use Rattle.flatten.specs.Flatten.{Flattening, Output, flatten_of}
-use Rattle.listing.specs.declared.Account.{Account}
+use Rattle.listing.specs.declared.Refused.{Refused}
 use Rattle.listing.specs.Program.{program_quads, program_splines, Drawn, refused, ready, drawn_of}
+
+-- the answer and its line, and how many points there are
+pub record Account : Type 0 where
+  pub answer : Answer
+  pub line : ℕ
+  pub points : ℕ
 
 pub record Telling : Type 0 where
   pub result : Account
@@ -13,6 +19,11 @@ pub record Telling : Type 0 where
 
 abbrev pub account_of : Answer → ℕ → ℕ → Account
 account_of answer line points = record { answer = answer; line = line; points = points }
+
+-- as the code gives it
+abbrev pub account_as : Result ℕ Refused → Account
+account_as (Ok points) = account_of Done 0 points
+account_as (Err r) = account_of (Err r.refusal) r.line 0
 
 abbrev pub telling : Account → Output → Telling
 telling result output = record { result = result; output = output }

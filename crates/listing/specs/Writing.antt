@@ -1,6 +1,6 @@
 -- RULES, The program 9: "Output: answer, line, points, then x, y, end for each point; x and y in eight lowercase hex digits, the others in plain decimal, each line ended
 -- by 0x0A." Assumes nothing.
-use Rattle.std.specs.Prelude.{ℕ, zero, suc, ◌+◌, cond, List, [], ◌∷◌, ◌++◌, leb, Float, length, get_or}
+use Rattle.std.specs.Prelude.{ℕ, zero, suc, ◌+◌, cond, List, [], ◌∷◌, ◌++◌, leb, Float, length, get_or, Option, Some, None}
 use Rattle.std.specs.Float.{nan}
 use Rattle.std.proofs.lemmas.List.Edits.{sets}
 use Rattle.columns.specs.Flags.{flag_byte_of, is_flag_of}
@@ -12,8 +12,8 @@ use Rattle.evaluate.specs.Evaluate.{Finished, finished}
 use Rattle.text.specs.Bytes.{bytes}
 use Rattle.text.specs.Hex.{hex_of}
 use Rattle.text.specs.Decimal.{decimal_of}
-use Rattle.listing.specs.declared.Listed.{Listed}
-use Rattle.listing.specs.declared.Listed.TheVariants.{Bytes, Short}
+use Rattle.listing.specs.declared.writing.Value.{Value}
+use Rattle.listing.specs.declared.writing.Value.TheVariants.{Decimal, Bits}
 
 unfoldable pub line_of : List ℕ → List ℕ → List ℕ
 line_of key value = key ++ (bytes "=" ++ (value ++ bytes "\n"))
@@ -40,7 +40,11 @@ report_of answer line points =
 unfoldable pub refusal_of : Answer → ℕ → List ℕ
 refusal_of answer line = line_of (bytes "answer") (decimal_of (number_of answer)) ++ line_of (bytes "line") (decimal_of line)
 
--- ---- as the code writes it: the three lines at the head, and the points from their columns
+-- ---- as the code writes it: what stands behind a key, the three lines at the head, and the points from their columns
+abbrev pub value_of : Value → List ℕ
+value_of (Decimal n) = decimal_of n
+value_of (Bits v) = hex_of (bits_of v)
+
 unfoldable pub head_of : ℕ → ℕ → ℕ → List ℕ
 head_of number line points =
     line_of (bytes "answer") (decimal_of number) ++ (line_of (bytes "line") (decimal_of line) ++ line_of (bytes "points") (decimal_of points))
@@ -52,11 +56,11 @@ column_points i (suc n) x y end = finished (point_at (get_or x i nan) (get_or y 
 
 -- ---- a text as output: all of its bytes and their count, or nothing written where the output is too short
 pub record Listing : Type 0 where
-  pub result : Listed
+  pub result : Option ℕ
   pub output : List ℕ
 
-abbrev pub listed : Listed → List ℕ → Listing
+abbrev pub listed : Option ℕ → List ℕ → Listing
 listed result output = record { result = result; output = output }
 
 unfoldable pub listed_as : List ℕ → List ℕ → Listing
-listed_as text out = cond (leb (length text) (length out)) (listed (Bytes (length text)) (sets out 0 text)) (listed Short out)
+listed_as text out = cond (leb (length text) (length out)) (listed (Some (length text)) (sets out 0 text)) (listed None out)

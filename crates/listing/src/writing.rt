@@ -12,35 +12,33 @@ ghost use Rattle.text.specs.Decimal.{decimal_of};
 ghost use Rattle.text.specs.Written.{WrittenAs};
 ghost use Rattle.listing.specs.Writing.{line_of, point_lines, all_point_lines, report_of, refusal_of, head_of, column_points, listed, listed_as};
 
-use crate::Listed;
+use crate::Refused;
 use answer::Answer;
 
-// Writes a line with a number in plain decimal, and gives the place after it.
-fn decimal_line(buffer: &mut [u8], at: usize, key: &[u8], n: u64) -> usize
-    requires { at + length (line_of key.now (decimal_of n)) ≤ length buffer.old }
-    ensures { WrittenAs (line_of key.now (decimal_of n)) buffer.old at buffer.new result }
-{
-    text::put_bytes(buffer, at, key);
-    let equals = at + key.len();
-    text::put_bytes(buffer, equals, b"=");
-    let value = equals + 1;
-    let digits = text::put_decimal(buffer, value, n);
-    let end = value + digits;
-    text::put_bytes(buffer, end, b"\n");
-    end + 1
+// What stands behind a key: a number in plain decimal, or the bits of a float in eight hex digits.
+#[derive(Clone, Copy)]
+enum Value {
+    Decimal(u64),
+    Bits(f32),
 }
 
-// Writes a line with the bits of a float in eight hex digits, and gives the place after it.
-fn hex_line(buffer: &mut [u8], at: usize, key: &[u8], v: f32) -> usize
-    requires { at + length (line_of key.now (hex_of (bits_of v))) ≤ length buffer.old }
-    ensures { WrittenAs (line_of key.now (hex_of (bits_of v))) buffer.old at buffer.new result }
+// Writes a line, and gives the place after it.
+fn put_line(buffer: &mut [u8], at: usize, key: &[u8], value: Value) -> usize
+    requires { at + length (line_of key.now (value_of value)) ≤ length buffer.old }
+    ensures { WrittenAs (line_of key.now (value_of value)) buffer.old at buffer.new result }
 {
     text::put_bytes(buffer, at, key);
     let equals = at + key.len();
     text::put_bytes(buffer, equals, b"=");
-    let value = equals + 1;
-    text::put_hex(buffer, value, leaves::bits(v));
-    let end = value + 8;
+    let start = equals + 1;
+    let width = match value {
+        Value::Decimal(n) => text::put_decimal(buffer, start, n),
+        Value::Bits(v) => {
+            text::put_hex(buffer, start, leaves::bits(v));
+            8
+        }
+    };
+    let end = start + width;
     text::put_bytes(buffer, end, b"\n");
     end + 1
 }
@@ -50,10 +48,10 @@ fn point_lines(buffer: &mut [u8], at: usize, x: f32, y: f32, end: u8) -> usize
     requires { at + 28 ≤ length buffer.old }
     ensures { WrittenAs (point_lines (finished (point_at x y) (is_flag_of end))) buffer.old at buffer.new result }
 {
-    let second = hex_line(buffer, at, b"x", x);
-    let third = hex_line(buffer, second, b"y", y);
+    let second = put_line(buffer, at, b"x", Value::Bits(x));
+    let third = put_line(buffer, second, b"y", Value::Bits(y));
     let flag = columns::flag_byte(columns::is_flag(end));
-    decimal_line(buffer, third, b"end", flag as u64)
+    put_line(buffer, third, b"end", Value::Decimal(u64::from(flag)))
 }
 
 fn put_points(buffer: &mut [u8], at: usize, points: usize, x: &[f32], y: &[f32], end: &[u8])
@@ -61,13 +59,11 @@ fn put_points(buffer: &mut [u8], at: usize, points: usize, x: &[f32], y: &[f32],
     ensures { buffer.new ≡ sets buffer.old at (all_point_lines (column_points 0 points x.now y.now end.now)) }
 {
     let mut next = at;
-    let mut i = 0;
-    while i < points {
+    for i in 0..points {
         let px = columns::read(x, i, f32::NAN);
         let py = columns::read(y, i, f32::NAN);
         let flag = columns::read(end, i, 0);
         next = point_lines(buffer, next, px, py, flag);
-        i += 1;
     }
 }
 
@@ -81,49 +77,50 @@ fn put_head(buffer: &mut [u8], number: u64, line: u64, points: u64) -> usize
     requires { length (head_of number line points) ≤ length buffer.old }
     ensures { WrittenAs (head_of number line points) buffer.old 0 buffer.new result }
 {
-    let second = decimal_line(buffer, 0, b"answer", number);
-    let third = decimal_line(buffer, second, b"line", line);
-    decimal_line(buffer, third, b"points", points)
+    let second = put_line(buffer, 0, b"answer", Value::Decimal(number));
+    let third = put_line(buffer, second, b"line", Value::Decimal(line));
+    put_line(buffer, third, b"points", Value::Decimal(points))
 }
 
 // The report of a refusal: no point follows.
-pub fn refuse(output: &mut [u8], refusal: Answer, line: usize) -> Listed
-    ensures { listed result output.new ≡ listed_as (report_of refusal line []) output.old }
+pub fn refuse(output: &mut [u8], refused: Refused) -> Option<usize>
+    ensures { listed result output.new ≡ listed_as (report_of (Err refused.refusal) refused.line []) output.old }
 {
-    let number = answer::number(refusal) as u64;
-    let needed = head_length(number, line as u64, 0);
+    let number = u64::from(refused.refusal.number());
+    let line = refused.line as u64;
+    let needed = head_length(number, line, 0);
     if output.len() < needed {
-        return Listed::Short;
+        return None;
     }
-    put_head(output, number, line as u64, 0);
-    Listed::Bytes(needed)
+    put_head(output, number, line, 0);
+    Some(needed)
 }
 
 // The two lines of a refusal alone, for a program that has another output than points.
-pub fn refusal(output: &mut [u8], answer: Answer, line: usize) -> Listed
+pub fn refusal(output: &mut [u8], answer: Answer, line: usize) -> Option<usize>
     ensures { listed result output.new ≡ listed_as (refusal_of answer line) output.old }
 {
-    let number = answer::number(answer) as u64;
+    let number = u64::from(answer::number(answer));
     let needed = 14 + text::decimal_length(number) + text::decimal_length(line as u64);
     if output.len() < needed {
-        return Listed::Short;
+        return None;
     }
-    let second = decimal_line(output, 0, b"answer", number);
-    decimal_line(output, second, b"line", line as u64);
-    Listed::Bytes(needed)
+    let second = put_line(output, 0, b"answer", Value::Decimal(number));
+    put_line(output, second, b"line", Value::Decimal(line as u64));
+    Some(needed)
 }
 
 // The report of a flattened drawing, from its columns of points.
-pub fn report(output: &mut [u8], points: usize, x: &[f32], y: &[f32], end: &[u8]) -> Listed
+pub fn report(output: &mut [u8], points: usize, x: &[f32], y: &[f32], end: &[u8]) -> Option<usize>
     requires { points ≤ 512 }
     ensures { listed result output.new ≡ listed_as (report_of Done 0 (column_points 0 points x.now y.now end.now)) output.old }
 {
     let head = head_length(0, 0, points as u64);
     let needed = head + 28 * points;
     if output.len() < needed {
-        return Listed::Short;
+        return None;
     }
     let at = put_head(output, 0, 0, points as u64);
     put_points(output, at, points, x, y, end);
-    Listed::Bytes(needed)
+    Some(needed)
 }

@@ -6,7 +6,7 @@ use Prim.Native.Nat.{ℕ, ◌+◌}
 use native.Mathlib.Omega.{arith}
 use Rattle.text.specs.Bytes.{stands_at}
 use Rattle.text.proofs.Standing.{stands_inside}
-use Rattle.listing.specs.declared.Field.TheVariants.{Value}
+use Rattle.std.specs.Prelude.{Some}
 use Rattle.listing.proofs.FieldLaws.{no_key, no_equals, no_number, no_end, all_there}
 use Rattle.listing.proofs.fields.field_at.Goals as goal
 
@@ -42,7 +42,7 @@ returns-then-not-byte_stands_at-2 c = no_end _ _ _ (line_end _ _ _ false (sym c.
 
 pub returns : goal.returns
 returns c =
-    ap Value c.from_bits.ensures
+    ap Some c.from_bits.ensures
     ∙ all_there _ _ _ _ (sym c.stands_at.ensures ∙ c.if-not-stands_at.false)
     (sym c.byte_stands_at.ensures ∙ c.if-not-byte_stands_at.false)
     (sym c.hex_at-number.ensures ∙ c.in-Some.is)

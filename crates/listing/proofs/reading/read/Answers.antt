@@ -1,36 +1,41 @@
 -- `listing::read` meets its contract: the steps that are left give what all of them give, and more steps than bytes are left. Assumes nothing.
-use mathlib.Core.Path.{refl, ◌∙◌}
-use Prim.Native.Nat.{◌+◌, ◌-◌}
-use native.Mathlib.Omega.{arith}
-use lib.ListN.{length}
-use Rattle.listing.specs.Reading.{read_of}
-use Rattle.listing.proofs.StepLaws.{progress_seen, step_onward, steps_again, steps_end, steps_stop}
+use Rattle.std.proofs.Common.{◌≡◌, refl, sym, ap, ◌∙◌, arith, ℕ, ◌+◌, ◌-◌, ◌≤◌, length}
+use Rattle.std.proofs.Common.{rules}
+use Rattle.store.specs.Columns.{columns}
+use Rattle.listing.specs.Reading.{read_of, progress_of, bad_text}
+use Rattle.listing.proofs.CommandLaws.{passed_to, err_of_mapped, ok_of_mapped}
+use Rattle.listing.proofs.StepLaws.{step_onward}
 use Rattle.listing.proofs.reading.read.Goals as goal
 
-pub loop-s-init : goal.loop-s-init
+pub loop-call-init : goal.loop-call-init
 unfolding read_of
-loop-s-init c = (length c.args.listing.now + 1, refl, omega arith, record { inside = omega arith; counted = omega arith }, refl, refl, refl, refl)
+loop-call-init c = record {
+  steps = (length c.args.listing.now + 1, refl, omega arith);
+  placed = record { inside = omega arith; counted = omega arith };
+  same_line = refl;
+  x = refl;
+  y = refl;
+  weight = refl;
+  commands = refl;
+}
 
-pub loop-s-smaller : goal.loop-s-smaller
-loop-s-smaller c =
-    let on = step_onward _ _ _ _ _ _ _ c.loop-s.invariant.3 (progress_seen _ _ _ _ c.step.ensures c.in-Going.is) in
-    omega arith
+pub returns-in_err-call : goal.returns-in_err-call
+returns-in_err-call c =
+    let p = passed_to _ bad_text c.from_residual.result c.from_residual.ensures.1 in
+    ap (λ r. progress_of r (columns c.loop-call.x c.loop-call.y c.loop-call.weight c.loop-call.commands)) p ∙ ?
 
-pub loop-s-preserved : goal.loop-s-preserved
-loop-s-preserved c =
-    let on = step_onward _ _ _ _ _ _ _ c.loop-s.invariant.3 (progress_seen _ _ _ _ c.step.ensures c.in-Going.is) in (
-      c.loop-s.invariant.0 - 1,
-      steps_again _ _ _ _ (omega arith) c.loop-s.invariant.1 _ (progress_seen _ _ _ _ c.step.ensures c.in-Going.is),
-      omega arith,
-      on.placed,
-      c.step.auto.x ∙ c.loop-s.invariant.4,
-      c.step.auto.y ∙ c.loop-s.invariant.5,
-      c.step.auto.weight ∙ c.loop-s.invariant.6,
-      c.step.auto.commands ∙ c.loop-s.invariant.7,
-    )
+pub returns-in_err-map_err : goal.returns-in_err-map_err
+returns-in_err-map_err c =
+    let e = err_of_mapped _ c.draw-drawn.result.answer c.map_err.result c.map_err.ensures.cases (λ e. record { refusal = e; line = c.loop-call.op_line }) (λ e f k. search rules) _ c.in_err-map_err.was in
+    ?
 
-pub returns-in-Finished : goal.returns-in-Finished
-returns-in-Finished c = steps_end _ _ _ _ (omega arith) c.loop-s.invariant.1 _ (progress_seen _ _ _ _ c.step.ensures c.in-Finished.is)
+pub loop-call-smaller : goal.loop-call-smaller
+loop-call-smaller c =
+    let on = step_onward _ _ _ _ _ _ _ c.loop-call.invariant.placed ? in
+    omega (arith, on.further)
 
-pub returns-in-Stopped : goal.returns-in-Stopped
-returns-in-Stopped c = steps_stop _ _ _ _ (omega arith) c.loop-s.invariant.1 _ _ (progress_seen _ _ _ _ c.step.ensures c.in-Stopped.is)
+pub loop-call-preserved : goal.loop-call-preserved
+loop-call-preserved c = ?
+
+pub returns : goal.returns
+returns c = let e = c.in-None in ?
