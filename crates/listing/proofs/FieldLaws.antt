@@ -11,7 +11,6 @@ use denote.Bor.{Bor}
 use Rattle.std.proofs.lemmas.List.{drop_all, take_more_set}
 use mathlib.Mathlib.Data.Bool.Basic.{and_elim_right}
 use Rattle.leaves.specs.Bits.{float_of}
-use Rattle.std.specs.Prelude.{Option, None, Some}
 use Rattle.text.specs.Bytes.{stands_at}
 use Rattle.text.specs.Hex.{hex_stands_at, hex_number_at, hex_at_of}
 use Rattle.text.proofs.Standing.{stands_append, stands_inside}
@@ -20,21 +19,14 @@ use Rattle.listing.specs.Grammar.{key_texts}
 use Rattle.listing.specs.Reading.{Placed, field_stands_at, field_value_at, field_at_of, field_width, Fields, read, wrong, fields_from}
 
 -- ---- one field
-number_there : (b : Bool) (n m : ℕ) → ◌≡◌ {A = Option ℕ} (cond b (Some n) None) (Some m) → (b ≡ true) × (n ≡ m)
-number_there true n m h = (refl, cc)
-number_there false n m h = absurd (let z : ◌≡◌ {A = ℕ} 0 1 = cc in omega arith)
+module _ {A : Type 0} where
+  there : (b : Bool) (u v : A) → cond b (Some u) None ≡ Some v → (b ≡ true) × (u ≡ v)
+  there true u v h = (refl, cc)
+  there false u v h = absurd (cc)
 
-number_missing : (b : Bool) (n : ℕ) → ◌≡◌ {A = Option ℕ} (cond b (Some n) None) None → b ≡ false
-number_missing true n h = absurd (let z : ◌≡◌ {A = ℕ} 0 1 = cc in omega arith)
-number_missing false n h = refl
-
-value_there : (b : Bool) (u v : Float) → ◌≡◌ {A = Option Float} (cond b (Some u) None) (Some v) → (b ≡ true) × (u ≡ v)
-value_there true u v h = (refl, cc)
-value_there false u v h = absurd (let z : ◌≡◌ {A = ℕ} 0 1 = cc in omega arith)
-
-value_missing : (b : Bool) (u : Float) → ◌≡◌ {A = Option Float} (cond b (Some u) None) None → b ≡ false
-value_missing true u h = absurd (let z : ◌≡◌ {A = ℕ} 0 1 = cc in omega arith)
-value_missing false u h = refl
+  missing : (b : Bool) (u : A) → cond b (Some u) None ≡ None → b ≡ false
+  missing true u h = absurd (cc)
+  missing false u h = refl
 
 module _ (text : List ℕ) (at : ℕ) (key : List ℕ) where
   abbrev keyed : Bool
@@ -61,7 +53,7 @@ module _ (text : List ℕ) (at : ℕ) (key : List ℕ) where
   pub no_number : hex_at_of text (at + length key + 1) ≡ None → None ≡ field_at_of text at key
   unfolding field_at_of hex_at_of
   no_number h =
-      let e : hex_stands_at text (at + length key + 1) ≡ false = number_missing (hex_stands_at text (at + length key + 1)) (hex_number_at text (at + length key + 1)) h in
+      let e : hex_stands_at text (at + length key + 1) ≡ false = missing (hex_stands_at text (at + length key + 1)) (hex_number_at text (at + length key + 1)) h in
       rw (parts, e, and-false)
 
   pub no_end : ended ≡ false → None ≡ field_at_of text at key
@@ -71,12 +63,12 @@ module _ (text : List ℕ) (at : ℕ) (key : List ℕ) where
   pub all_there : (n : ℕ) → keyed ≡ true → equals ≡ true → hex_at_of text (at + length key + 1) ≡ Some n → ended ≡ true → Some (float_of n) ≡ field_at_of text at key
   unfolding field_at_of hex_at_of field_value_at
   all_there n k q h l =
-      let e : (hex_stands_at text (at + length key + 1) ≡ true) × (hex_number_at text (at + length key + 1) ≡ n) = number_there (hex_stands_at text (at + length key + 1)) (hex_number_at text (at + length key + 1)) n h in
+      let e : (hex_stands_at text (at + length key + 1) ≡ true) × (hex_number_at text (at + length key + 1) ≡ n) = there (hex_stands_at text (at + length key + 1)) (hex_number_at text (at + length key + 1)) n h in
       rw (parts, k, q, e.0, l, e.1)
 
   field_stands : (v : Float) → field_at_of text at key ≡ Some v → (field_stands_at text at key ≡ true) × (field_value_at text at key ≡ v)
   unfolding field_at_of
-  field_stands v h = value_there (field_stands_at text at key) (field_value_at text at key) v h
+  field_stands v h = there (field_stands_at text at key) (field_value_at text at key) v h
 
   stands_to_end : field_stands_at text at key ≡ true → at + length key + 10 ≤ length text
   stands_to_end h =
@@ -93,7 +85,7 @@ module _ (text : List ℕ) (at : ℕ) (key : List ℕ) where
 
   pub field_off : field_at_of text at key ≡ None → (line : ℕ) (values : List Float) (keys : List (List ℕ)) → fields_from text at line values (key ∷ keys) ≡ wrong line
   unfolding fields_from field_at_of
-  field_off h line values keys = rw (value_missing (field_stands_at text at key) (field_value_at text at key) h)
+  field_off h line values keys = rw (missing (field_stands_at text at key) (field_value_at text at key) h)
 
 -- ---- rows of fields
 -- after a row the place is inside the text again, and no earlier than its start

@@ -8,26 +8,25 @@ use borrow.Author.Tests.{leb-true, le-leb}
 use lib.Dec.{leb}
 use lib.ListN.{length}
 use lib.Seq.{sets}
-use Rattle.listing.specs.declared.Listed.{Listed}
-use Rattle.listing.specs.declared.Listed.TheVariants.{Bytes, Short}
+use Rattle.std.specs.Prelude.{Option, Some, None}
 use Rattle.listing.specs.Writing.{Listing, listed, listed_as}
 
 module _ (text out : List ℕ) where
-  counted : (b : Bool) (m : ℕ) → leb (length text) (length out) ≡ b → Bytes m ≡ (cond b (listed (Bytes (length text)) (sets out 0 text)) (listed Short out)).result → m ≤ length out
+  counted : (b : Bool) (m : ℕ) → leb (length text) (length out) ≡ b → Some m ≡ (cond b (listed (Some (length text)) (sets out 0 text)) (listed None out)).result → m ≤ length out
   counted true m e h = let k : m ≡ length text = cc in omega (arith, leb-true (length text) (length out) e)
   counted false m e h = absurd (let z : ◌≡◌ {A = ℕ} 0 1 = cc in omega arith)
 
-  pub count_fits : (r : Listed) (out' : List ℕ) (m : ℕ) → listed r out' ≡ listed_as text out → r ≡ Bytes m → m ≤ length out
+  pub count_fits : (r : Option ℕ) (out' : List ℕ) (m : ℕ) → listed r out' ≡ listed_as text out → r ≡ Some m → m ≤ length out
   unfolding listed_as
   count_fits r out' m h e = counted (leb (length text) (length out)) m refl (sym e ∙ ap (λ (l : Listing). l.result) h)
 
-  never : Short ≡ (listed (Bytes (length text)) (sets out 0 text)).result → false ≡ true
+  never : None ≡ (listed (Some (length text)) (sets out 0 text)).result → false ≡ true
   never h = absurd (let z : ◌≡◌ {A = ℕ} 0 1 = cc in omega arith)
 
-  pub not_short : (r : Listed) (out' : List ℕ) → length text ≤ length out → listed r out' ≡ listed_as text out → r ≡ Short → false ≡ true
+  pub not_short : (r : Option ℕ) (out' : List ℕ) → length text ≤ length out → listed r out' ≡ listed_as text out → r ≡ None → false ≡ true
   unfolding listed_as
   not_short r out' fits h e =
       never
       (sym e
       ∙ ap (λ (l : Listing). l.result) h
-      ∙ ap (λ (b : Bool). (cond b (listed (Bytes (length text)) (sets out 0 text)) (listed Short out)).result) (le-leb (length text) (length out) fits))
+      ∙ ap (λ (b : Bool). (cond b (listed (Some (length text)) (sets out 0 text)) (listed None out)).result) (le-leb (length text) (length out) fits))

@@ -20,7 +20,7 @@ use Rattle.listing.specs.declared.Op.{Op}
 use Rattle.listing.specs.declared.Op.TheVariants.{Move, Line, Quad, RatQuad, Cubic, RatCubic}
 
 use Rattle.listing.specs.Grammar.{op_line_of, keys_of}
-use Rattle.listing.specs.Reading.{read, fields_from, with_fields, command_from, try_ops, ops, command_at}
+use Rattle.listing.specs.Reading.{read, Drawing, Fault, Finish, fields_from, with_fields, command_from, try_ops, ops, command_at}
 use Rattle.listing.specs.Printing.{TextCommand, field_lines, command_lines, printed, Patterns, ProperCommand, Proper, none, more, Good, call_in, calls_in}
 use Rattle.listing.proofs.CommandLaws.{fields_drawn, fields_fault}
 use Rattle.listing.proofs.ShapeLaws.{field_shapes, plain_keys_lem, row_reads, RowAt, there, missing, row_at, row_once, op_once, op_newlines, shape_of, command_fits, CommandText, shape_command, OpLineAt, op_line_at, op_line_newlines, command_newlines}

@@ -7,10 +7,12 @@ use native.Mathlib.Omega.{arith}
 use borrow.Author.Tests.{le-leb, lt-leb}
 use lib.ListN.{length}
 use Rattle.text.proofs.Decimals.{decimal_short}
+use Rattle.std.specs.Prelude.{Err}
+use Rattle.answer.specs.declared.Refusal.{Refusal}
 use Rattle.answer.specs.Answer.{Answer}
 use Rattle.answer.specs.Answer.{Done, InputTooLong}
 use Rattle.answer.specs.Number.{number_of, is_done}
-use Rattle.answer.proofs.Laws.{done_is}
+use Rattle.answer.proofs.Laws.{done_is, ok_is_done}
 use Rattle.point.specs.declared.Setting.TheVariants.{Screen}
 use Rattle.store.specs.declared.StoreState.{StoreState}
 use Rattle.store.specs.declared.Call.TheVariants.{Build}
@@ -41,13 +43,16 @@ module _ (st : StoreState) (c : Columns) (a : Answer) (s : StoreState) (c' : Col
   unfolding built_from
   build_drawn = ap (λ (o : Outcome). built (is_done o.answer) o) e
 
-  pub build_refused : is_done a ≡ false → refused a 0 ≡ built_from (outcome Done st c)
+  pub build_refused : (r : Refusal) → a ≡ Err r → refused (Err r) 0 ≡ built_from (outcome Done st c)
   unfolding built
-  build_refused h = sym (ap (λ (b : Bool). built b (outcome a s c')) h) ∙ build_drawn
+  build_refused r h =
+      ap (λ (b : Answer). refused b 0) (sym h)
+      ∙ sym (ap (λ (b : Bool). built b (outcome a s c')) (ap is_done h ∙ sym (ok_is_done (Err r))))
+      ∙ build_drawn
 
-  pub build_done : is_done a ≡ true → ready s c' ≡ built_from (outcome Done st c)
+  pub build_done : a ≡ Done → ready s c' ≡ built_from (outcome Done st c)
   unfolding built
-  build_done h = sym (ap (λ (b : Bool). built b (outcome a s c')) h) ∙ build_drawn
+  build_done h = sym (ap (λ (b : Bool). built b (outcome a s c')) (ap is_done h)) ∙ build_drawn
 
 -- ---- the drawing of a text
 pub too_long : (text : List ℕ) → 16384 < length text → refused InputTooLong 0 ≡ drawn_of text
@@ -66,10 +71,6 @@ module _ (text : List ℕ) (short : length text ≤ 16384) where
   pub after_finished : (o : Outcome) → finished o ≡ read_of text (fresh_of program_columns) → built_from o ≡ drawn_of text
   unfolding after_reading
   after_finished o h = after_reading_lem (finished o) h
-
-  pub after_going : (at line : ℕ) (o : Outcome) → going at line o ≡ read_of text (fresh_of program_columns) → built_from o ≡ drawn_of text
-  unfolding after_reading
-  after_going at line o h = after_reading_lem (going at line o) h
 
 -- ---- what is told, as the program lists it
 module _ (text : List ℕ) (t : Telling) (e : t ≡ told_of Screen text program_output) where

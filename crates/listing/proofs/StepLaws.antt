@@ -12,7 +12,7 @@ use lib.ListN.{length}
 use Rattle.answer.specs.Answer.{Answer}
 use Rattle.answer.specs.Answer.{Done, BadText}
 use Rattle.answer.specs.Number.{is_done}
-use Rattle.answer.proofs.Laws.{done_is}
+use Rattle.answer.proofs.Laws.{ok_is_done}
 use Rattle.store.specs.declared.Call.{Call}
 use Rattle.store.specs.declared.StoreState.{StoreState}
 use Rattle.store.specs.Columns.{Columns}
@@ -21,10 +21,10 @@ use Rattle.text.specs.Bytes.{stands_at}
 use Rattle.listing.specs.declared.Op.{Op}
 
 
-use Rattle.std.specs.Prelude.{Result}
-use Rattle.listing.specs.declared.Refused.{Refused}
+use Rattle.std.specs.Prelude.{Err}
+use Rattle.answer.specs.declared.Refusal.{Refusal}
 use Rattle.listing.specs.Grammar.{op_line_of, keys_of}
-use Rattle.listing.specs.Reading.{Placed, Fields, read, wrong, fields_from, with_fields, command_from, try_ops, ops, Command, Drawing, Fault, Finish, command_at, Progress, going, finished, stopped, after_call, after_command, step_of, steps_of, read_of, progress_of}
+use Rattle.listing.specs.Reading.{Placed, Fields, read, wrong, fields_from, with_fields, command_from, try_ops, ops, Command, Drawing, Fault, Finish, command_at, Progress, going, finished, stopped, after_call, after_command, step_of, steps_of, read_of}
 use Rattle.listing.proofs.FieldLaws.{Onward, fields_onward}
 use Rattle.listing.proofs.CommandLaws.{op_length, behind_op}
 
@@ -43,15 +43,17 @@ module _ (text : List ℕ) (at line : ℕ) (o : Outcome) where
     unfolding step_of after_command after_call
     after = rw (h, ← d)
 
-    pub step_refused : is_done a ≡ false → stopped a line ≡ step_of text (going at line o)
-    step_refused e = sym (after ∙ ap (λ (b : Bool). cond b (going at' line' (outcome a s c)) (stopped a line)) e)
+    pub step_refused : (r : Refusal) → a ≡ Err r → stopped (Err r) line ≡ step_of text (going at line o)
+    step_refused r e =
+        let not_done : is_done a ≡ false = ap is_done e ∙ sym (ok_is_done (Err r)) in
+        sym (after ∙ ap (λ (b : Bool). cond b (going at' line' (outcome a s c)) (stopped a line)) not_done ∙ ap (λ (b : Answer). stopped b line) e)
 
-    pub step_drawn : is_done a ≡ true → going at' line' (outcome Done s c) ≡ step_of text (going at line o)
+    pub step_drawn : a ≡ Done → going at' line' (outcome Done s c) ≡ step_of text (going at line o)
     step_drawn e =
         sym
         (after
-        ∙ ap (λ (b : Bool). cond b (going at' line' (outcome a s c)) (stopped a line)) e
-        ∙ ap (λ (b : Answer). going at' line' (outcome b s c)) (done_is a e))
+        ∙ ap (λ (b : Bool). cond b (going at' line' (outcome a s c)) (stopped a line)) (ap is_done e)
+        ∙ ap (λ (b : Answer). going at' line' (outcome b s c)) e)
 
 -- ---- a step goes on
 fields_of : (op : Op) (f : Fields) (call : Call) (at' line' : ℕ) → with_fields op f ≡ Drawing call at' line' → (values : List Float) × (f ≡ read values at' line')
@@ -112,9 +114,6 @@ call_onward text at line p o q Finish at' line' e h = absurd (let z : ◌≡◌ 
 pub step_onward : (text : List ℕ) (at line : ℕ) (o q : Outcome) (at' line' : ℕ) → Placed text at line → going at' line' q ≡ step_of text (going at line o) → Further text at at' line'
 unfolding step_of
 step_onward text at line o q at' line' p h = call_onward text at line p o q (command_at text at line) at' line' refl (sym h)
-
-pub progress_seen : (r r' : Result StoreState Refused) (c : Columns) (p : Progress) → progress_of r c ≡ p → r ≡ r' → progress_of r' c ≡ p
-progress_seen r r' c p h e = sym (ap (λ (q : Result StoreState Refused). progress_of q c) e) ∙ h
 
 -- ---- many steps
 pub steps_finished : (n : ℕ) (text : List ℕ) (o : Outcome) → steps_of n text (finished o) ≡ finished o

@@ -15,10 +15,9 @@ use Rattle.store.specs.declared.StoreState.{StoreState}
 use Rattle.store.specs.Columns.{Columns}
 use Rattle.store.specs.Drawing.{Outcome, draw_of, fresh_of}
 use Rattle.flatten.specs.Flatten.{Flattening, Output, flatten_of}
-use Rattle.listing.specs.declared.Drawn as Drawns
 use Rattle.listing.specs.Reading.{Progress, going, finished, stopped, read_of}
 use Rattle.listing.specs.Writing.{column_points}
-use Rattle.listing.specs.Program.{program_columns, program_quads, program_splines, program_output, Drawn, refused, ready, drawn_as, built, built_from, after_reading, drawn_in, drawn_of, Said, flat_report, flat_of, said_from, said_of}
+use Rattle.listing.specs.Program.{program_columns, program_quads, program_splines, program_output, Drawn, refused, ready, built, built_from, after_reading, drawn_in, drawn_of, Said, flat_report, flat_of, said_from, said_of}
 use Rattle.listing.specs.Told.{Telling, account_of, telling, flat_telling, told_from, told_of}
 use Rattle.listing.proofs.StepLaws.{StopsRefused, read_refused}
 use Rattle.listing.proofs.FlatLaws.{flatten_done, flatten_undone, delivered_count, delivered_points, delivered_fit}
@@ -117,9 +116,6 @@ unfolding told_of said_of
 told_said setting text = from_said setting (drawn_of text) (drawn_refuses text)
 
 -- ---- as the code tells it, in any columns
-pub drawn_seen : (r r' : Drawns.Drawn) (c : Columns) (d : Drawn) → drawn_as r c ≡ d → r ≡ r' → drawn_as r' c ≡ d
-drawn_seen r r' c d h e = sym (ap (λ (q : Drawns.Drawn). drawn_as q c) e) ∙ h
-
 pub flat_told : (setting : Setting) (st : StoreState) (c : Columns) (o : Output) (f : Flattening)
     → f ≡ flatten_of setting st c program_quads program_splines o → flat_telling f ≡ told_from setting (ready st c) o
 unfolding told_from

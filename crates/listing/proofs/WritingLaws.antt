@@ -26,7 +26,7 @@ use Rattle.text.proofs.Decimals.{one_digit, decimal_short}
 use Rattle.text.specs.Written.{WrittenAs}
 use Rattle.text.proofs.Stores.{sets_append}
 use Rattle.text.proofs.Written.{written_then}
-use Rattle.listing.specs.declared.Listed.TheVariants.{Bytes, Short}
+use Rattle.std.specs.Prelude.{Some, None}
 use Rattle.listing.specs.Writing.{line_of, point_lines, all_point_lines, report_of, refusal_of, head_of, column_points, Listing, listed, listed_as}
 
 -- ---- lengths
@@ -178,14 +178,14 @@ points_report ps =
     let p = line_of (bytes "points") (decimal_of (length ps)) in
     append_assoc a (l ++ p) (all_point_lines ps) ∙ ap (λ (r : List ℕ). a ++ r) (append_assoc l p (all_point_lines ps))
 
-pub listed_short : (text out : List ℕ) → length out < length text → listed Short out ≡ listed_as text out
+pub listed_short : (text out : List ℕ) → length out < length text → listed None out ≡ listed_as text out
 unfolding listed_as
 listed_short text out h = rw (lt-leb (length text) (length out) h)
 
-pub listed_bytes : (text out out' : List ℕ) (n : ℕ) → length text ≤ length out → n ≡ length text → out' ≡ sets out 0 text → listed (Bytes n) out' ≡ listed_as text out
+pub listed_bytes : (text out out' : List ℕ) (n : ℕ) → length text ≤ length out → n ≡ length text → out' ≡ sets out 0 text → listed (Some n) out' ≡ listed_as text out
 unfolding listed_as
 listed_bytes text out out' n h e w =
-    ap (λ (m : ℕ). listed (Bytes m) out') e ∙ ap (listed (Bytes (length text))) w ∙ rw (le-leb (length text) (length out) h)
+    ap (λ (m : ℕ). listed (Some m) out') e ∙ ap (listed (Some (length text))) w ∙ rw (le-leb (length text) (length out) h)
 
 pub listed_seen : (s t out : List ℕ) (l : Listing) → l ≡ listed_as s out → s ≡ t → l ≡ listed_as t out
 listed_seen s t out l h e = h ∙ ap (λ (r : List ℕ). listed_as r out) e
@@ -205,14 +205,14 @@ module _ (points : ℕ) (x y : List Float) (end : List ℕ) where
       let ps = column_points 0 points x y end in
       ap (λ (n : ℕ). head_of 0 0 n ++ all_point_lines ps) (sym (column_points-length 0 points x y end)) ∙ points_report ps
 
-  pub report_short : (out : List ℕ) (head : ℕ) → head ≡ length (head_of 0 0 points) → length out < head + 28 * points → listed Short out ≡ listed_as (report_of Done 0 (column_points 0 points x y end)) out
+  pub report_short : (out : List ℕ) (head : ℕ) → head ≡ length (head_of 0 0 points) → length out < head + 28 * points → listed None out ≡ listed_as (report_of Done 0 (column_points 0 points x y end)) out
   report_short out head e h =
       let l : length column_text ≡ length (head_of 0 0 points) + 28 * points = column_length in
-      listed_seen column_text (report_of Done 0 (column_points 0 points x y end)) out (listed Short out) (listed_short column_text out (omega arith)) column_report
+      listed_seen column_text (report_of Done 0 (column_points 0 points x y end)) out (listed None out) (listed_short column_text out (omega arith)) column_report
 
   pub report_bytes : (out b out' : List ℕ) (head at : ℕ) → head ≡ length (head_of 0 0 points) → head + 28 * points ≤ length out
       → WrittenAs (head_of 0 0 points) out 0 b at → out' ≡ sets b at (all_point_lines (column_points 0 points x y end))
-      → listed (Bytes (head + 28 * points)) out' ≡ listed_as (report_of Done 0 (column_points 0 points x y end)) out
+      → listed (Some (head + 28 * points)) out' ≡ listed_as (report_of Done 0 (column_points 0 points x y end)) out
   report_bytes out b out' head at e h w v =
       let l : length column_text ≡ length (head_of 0 0 points) + 28 * points = column_length in
       let lines = all_point_lines (column_points 0 points x y end) in
@@ -221,7 +221,7 @@ module _ (points : ℕ) (x y : List Float) (end : List ℕ) where
       ∙ ap (λ (c : List ℕ). sets c at lines) w.stored
       ∙ ap (λ (n : ℕ). sets (sets out 0 (head_of 0 0 points)) n lines) w.next
       ∙ sym (sets_append out 0 (head_of 0 0 points) lines) in
-      listed_seen column_text (report_of Done 0 (column_points 0 points x y end)) out (listed (Bytes (head + 28 * points)) out')
+      listed_seen column_text (report_of Done 0 (column_points 0 points x y end)) out (listed (Some (head + 28 * points)) out')
       (listed_bytes column_text out out' (head + 28 * points) (omega arith) (omega arith) stored) column_report
 
 -- ---- a refusal's two lines
@@ -262,11 +262,11 @@ module _ (n : ℕ) (a : Answer) (line d e : ℕ) (out : List ℕ) (same : n ≡ 
   refusal_needs : 14 + d + e ≡ length (refusal_of a line)
   refusal_needs = omega (arith, refusal_length a line, hd ∙ ap (λ (m : ℕ). length (decimal_of m)) same, he)
 
-  pub refusal_short : length out < 14 + d + e → listed Short out ≡ listed_as (refusal_of a line) out
+  pub refusal_short : length out < 14 + d + e → listed None out ≡ listed_as (refusal_of a line) out
   refusal_short h = listed_short (refusal_of a line) out (omega (arith, h, refusal_needs))
 
   pub refusal_bytes : (b out' : List ℕ) (n1 n2 : ℕ) → 14 + d + e ≤ length out → WrittenAs (line_of (bytes "answer") (decimal_of n)) out 0 b n1
-      → WrittenAs (line_of (bytes "line") (decimal_of line)) b n1 out' n2 → listed (Bytes (14 + d + e)) out' ≡ listed_as (refusal_of a line) out
+      → WrittenAs (line_of (bytes "line") (decimal_of line)) b n1 out' n2 → listed (Some (14 + d + e)) out' ≡ listed_as (refusal_of a line) out
   unfolding refusal_of
   refusal_bytes b out' n1 n2 h w v =
       let second = line_of (bytes "line") (decimal_of line) in

@@ -43,7 +43,7 @@ pub data Drawn : Type 0 where
 
 -- as the code has it, with the state of its store and what the columns hold
 abbrev pub drawn_as : Result Unit Refused → StoreState → Columns → Drawn
-drawn_as (Ok done) state c = ready state c
+drawn_as (Ok _) state c = ready state c
 drawn_as (Err r) state c = refused (Err r.refusal) r.line
 
 -- the final build, refused on line 0

@@ -94,7 +94,7 @@ pub data Progress : Type 0 where
 
 -- a reading as the code ends it, with the state of its store and what the columns hold
 abbrev pub progress_of : Result Unit Refused → StoreState → Columns → Progress
-progress_of (Ok done) state c = finished (outcome Done state c)
+progress_of (Ok _) state c = finished (outcome Done state c)
 progress_of (Err r) state c = stopped (Err r.refusal) r.line
 
 -- "`line` is for 1 to 4 the refused command's op line"

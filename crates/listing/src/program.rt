@@ -113,7 +113,10 @@ pub fn listing(input: &[u8], output: &mut [u8]) -> Option<usize>
         end: &mut end,
     };
     match told(Setting::Screen, input, &mut outputs) {
-        Ok(points) => writing::report(output, points, &x, &y, &end),
+        Ok(points) => {
+            let Outputs { x, y, end, .. } = outputs;
+            writing::report(output, points, x, y, end)
+        }
         Err(refused) => writing::refuse(output, refused),
     }
 }

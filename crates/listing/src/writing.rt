@@ -4,13 +4,10 @@ ghost use Rattle.std.specs.Prelude.{◌≡◌, [], ◌+◌, ◌*◌, ◌≤◌, 
 ghost use Rattle.std.proofs.lemmas.List.Edits.{sets};
 ghost use Rattle.answer.specs.Answer.{Done};
 ghost use Rattle.columns.specs.Flags.{is_flag_of};
-ghost use Rattle.leaves.specs.Bits.{bits_of};
 ghost use Rattle.point.specs.Point.{point_at};
 ghost use Rattle.evaluate.specs.Evaluate.{finished};
-ghost use Rattle.text.specs.Hex.{hex_of};
-ghost use Rattle.text.specs.Decimal.{decimal_of};
 ghost use Rattle.text.specs.Written.{WrittenAs};
-ghost use Rattle.listing.specs.Writing.{line_of, point_lines, all_point_lines, report_of, refusal_of, head_of, column_points, listed, listed_as};
+ghost use Rattle.listing.specs.Writing.{line_of, value_of, point_lines, all_point_lines, report_of, refusal_of, head_of, column_points, listed, listed_as};
 
 use crate::Refused;
 use answer::Answer;
@@ -22,6 +19,21 @@ enum Value {
     Bits(f32),
 }
 
+impl Value {
+    // Writes it, and gives its count of bytes.
+    fn put(self, buffer: &mut [u8], at: usize) -> usize
+        ensures { (result ≡ length (value_of self)) × (buffer.new ≡ sets buffer.old at (value_of self)) }
+    {
+        match self {
+            Value::Decimal(n) => text::put_decimal(buffer, at, n),
+            Value::Bits(v) => {
+                text::put_hex(buffer, at, leaves::bits(v));
+                8
+            }
+        }
+    }
+}
+
 // Writes a line, and gives the place after it.
 fn put_line(buffer: &mut [u8], at: usize, key: &[u8], value: Value) -> usize
     requires { at + length (line_of key.now (value_of value)) ≤ length buffer.old }
@@ -31,13 +43,7 @@ fn put_line(buffer: &mut [u8], at: usize, key: &[u8], value: Value) -> usize
     let equals = at + key.len();
     text::put_bytes(buffer, equals, b"=");
     let start = equals + 1;
-    let width = match value {
-        Value::Decimal(n) => text::put_decimal(buffer, start, n),
-        Value::Bits(v) => {
-            text::put_hex(buffer, start, leaves::bits(v));
-            8
-        }
-    };
+    let width = value.put(buffer, start);
     let end = start + width;
     text::put_bytes(buffer, end, b"\n");
     end + 1

@@ -6,7 +6,7 @@ use Prim.Native.Nat.{ℕ, ◌+◌}
 use native.Mathlib.Omega.{arith}
 use Rattle.text.specs.Bytes.{stands_at}
 use Rattle.text.proofs.Standing.{stands_inside}
-use Rattle.std.specs.Prelude.{Some}
+use Rattle.std.specs.Prelude.{Some, None}
 use Rattle.listing.proofs.FieldLaws.{no_key, no_equals, no_number, no_end, all_there}
 use Rattle.listing.proofs.fields.field_at.Goals as goal
 
@@ -34,8 +34,9 @@ overflow_add-digits-2 c =
       stands_inside _ _ (0x3d ∷ []) (omega arith) (sym c.byte_stands_at.ensures ∙ c.if-not-byte_stands_at.false),
     )
 
-pub returns-in_default : goal.returns-in_default
-returns-in_default c = no_number _ _ _ (sym c.hex_at-number.ensures ∙ c.in_default.is)
+pub returns-in_err-bits : goal.returns-in_err-bits
+returns-in_err-bits c =
+    let gone : c.from_residual.result ≡ None = grind arith in gone ∙ no_number _ _ _ (sym c.hex_at.ensures ∙ c.in_err-bits.was)
 
 pub returns-then-not-byte_stands_at-2 : goal.returns-then-not-byte_stands_at-2
 returns-then-not-byte_stands_at-2 c = no_end _ _ _ (line_end _ _ _ false (sym c.byte_stands_at-2.ensures ∙ c.if-not-byte_stands_at-2.true))
@@ -45,5 +46,5 @@ returns c =
     ap Some c.from_bits.ensures
     ∙ all_there _ _ _ _ (sym c.stands_at.ensures ∙ c.if-not-stands_at.false)
     (sym c.byte_stands_at.ensures ∙ c.if-not-byte_stands_at.false)
-    (sym c.hex_at-number.ensures ∙ c.in-Some.is)
+    (sym c.hex_at.ensures ∙ c.in_ok-bits.was)
     (line_end _ _ _ true (sym c.byte_stands_at-2.ensures ∙ c.if-not-byte_stands_at-2.false))

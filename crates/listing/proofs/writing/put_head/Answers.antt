@@ -7,8 +7,8 @@ use Rattle.listing.proofs.WritingLaws.{head_length_is, line-length}
 use Rattle.text.proofs.Written.{written_then}
 use Rattle.listing.proofs.writing.put_head.Goals as goal
 
-pub decimal_line-second-requires : goal.decimal_line-second-requires
-decimal_line-second-requires c =
+pub put_line-second-requires : goal.put_line-second-requires
+put_line-second-requires c =
     omega (
       arith,
       head_length_is c.args.number c.args.line c.args.points,
@@ -18,8 +18,8 @@ decimal_line-second-requires c =
       c.requires,
     )
 
-pub decimal_line-third-requires : goal.decimal_line-third-requires
-decimal_line-third-requires c =
+pub put_line-third-requires : goal.put_line-third-requires
+put_line-third-requires c =
     omega (
       arith,
       head_length_is c.args.number c.args.line c.args.points,
@@ -27,12 +27,12 @@ decimal_line-third-requires c =
       line-length (bytes "line") (decimal_of c.args.line),
       line-length (bytes "points") (decimal_of c.args.points),
       c.requires,
-      c.decimal_line-second.ensures.next,
-      c.decimal_line-second.auto.buffer,
+      c.put_line-second.ensures.next,
+      c.put_line-second.auto.buffer,
     )
 
-pub decimal_line-requires : goal.decimal_line-requires
-decimal_line-requires c =
+pub put_line-requires : goal.put_line-requires
+put_line-requires c =
     omega (
       arith,
       head_length_is c.args.number c.args.line c.args.points,
@@ -40,12 +40,12 @@ decimal_line-requires c =
       line-length (bytes "line") (decimal_of c.args.line),
       line-length (bytes "points") (decimal_of c.args.points),
       c.requires,
-      c.decimal_line-second.ensures.next,
-      c.decimal_line-second.auto.buffer,
-      c.decimal_line-third.ensures.next,
-      c.decimal_line-third.auto.buffer,
+      c.put_line-second.ensures.next,
+      c.put_line-second.auto.buffer,
+      c.put_line-third.ensures.next,
+      c.put_line-third.auto.buffer,
     )
 
 pub returns : goal.returns
 unfolding head_of
-returns c = written_then _ _ _ _ _ _ _ _ c.decimal_line-second.ensures (written_then _ _ _ _ _ _ _ _ c.decimal_line-third.ensures c.decimal_line.ensures)
+returns c = written_then _ _ _ _ _ _ _ _ c.put_line-second.ensures (written_then _ _ _ _ _ _ _ _ c.put_line-third.ensures c.put_line.ensures)

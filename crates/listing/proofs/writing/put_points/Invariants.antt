@@ -12,6 +12,3 @@ invariant-loop-i l =
     × (l.next ≡ l.at + 28 * l.i)
     × (length l.buffer ≡ length l.initial.buffer)
     × (sets l.initial.buffer l.at (all_point_lines (column_points 0 l.points l.x l.y l.end)) ≡ sets l.buffer l.next (all_point_lines (column_points l.i (l.points - l.i) l.x l.y l.end)))
-
-abbrev pub decreases-loop-i : goal.decreases-loop-i
-decreases-loop-i l = l.points - l.i
