@@ -9,7 +9,7 @@ use native.Mathlib.Omega.{arith}
 use borrow.Author.Tests.{leb-true}
 use lib.Dec.{leb}
 use lib.Ieee.{Float, nan}
-use lib.ListN.{length, drop, get_or, length-map}
+use lib.ListN.{length, drop, get_or, length-append, length-map}
 use lib.Seq.{drop-drop, get_or-drop}
 use Rattle.columns.proofs.Flags.{flag_back}
 use Rattle.columns.specs.Flags.{flag_byte_of, is_flag_of}
@@ -136,6 +136,36 @@ module _ (setting : Setting) (f : Flattening) (o : Output) (d : Delivered settin
       ∙ ap (λ (u : Output). column_points 0 (length delivered) u.x u.y u.end) d.written
       ∙ points_from delivered 0 w.x w.y w.end (drop (length (map (λ p. p.point.x) delivered)) o.x)
       (drop (length (map (λ p. p.point.y) delivered)) o.y) (drop (length (map (λ p. flag_byte_of p.end) delivered)) o.end) refl refl refl
+
+  -- the columns hold all points
+  pub delivered_room : (f.result.points ≤ length f.output.x) × (f.result.points ≤ length f.output.y) × (f.result.points ≤ length f.output.end)
+  unfolding write_output over
+  delivered_room =
+      let xs = map (λ (p : Finished). p.point.x) delivered in
+      let ys = map (λ (p : Finished). p.point.y) delivered in
+      let ends = map (λ (p : Finished). flag_byte_of p.end) delivered in (
+        omega (
+          arith,
+          delivered_count,
+          ap (λ (u : Output). length u.x) d.written,
+          length-append xs (drop (length xs) o.x),
+          length-map delivered (λ (p : Finished). p.point.x),
+        ),
+        omega (
+          arith,
+          delivered_count,
+          ap (λ (u : Output). length u.y) d.written,
+          length-append ys (drop (length ys) o.y),
+          length-map delivered (λ (p : Finished). p.point.y),
+        ),
+        omega (
+          arith,
+          delivered_count,
+          ap (λ (u : Output). length u.end) d.written,
+          length-append ends (drop (length ends) o.end),
+          length-map delivered (λ (p : Finished). flag_byte_of p.end),
+        ),
+      )
 
   pub delivered_fit : f.result.points ≤ length o.words
   unfolding fits_output

@@ -20,7 +20,7 @@ use Rattle.listing.specs.Writing.{column_points}
 use Rattle.listing.specs.Program.{program_columns, program_quads, program_splines, program_output, Drawn, refused, ready, built, built_from, after_reading, drawn_in, drawn_of, Said, flat_report, flat_of, said_from, said_of}
 use Rattle.listing.specs.Told.{Telling, account_of, telling, flat_telling, told_from, told_of}
 use Rattle.listing.proofs.StepLaws.{StopsRefused, read_refused}
-use Rattle.listing.proofs.FlatLaws.{flatten_done, flatten_undone, delivered_count, delivered_points, delivered_fit}
+use Rattle.listing.proofs.FlatLaws.{flatten_done, flatten_undone, delivered_count, delivered_points, delivered_room, delivered_fit}
 
 -- ---- no drawing is refused with 0
 abbrev Refuses : Drawn → Type 0
@@ -54,6 +54,8 @@ pub record ToldSaid (t : Telling) (s : Said) : Type 0 where
   pub points : t.result.points ≡ length s.points
   pub back : column_points 0 t.result.points t.output.x t.output.y t.output.end ≡ s.points
   pub few : length s.points ≤ 512
+  -- each column holds them all
+  pub room : (t.result.points ≤ length t.output.x) × (t.result.points ≤ length t.output.y) × (t.result.points ≤ length t.output.end)
   -- a refusal has no point, and what is done has no line
   pub no_points : is_done s.answer ≡ false → s.points ≡ []
   pub no_line : is_done s.answer ≡ true → s.line ≡ 0
@@ -68,6 +70,7 @@ refused_said setting a line h =
       points = refl;
       back = refl;
       few = omega arith;
+      room = (omega arith, omega arith, omega arith);
       no_points = λ e. refl;
       no_line = λ e. absurd (true≢false (sym e ∙ h));
     }
@@ -89,6 +92,7 @@ module _ (setting : Setting) (st : StoreState) (c : Columns) where
         line = refl;
         points = sym (delivered_count setting flattened program_output d);
         back = delivered_points setting flattened program_output d;
+        room = delivered_room setting flattened program_output d;
         few = few_words _ _ (delivered_count setting flattened program_output d) (delivered_fit setting flattened program_output d);
         no_points = λ e. absurd (true≢false e);
         no_line = λ e. refl;
@@ -101,6 +105,7 @@ module _ (setting : Setting) (st : StoreState) (c : Columns) where
         points = z;
         back = ap (λ (n : ℕ). column_points 0 n flattened.output.x flattened.output.y flattened.output.end) z;
         few = omega arith;
+        room = (omega arith, omega arith, omega arith);
         no_points = λ e. refl;
         no_line = λ e. refl;
       }

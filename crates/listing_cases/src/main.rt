@@ -4,7 +4,6 @@
 
 ghost use Rattle.std.specs.Prelude.{◌≤◌};
 
-use listing::Listed;
 use std::io;
 use std::io::Read;
 
@@ -22,13 +21,13 @@ fn number(head: &[u8; 7], most: usize) -> usize
 
 fn run(rt: &impl Print, input: &[u8], output: &mut [u8]) -> io::Result<()> {
     match listing::listing(input, output) {
-        Listed::Bytes(m) => {
+        Some(m) => {
             if m <= output.len() {
                 rt.write_all(&output[..m])?;
             }
             Ok(())
         }
-        Listed::Short => println!(rt; "short"),
+        None => println!(rt; "short"),
     }
 }
 

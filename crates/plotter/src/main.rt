@@ -2,9 +2,7 @@
 // argument names the setting; without any it is the knife's.
 #![tactic(auto)]
 
-use answer::Answer;
-use listing::Listed;
-use plotting::Choice;
+use listing::{LONGEST, Refused};
 use point::Setting;
 use std::env::{Env, FillError};
 use std::io;
@@ -14,29 +12,25 @@ fn is_missing(env: &impl Env, i: usize) -> bool {
     matches!(env.arg(i, &mut []), Err(FillError::NotPresent))
 }
 
-fn asked(env: &impl Env) -> Choice {
+fn asked(env: &impl Env) -> Option<Setting> {
     if is_missing(env, 1) {
-        return Choice::Named(Setting::Knife);
+        return Some(Setting::Knife);
     }
     if !is_missing(env, 2) {
-        return Choice::Unknown;
+        return None;
     }
     let mut flag = [0u8; 8];
-    match env.arg(1, &mut flag) {
-        Ok(n) => plotting::chosen(&flag[..n]),
-        // It is longer than each flag.
-        Err(_) => Choice::Unknown,
-    }
+    // What is not read is longer than each flag.
+    let n = env.arg(1, &mut flag).ok()?;
+    plotting::chosen(&flag[..n])
 }
 
 // The two lines of a refusal.
-fn refuse(said: &impl Print, answer: Answer, line: usize) -> io::Result<()> {
+fn refuse(said: &impl Print, refused: Refused) -> io::Result<()> {
     let mut lines = [0u8; 36];
-    match listing::refusal(&mut lines, answer, line) {
-        Listed::Bytes(m) => said.write_all(&lines[..m]),
-        // This never happens: the proof of this call shows that the two lines fit.
-        Listed::Short => unreachable!(),
-    }
+    // The proof of this call shows that the two lines fit.
+    let m = listing::refusal(&mut lines, Err(refused.refusal), refused.line).unwrap();
+    said.write_all(&lines[..m])
 }
 
 fn plot_input(
@@ -46,24 +40,19 @@ fn plot_input(
     setting: Setting,
 ) -> io::Result<()> {
     // One byte more than a listing may have, so that a longer input is noticed.
-    let mut input = [0u8; 16385];
+    let mut input = [0u8; LONGEST + 1];
     // As many bytes as the longest text has.
     let mut text = [0u8; 8707];
     let n = input::read_full(source, &mut input)?;
-    let plotted = plotting::plot_listing(setting, &input[..n], &mut text);
-    let answer = plotted.answer;
-    if !answer::is_done(answer) {
-        return refuse(said, answer, plotted.line);
+    match plotting::plot_listing(setting, &input[..n], &mut text) {
+        Ok(m) => plot.write_all(&text[..m]),
+        Err(refused) => refuse(said, refused),
     }
-    let m = plotted.written;
-    plot.write_all(&text[..m])
 }
 
 fn main(rt: HostRuntime) -> io::Result<()> {
     match asked(&rt) {
-        Choice::Named(setting) => {
-            plot_input(&mut rt.stdin(), &rt.stdout(), &rt.stderr(), setting)
-        }
-        Choice::Unknown => eprintln!(rt; "usage: plotter [--knife | --screen]"),
+        Some(setting) => plot_input(&mut rt.stdin(), &rt.stdout(), &rt.stderr(), setting),
+        None => eprintln!(rt; "usage: plotter [--knife | --screen]"),
     }
 }

@@ -39,9 +39,7 @@ use Rattle.tables.specs.Run.{World, world, apply_of, push_of, run_of, start_stat
 use Rattle.tables.specs.Commands.{primitives_of, tables_of}
 use Rattle.walk.specs.Walk.{Item, walk_of}
 use Rattle.flatten.specs.Flatten.{Flattening, Output, fits_output, walked, tabled, flatten_drawable, flatten_of}
-use Rattle.listing.specs.declared.Command.{Command}
-use Rattle.listing.specs.declared.Command.TheVariants.{Drawing, Fault, Finish}
-use Rattle.listing.specs.Reading.{Progress, going, finished, stopped, command_at, after_call, after_command, step_of, steps_of, read_of}
+use Rattle.listing.specs.Reading.{Command, Drawing, Fault, Finish, Progress, going, finished, stopped, command_at, after_call, after_command, step_of, steps_of, read_of}
 use Rattle.listing.specs.Program.{program_columns, program_quads, program_splines, program_output, Drawn, refused, ready, built, built_from, after_reading, drawn_in, drawn_of, flat_report, flat_of, said_from, said_of}
 
 abbrev pub Low : Answer → Type 0

@@ -18,8 +18,7 @@ use Rattle.listing.specs.Writing.{column_points}
 use Rattle.listing.specs.Program.{Said, program_output, said_of}
 use Rattle.listing.specs.Told.{Telling, told_of}
 use Rattle.listing.proofs.ToldLaws.{ToldSaid, told_said}
-use Rattle.plotting.specs.declared.PlotAccount.{PlotAccount}
-use Rattle.plotting.specs.PlotListing.{vertex_of, vertices_of, Plotting, plotting, plot_account, plot_said, plot_listing_of}
+use Rattle.plotting.specs.PlotListing.{vertex_of, vertices_of, PlotAccount, Plotting, plotting, plot_account, plot_said, plot_listing_of}
 
 -- ---- the first n entries of the columns
 first_point : (n : ℕ) (l m l' m' : List Float) (k k' : List ℕ) (a b : Float) (c : ℕ) → l ≡ a ∷ l' → m ≡ b ∷ m' → k ≡ c ∷ k'
@@ -54,19 +53,12 @@ module _ (x y : List Float) (end : List ℕ) where
   first_points n hx hy he = points_at 0 n (omega arith) (omega arith) (omega arith)
 
 -- ---- what is told, as it is plotted
--- a part from 0 on, as the code has it
-from_zero : (n : ℕ) → n - 0 ≡ n
-from_zero n = omega arith
-
 module _ (setting : Setting) (text : List ℕ) (t : Telling) (e : t ≡ told_of setting text program_output) where
   abbrev said : Said
   said = said_of setting text
 
   as_said : ToldSaid t said
   as_said = subst (λ (u : Telling). ToldSaid u said) (sym e) (told_said setting text)
-
-  pub told_few : t.result.points ≤ 512
-  told_few = omega (arith, as_said.points, as_said.few)
 
   done_said : (b : Bool) → is_done t.result.answer ≡ b → is_done said.answer ≡ b
   done_said b h = sym (ap is_done as_said.answer) ∙ h
@@ -84,13 +76,15 @@ module _ (setting : Setting) (text : List ℕ) (t : Telling) (e : t ≡ told_of 
   abbrev given : ℕ → List (Vertex Float)
   given m = finished_of (take m t.output.x) (take m t.output.y) (take m t.output.end)
 
+  pub told_room : (n ≤ length t.output.x) × (n ≤ length t.output.y) × (n ≤ length t.output.end)
+  told_room = as_said.room
+
   pub plot_done : (buffer after : List ℕ) (p : Plotted) → is_done t.result.answer ≡ true
-      → n ≤ length t.output.x → n ≤ length t.output.y → n ≤ length t.output.end
-      → plot p after ≡ plot_of (given (n - 0)) buffer → plotting (plot_account p.answer 0 p.written) after ≡ plot_listing_of setting text buffer
+      → plot p after ≡ plot_of (given n) buffer → plotting (plot_account p.answer 0 p.written) after ≡ plot_listing_of setting text buffer
   unfolding plot_listing_of plot_said
-  plot_done buffer after p h hx hy he q =
+  plot_done buffer after p h q =
       ap (λ (r : Plot). plotting (plot_account r.result.answer 0 r.result.written) r.text)
-      (q ∙ ap (λ (l : List (Vertex Float)). plot_of l buffer) (ap given (from_zero n) ∙ first_points t.output.x t.output.y t.output.end n hx hy he ∙ ap vertices_of as_said.back))
+      (q ∙ ap (λ (l : List (Vertex Float)). plot_of l buffer) (first_points t.output.x t.output.y t.output.end n told_room.0 told_room.1 told_room.2 ∙ ap vertices_of as_said.back))
       ∙ sym (ap (λ (b : Bool). plot_said b said buffer) (done_said true h))
 
 -- ---- no more is written than the buffer has

@@ -1,13 +1,13 @@
 -- RULES, The plotter: a listing to HP-GL. What the program says of a text is plotted; a refusal writes nothing. Assumes nothing.
-use Rattle.std.specs.Prelude.{ℕ, Bool, true, false, List, map, Float}
-use Rattle.answer.specs.Answer.{Answer}
+use Rattle.std.specs.Prelude.{ℕ, Bool, true, false, List, map, Float, Result, Ok, Err}
+use Rattle.answer.specs.Answer.{Answer, Done}
 use Rattle.answer.specs.Number.{is_done}
 use Rattle.point.specs.declared.Setting.{Setting}
 use Rattle.evaluate.specs.Evaluate.{Finished}
 use Rattle.contours.specs.Finished.{position, Vertex, vertex}
 use Rattle.plot.specs.Plot.{plot_of}
 use Rattle.listing.specs.Program.{Said, said_of}
-use Rattle.plotting.specs.declared.PlotAccount.{PlotAccount}
+use Rattle.listing.specs.declared.Refused.{Refused}
 
 -- a finished point of the program, as the plot takes it
 abbrev pub vertex_of : Finished → Vertex Float
@@ -15,6 +15,12 @@ vertex_of p = vertex (position p.point.x p.point.y) p.end
 
 unfoldable pub vertices_of : List Finished → List (Vertex Float)
 vertices_of points = map vertex_of points
+
+-- the answer, its line, and the count of bytes written
+pub record PlotAccount : Type 0 where
+  pub answer : Answer
+  pub line : ℕ
+  pub written : ℕ
 
 -- what the caller gets: the answer, its line, the count of bytes written, and the buffer after the call
 pub record Plotting : Type 0 where
@@ -26,6 +32,11 @@ plotting result text = record { result = result; text = text }
 
 abbrev pub plot_account : Answer → ℕ → ℕ → PlotAccount
 plot_account answer line written = record { answer = answer; line = line; written = written }
+
+-- as the code gives it
+abbrev pub account_of : Result ℕ Refused → PlotAccount
+account_of (Ok written) = plot_account Done 0 written
+account_of (Err r) = plot_account (Err r.refusal) r.line 0
 
 -- 12 and 13 are on no line
 unfoldable pub plot_said : Bool → Said → List ℕ → Plotting

@@ -4,7 +4,7 @@ use Rattle.plotting.proofs.PlotLaws.{written_fits}
 use Rattle.plotter.proofs.plot_input.Goals as goal
 
 pub slice_bounds-text-end : goal.slice_bounds-text-end
-slice_bounds-text-end g c = omega (arith, c.plot_listing-plotted.auto.text, written_fits _ _ _ _ _ c.plot_listing-plotted.ensures)
+slice_bounds-text-end g c = omega (arith, c.plot_listing.auto.text, written_fits _ _ _ _ _ c.in-Ok.ensures)
 
 pub slice_bounds-write_all-end : goal.slice_bounds-write_all-end
-slice_bounds-write_all-end g c = sym (length-take-le _ _ (omega (arith, c.plot_listing-plotted.auto.text, written_fits _ _ _ _ _ c.plot_listing-plotted.ensures)))
+slice_bounds-write_all-end g c = sym (length-take-le _ _ (omega (arith, c.plot_listing.auto.text, written_fits _ _ _ _ _ c.in-Ok.ensures)))
