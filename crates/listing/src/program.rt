@@ -51,11 +51,11 @@ fn flat(
     let mut contour = [0u8; 256];
     let mut first_quad = [0usize; 256];
     let mut quad_count = [0u32; 256];
-    let quads = QuadColumnsMut {
+    let mut quads = QuadColumnsMut {
         quad_rows: &mut quad_rows,
         partial_splines: &mut partial_splines,
     };
-    let splines = SplineColumnsMut {
+    let mut splines = SplineColumnsMut {
         curvature: &mut curvature,
         p0x: &mut p0x,
         p0y: &mut p0y,
@@ -65,7 +65,10 @@ fn flat(
         first_quad: &mut first_quad,
         quad_count: &mut quad_count,
     };
-    let mut tables = Tables { quads, splines };
+    let mut tables = Tables {
+        quads: &mut quads,
+        splines: &mut splines,
+    };
     let flattened = flatten::flatten(setting, drawing, &mut tables, outputs)?;
     Ok(flattened.points)
 }
@@ -88,11 +91,7 @@ pub fn told(
         y: &mut y,
         weight: &mut weight,
         commands: &mut commands,
-        state: StoreState {
-            points: 0,
-            commands: 0,
-            opening: 0,
-        },
+        state: StoreState::default(),
     };
     draw(input, &mut store)?;
     flat(setting, &store.drawing(), outputs)

@@ -19,7 +19,8 @@ use Rattle.text.proofs.Shapes.{newlines-append}
 use Rattle.listing.specs.Grammar.{op_line_of, keys_of}
 use Rattle.listing.specs.Printing.{TextCommand, field_lines, command_lines, printed, ProperCommand, Proper, none, more, Good, call_in, calls_in}
 use Rattle.listing.specs.Reading.{Progress, going, finished, stopped, after_call, after_command, step_of, steps_of, read_of}
-use Rattle.listing.proofs.StepLaws.{step_finish, step_fault, op_length, steps_finished, steps_stopped}
+use Rattle.listing.proofs.StepLaws.{step_finish, step_fault, steps_finished, steps_stopped}
+use Rattle.listing.proofs.CommandLaws.{op_length}
 use Rattle.listing.proofs.PrintingLaws.{command_finish, command_reads, Stands, nothing, whole, broken, stands}
 use Rattle.promises.specs.ListingAnswers.{drawn, AllDone, no_call, then, draw_all, GoodReads}
 

@@ -7,9 +7,8 @@ use mathlib.Core.List.{List, ◌++◌}
 use native.Mathlib.Nat.{zero-add, le_of_eq, le_trans}
 use lib.Dec.{leb, le→leb}
 use lib.Arith.{lt→nleb}
-use lib.Ieee.{nan}
 use lib.Ieee.Bits.{is_true, is_false}
-use lib.ListN.{length, get_or, drop}
+use lib.ListN.{length, drop}
 use lib.Seq.{sets, sets-eq}
 use Rattle.std.specs.Prelude.{Option, None, Some, Result, Ok, Err}
 use Rattle.answer.specs.declared.Refusal.{Refusal}
@@ -30,24 +29,20 @@ use Rattle.flatten.specs.Answer.{answered}
 use Rattle.flatten.specs.Flatten.{Flattened, Output}
 use Rattle.units.specs.Columns.{wholes_of}
 use Rattle.plot.specs.Plot.{plotted_of}
+use Rattle.store.specs.declared.Call.{Call}
+use Rattle.store.specs.declared.StoreState.{StoreState}
 use Rattle.store.specs.Columns.{Columns}
-use Rattle.point.specs.Point.{point_at}
-use Rattle.listing.specs.declared.Pair as Pairs
-use Rattle.listing.specs.declared.Pair.TheVariants as Pair
-use Rattle.listing.specs.declared.TwoPoints.{TwoPoints}
-use Rattle.listing.specs.declared.TwoPoints.TheVariants as Two
-use Rattle.listing.specs.declared.ThreePoints.{ThreePoints}
-use Rattle.listing.specs.declared.ThreePoints.TheVariants as Three
-use Rattle.listing.specs.declared.Progress as Progresses
-use Rattle.listing.specs.declared.Progress.TheVariants as Progressing
-use Rattle.listing.specs.declared.Listed.{Listed}
-use Rattle.listing.specs.declared.Listed.TheVariants.{Bytes, Short}
-use Rattle.listing.specs.Reading.{Fields, read, wrong, pair_fields, two_points_fields, three_points_fields, Progress, going, finished, stopped, progress_of}
+use Rattle.listing.specs.declared.BadLine.{BadLine}
+use Rattle.listing.specs.declared.Place.{Place}
+use Rattle.listing.specs.declared.Refused as stopping
+use Rattle.listing.specs.Reading.{Command, Drawing, Fault, Finish, call_as, command_as, Progress, going, finished, stopped, progress_of}
 use Rattle.listing.specs.Writing.{Listing, listed, listed_as}
 use Rattle.listing.specs.Program.{listing_of}
+use Rattle.listing.specs.Told.{account_as}
+use Rattle.plotting.specs.PlotListing.{account_of}
 use Rattle.promises.specs.Settled.{Settles, ValueSettled, ResultAndKeptSettled, ColumnsSettled, QuadsSettled, SplinesSettled, OutputSettled, PlotReplySettled, WholeReplySettled, RoundingSettled, PlotSettled, PlottingSettled}
 use Rattle.promises.specs.Settled.{DrawnSettled, TablesSettled, RanSettled, FilledSettled, PlannedSettled, DeliveredSettled, DeliversSettled, AnsweredSettled, FlattenSettled, ReplySettled, FlatReplySettled}
-use Rattle.promises.specs.Settled.{TellingSettled, ListingSettled, Lists, ListingLists, PairSettled, TwoPointsSettled, ThreePointsSettled, HasStopped}
+use Rattle.promises.specs.Settled.{TellingSettled, ListingSettled, Lists, ListingLists, NoCall, at_fault, at_end, CallSettled, CommandSettled, HasStopped}
 use Rattle.promises.specs.Settled.{has_stopped, ReadSettled}
 
 -- a form settles an outcome if the outcome's parts can be found again in what the form puts together
@@ -207,29 +202,46 @@ rounding_settled =
 pub plot_settled : PlotSettled
 plot_settled = told _ (λ p. (counted p.result.answer p.result.written, p.text)) (λ a. ap (λ (r : Result ℕ Refusal). (r, a.1)) (plot_back a.0))
 
+-- and in its answer, its line and its count
+unfoldable blamed : Answer → ℕ → ℕ → Result ℕ stopping.Refused
+blamed (Ok done) line n = Ok n
+blamed (Err r) line n = Err (record { refusal = r; line = line })
+
+plotting_back : (r : Result ℕ stopping.Refused) → blamed (account_of r).answer (account_of r).line (account_of r).written ≡ r
+unfolding blamed
+plotting_back (Ok n) = refl
+plotting_back (Err r) = refl
+
+told_back : (r : Result ℕ stopping.Refused) → blamed (account_as r).answer (account_as r).line (account_as r).points ≡ r
+unfolding blamed
+told_back (Ok n) = refl
+told_back (Err r) = refl
+
 pub plotting_settled : PlottingSettled
-plotting_settled = told _ (λ p. (p.result, p.text)) (λ a. refl)
+plotting_settled =
+    told _ (λ p. (blamed p.result.answer p.result.line p.result.written, p.text)) (λ a. ap (λ (r : Result ℕ stopping.Refused). (r, a.1)) (plotting_back a.0))
 
 -- ---- the program's front half, and its listing
 pub telling_settled : TellingSettled
-telling_settled = told _ (λ t. (t.result, t.output)) (λ a. refl)
+telling_settled =
+    told _ (λ t. (blamed t.result.answer t.result.line t.result.points, t.output)) (λ a. ap (λ (r : Result ℕ stopping.Refused). (r, a.1)) (told_back a.0))
 
 pub listing_settled : ListingSettled
 listing_settled = told _ (λ l. (l.result, l.output)) (λ a. refl)
 
-lists : (text given left : List ℕ) (r : Listed) → listed r left ≡ listed_as text given → Lists text given r left
+lists : (text given left : List ℕ) (r : Option ℕ) → listed r left ≡ listed_as text given → Lists text given r left
 unfolding listed_as
 lists text given left r h =
     record {
-      short = λ l. parts Short given (h ∙ ap chosen (is_false (leb (length text) (length given)) (lt→nleb (length text) (length given) l)));
-      fits = λ l. parts (Bytes (length text)) (text ++ drop (length text) given)
-          (h ∙ ap chosen (is_true (leb (length text) (length given)) (le→leb (length text) (length given) l)) ∙ ap (listed (Bytes (length text))) (written l));
+      short = λ l. parts None given (h ∙ ap chosen (is_false (leb (length text) (length given)) (lt→nleb (length text) (length given) l)));
+      fits = λ l. parts (Some (length text)) (text ++ drop (length text) given)
+          (h ∙ ap chosen (is_true (leb (length text) (length given)) (le→leb (length text) (length given) l)) ∙ ap (listed (Some (length text))) (written l));
     }
   where
     chosen : Bool → Listing
-    chosen b = cond b (listed (Bytes (length text)) (sets given 0 text)) (listed Short given)
+    chosen b = cond b (listed (Some (length text)) (sets given 0 text)) (listed None given)
 
-    parts : (r' : Listed) (left' : List ℕ) → listed r left ≡ listed r' left' → (r ≡ r') × (left ≡ left')
+    parts : (r' : Option ℕ) (left' : List ℕ) → listed r left ≡ listed r' left' → (r ≡ r') × (left ≡ left')
     parts r' left' e = (ap (λ (l : Listing). l.result) e, ap (λ (l : Listing). l.output) e)
 
     written : length text ≤ length given → sets given 0 text ≡ text ++ drop (length text) given
@@ -239,73 +251,98 @@ lists text given left r h =
 pub listing_lists : ListingLists
 listing_lists input given left r = lists (listing_of input) given left r
 
--- ---- the fields, back from the values that were read
-pair_back : Fields → Pairs.Pair
-pair_back (read v at line) = Pair.Read (get_or v 0 nan) (get_or v 1 nan)
-pair_back (wrong line) = Pair.Wrong line
+-- ---- a command, back from what is read of it
+line_back : ℕ → BadLine
+line_back line = record { 0 = line }
 
-two_back : Fields → TwoPoints
-two_back (read v at line) = Two.Read (point_at (get_or v 0 nan) (get_or v 1 nan)) (point_at (get_or v 2 nan) (get_or v 3 nan))
-two_back (wrong line) = Two.Wrong line
+call_back : Command → Result Call BadLine
+call_back (Drawing call at line) = Ok call
+call_back (Fault line) = Err (line_back line)
+call_back Finish = Err (line_back 0)
 
-three_back : Fields → ThreePoints
-three_back (read v at line) = Three.Read (point_at (get_or v 0 nan) (get_or v 1 nan)) (point_at (get_or v 2 nan) (get_or v 3 nan)) (point_at (get_or v 4 nan) (get_or v 5 nan))
-three_back (wrong line) = Three.Wrong line
+call_same : (r : Result Call BadLine) (p : Place) → call_back (call_as r p) ≡ r
+unfolding call_back line_back
+call_same (Ok call) p = refl
+call_same (Err bad) p = refl
 
-pair_same : (r : Pairs.Pair) (end line : ℕ) → pair_back (pair_fields r end line) ≡ r
-unfolding pair_back
-pair_same (Pair.Read u v) end line = refl
-pair_same (Pair.Wrong l) end line = refl
+command_back : Command → Result (Option Call) BadLine
+command_back (Drawing call at line) = Ok (Some call)
+command_back (Fault line) = Err (line_back line)
+command_back Finish = Ok None
 
-two_same : (r : TwoPoints) (end line : ℕ) → two_back (two_points_fields r end line) ≡ r
-unfolding two_back
-two_same (Two.Read p1 p2) end line = refl
-two_same (Two.Wrong l) end line = refl
+command_same : (r : Result (Option Call) BadLine) (p : Place) → command_back (command_as r p) ≡ r
+unfolding command_back line_back
+command_same (Ok (Some call)) p = refl
+command_same (Ok None) p = refl
+command_same (Err bad) p = refl
 
-three_same : (r : ThreePoints) (end line : ℕ) → three_back (three_points_fields r end line) ≡ r
-unfolding three_back
-three_same (Three.Read p1 p2 p3) end line = refl
-three_same (Three.Wrong l) end line = refl
+-- the place after the command; or another place, if there is none
+place_back : Place → Command → Place
+place_back p (Drawing call at line) = record { at = at; line = line }
+place_back p (Fault line) = p
+place_back p Finish = p
 
-pub pair_settled : PairSettled
-pair_settled end line = told _ pair_back (λ r. pair_same r end line)
+-- where each of two outcomes tells its place, and both are the same, the places are
+either_told : {A D : Type 0} (Nothing : D → Type 0) (back : A → D → A) (d e f : D) (p p' : A) → e ≡ d → f ≡ d
+    → Nothing e ⊎ (back p' e ≡ p) → Nothing f ⊎ (back p' f ≡ p') → Nothing d ⊎ (p ≡ p')
+either_told Nothing back d e f p p' h k (inl n) t = inl (subst Nothing h n)
+either_told Nothing back d e f p p' h k (inr q) (inl n) = inl (subst Nothing k n)
+either_told Nothing back d e f p p' h k (inr q) (inr q') = inr (sym q ∙ ap (back p') (h ∙ sym k) ∙ q')
 
-pub two_points_settled : TwoPointsSettled
-two_points_settled end line = told _ two_back (λ r. two_same r end line)
+call_told : (r : Result Call BadLine) (p other : Place) → NoCall (call_as r p) ⊎ (place_back other (call_as r p) ≡ p)
+unfolding place_back
+call_told (Ok call) p other = inr refl
+call_told (Err bad) p other = inl (at_fault bad.0)
 
-pub three_points_settled : ThreePointsSettled
-three_points_settled end line = told _ three_back (λ r. three_same r end line)
+command_told : (r : Result (Option Call) BadLine) (p other : Place) → NoCall (command_as r p) ⊎ (place_back other (command_as r p) ≡ p)
+unfolding place_back
+command_told (Ok (Some call)) p other = inr refl
+command_told (Ok None) p other = inl at_end
+command_told (Err bad) p other = inl (at_fault bad.0)
+
+pub call_settled : CallSettled
+call_settled d r r' p p' h k = (
+  sym (call_same r p) ∙ ap call_back (h ∙ sym k) ∙ call_same r' p',
+  either_told NoCall place_back d (call_as r p) (call_as r' p') p p' h k (call_told r p p') (call_told r' p' p'),
+)
+
+pub command_settled : CommandSettled
+command_settled d r r' p p' h k = (
+  sym (command_same r p) ∙ ap command_back (h ∙ sym k) ∙ command_same r' p',
+  either_told NoCall place_back d (command_as r p) (command_as r' p') p p' h k (command_told r p p') (command_told r' p' p'),
+)
 
 -- ---- the reading
-read_back : Progress → Progresses.Progress
-read_back (going at line o) = Progressing.Going o.state at line
-read_back (finished o) = Progressing.Finished o.state
-read_back (stopped a line) = Progressing.Stopped a line
+read_back : Progress → Result Unit stopping.Refused
+read_back (going at line o) = Ok tt
+read_back (finished o) = Ok tt
+read_back (stopped (Ok done) line) = Ok tt
+read_back (stopped (Err refusal) line) = Err (record { refusal = refusal; line = line })
 
-read_same : (r : Progresses.Progress) (c : Columns) → read_back (progress_of r c) ≡ r
+read_same : (r : Result Unit stopping.Refused) (s : StoreState) (c : Columns) → read_back (progress_of r s c) ≡ r
 unfolding read_back
-read_same (Progressing.Going state at line) c = refl
-read_same (Progressing.Finished state) c = refl
-read_same (Progressing.Stopped a line) c = refl
+read_same (Ok done) s c = refl
+read_same (Err r) s c = refl
 
--- what the columns hold; or other columns, if the result says nothing of them
-columns_back : Columns → Progress → Columns
-columns_back c (going at line o) = o.columns
-columns_back c (finished o) = o.columns
-columns_back c (stopped a line) = c
+-- what the store holds; or another, if the result says nothing of it
+store_back : StoreState × Columns → Progress → StoreState × Columns
+store_back other (going at line o) = (o.state, o.columns)
+store_back other (finished o) = (o.state, o.columns)
+store_back other (stopped a line) = other
 
-columns_told : (r : Progresses.Progress) (c other : Columns) → HasStopped (progress_of r c) ⊎ (columns_back other (progress_of r c) ≡ c)
-unfolding columns_back
-columns_told (Progressing.Going state at line) c other = inr refl
-columns_told (Progressing.Finished state) c other = inr refl
-columns_told (Progressing.Stopped a line) c other = inl (has_stopped a line)
+store_told : (r : Result Unit stopping.Refused) (s : StoreState) (c : Columns) (other : StoreState × Columns)
+    → HasStopped (progress_of r s c) ⊎ (store_back other (progress_of r s c) ≡ (s, c))
+unfolding store_back
+store_told (Ok done) s c other = inr refl
+store_told (Err r) s c other = inl (has_stopped (Err r.refusal) r.line)
+
+apart : {d : Progress} {s s' : StoreState} {c c' : Columns} → HasStopped d ⊎ ◌≡◌ {A = StoreState × Columns} (s, c) (s', c') → HasStopped d ⊎ ((s ≡ s') × (c ≡ c'))
+apart (inl n) = inl n
+apart (inr q) = inr (ap (λ (p : StoreState × Columns). p.0) q, ap (λ (p : StoreState × Columns). p.1) q)
 
 pub read_settled : ReadSettled
-read_settled d r r' c c' h k =
-    let e : progress_of r c ≡ progress_of r' c' = h ∙ sym k in (
-      sym (read_same r c) ∙ ap read_back e ∙ read_same r' c',
-      elim (columns_told r c c) [
-        | inl s ↦ inl (subst HasStopped h s)
-        | inr p ↦ elim (columns_told r' c' c) [ inl s ↦ inl (subst HasStopped k s) | inr q ↦ inr (sym p ∙ ap (columns_back c) e ∙ q) ]
-      ],
-    )
+read_settled d r r' s s' c c' h k = (
+  sym (read_same r s c) ∙ ap read_back (h ∙ sym k) ∙ read_same r' s' c',
+  apart (either_told HasStopped store_back d (progress_of r s c) (progress_of r' s' c') (s, c) (s', c') h k
+  (store_told r s c (s', c')) (store_told r' s' c' (s', c'))),
+)

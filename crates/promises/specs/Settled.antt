@@ -2,7 +2,7 @@
 -- what it was lent, and a definition over what it was given. So for each form that a contract has: two outcomes that satisfy it are the same, part by part. Which public
 -- function has which form is a table of docs/PROMISES.md, held to the sources by tests/settled/run.
 -- All NaNs are one value here; which bytes a NaN then has in an f32 column is not settled, and that is the one exception. Assumes nothing.
-use Rattle.std.specs.Prelude.{ℕ, ◌≤◌, ◌<◌, ◌≡◌, ◌⊎◌, Bool, List, ◌++◌, Result, ℤ, Float, length, drop}
+use Rattle.std.specs.Prelude.{ℕ, ◌≤◌, ◌<◌, ◌≡◌, ◌⊎◌, Bool, List, ◌++◌, Option, None, Some, Result, ℤ, Float, length, drop}
 use Rattle.answer.specs.declared.Refusal.{Refusal}
 use Rattle.answer.specs.declared.Refusal.{Refusal}
 use Rattle.answer.specs.Answer.{Answer}
@@ -10,6 +10,7 @@ use Rattle.primitives.specs.declared.State as stored
 use Rattle.primitives.specs.declared.Edit as planned
 use Rattle.primitives.specs.Edits.{edited_or}
 use Rattle.primitives.specs.Edits.{State}
+use Rattle.store.specs.declared.Call.{Call}
 use Rattle.store.specs.declared.StoreState.{StoreState}
 use Rattle.store.specs.Columns.{Columns, columns, state_at}
 use Rattle.store.specs.Drawing.{outcome}
@@ -21,22 +22,17 @@ use Rattle.tables.specs.Lent.{quads_mut_of, splines_mut_of, world_of, filled_wor
 use Rattle.evaluate.specs.Delivery.{delivery, delivers}
 use Rattle.flatten.specs.Answer.{answered}
 use Rattle.flatten.specs.Flatten.{Flattened, Output, output, flattening}
-use Rattle.listing.specs.declared.Pair as Pairs
-use Rattle.listing.specs.declared.TwoPoints.{TwoPoints}
-use Rattle.listing.specs.declared.ThreePoints.{ThreePoints}
-use Rattle.listing.specs.declared.Progress as Progresses
-use Rattle.listing.specs.declared.Account.{Account}
-use Rattle.listing.specs.declared.Listed.{Listed}
-use Rattle.listing.specs.declared.Listed.TheVariants.{Bytes, Short}
-use Rattle.listing.specs.Reading.{pair_fields, two_points_fields, three_points_fields, Progress, stopped, progress_of}
+use Rattle.listing.specs.declared.BadLine.{BadLine}
+use Rattle.listing.specs.declared.Place.{Place}
+use Rattle.listing.specs.declared.Refused as stopping
+use Rattle.listing.specs.Reading.{Command, Drawing, Fault, Finish, call_as, command_as, Progress, stopped, progress_of}
 use Rattle.listing.specs.Writing.{listed, listed_as}
 use Rattle.listing.specs.Program.{listing_of}
-use Rattle.listing.specs.Told.{telling}
+use Rattle.listing.specs.Told.{account_as, telling}
 use Rattle.abi.specs.Reply.{reply, flat_reply, plot_reply, whole_reply}
 use Rattle.units.specs.Columns.{rounding, wholes_of}
 use Rattle.plot.specs.Plot.{plot, plotted_of}
-use Rattle.plotting.specs.declared.PlotAccount.{PlotAccount}
-use Rattle.plotting.specs.PlotListing.{plotting}
+use Rattle.plotting.specs.PlotListing.{account_of, plotting}
 
 -- a form puts the parts of an outcome together, and a contract of that form says `form parts ≡ d`
 abbrev pub Settles : {A D : Type 0} → (A → D) → Type 0
@@ -122,38 +118,41 @@ abbrev pub PlotSettled : Type 0
 PlotSettled = Settles (λ (p : Result ℕ Refusal × List ℕ). plot (plotted_of p.0) p.1)
 
 abbrev pub PlottingSettled : Type 0
-PlottingSettled = Settles (λ (p : PlotAccount × List ℕ). plotting p.0 p.1)
+PlottingSettled = Settles (λ (p : Result ℕ stopping.Refused × List ℕ). plotting (account_of p.0) p.1)
 
 -- ---- the program's front half: the result, and words and points
 abbrev pub TellingSettled : Type 0
-TellingSettled = Settles (λ (t : Account × Output). telling t.0 t.1)
+TellingSettled = Settles (λ (t : Result ℕ stopping.Refused × Output). telling (account_as t.0) t.1)
 
 -- ---- the program's listing: the result, and the whole output
 abbrev pub ListingSettled : Type 0
-ListingSettled = Settles (λ (l : Listed × List ℕ). listed l.0 l.1)
+ListingSettled = Settles (λ (l : Option ℕ × List ℕ). listed l.0 l.1)
 
 -- a text that does not fit is not written; one that does is written, and the output after it is as it was
-pub record Lists (text given : List ℕ) (r : Listed) (left : List ℕ) : Type 0 where
-  pub short : length given < length text → (r ≡ Short) × (left ≡ given)
-  pub fits : length text ≤ length given → (r ≡ Bytes (length text)) × (left ≡ text ++ drop (length text) given)
+pub record Lists (text given : List ℕ) (r : Option ℕ) (left : List ℕ) : Type 0 where
+  pub short : length given < length text → (r ≡ None) × (left ≡ given)
+  pub fits : length text ≤ length given → (r ≡ Some (length text)) × (left ≡ text ++ drop (length text) given)
 
 abbrev pub ListingLists : Type 0
-ListingLists = (input given left : List ℕ) (r : Listed) → listed r left ≡ listed_as (listing_of input) given → Lists (listing_of input) given r left
+ListingLists = (input given left : List ℕ) (r : Option ℕ) → listed r left ≡ listed_as (listing_of input) given → Lists (listing_of input) given r left
 
--- ---- inside the program: the fields of a listing
-abbrev pub PairSettled : Type 0
-PairSettled = (end line : ℕ) → Settles (λ (r : Pairs.Pair). pair_fields r end line)
+-- ---- inside the program: a command of a listing. It settles the result, and the place after the command unless there is none
+pub data NoCall : Command → Type 0 where
+  at_fault : (line : ℕ) → NoCall (Fault line)
+  at_end : NoCall Finish
 
-abbrev pub TwoPointsSettled : Type 0
-TwoPointsSettled = (end line : ℕ) → Settles (λ (r : TwoPoints). two_points_fields r end line)
+abbrev pub CallSettled : Type 0
+CallSettled = (d : Command) (r r' : Result Call BadLine) (p p' : Place) → call_as r p ≡ d → call_as r' p' ≡ d → (r ≡ r') × (NoCall d ⊎ (p ≡ p'))
 
-abbrev pub ThreePointsSettled : Type 0
-ThreePointsSettled = (end line : ℕ) → Settles (λ (r : ThreePoints). three_points_fields r end line)
+abbrev pub CommandSettled : Type 0
+CommandSettled =
+    (d : Command) (r r' : Result (Option Call) BadLine) (p p' : Place) → command_as r p ≡ d → command_as r' p' ≡ d → (r ≡ r') × (NoCall d ⊎ (p ≡ p'))
 
--- ---- inside the program: reading, `progress_of r columns ≡ d`. It settles the result, and the columns unless reading stopped at a fault or a refused command
+-- ---- inside the program: reading, `progress_of r state columns ≡ d`. It settles the result, and the store unless reading stopped at a fault or a refused command
 pub data HasStopped : Progress → Type 0 where
   has_stopped : (a : Answer) (line : ℕ) → HasStopped (stopped a line)
 
 abbrev pub ReadSettled : Type 0
 ReadSettled =
-    (d : Progress) (r r' : Progresses.Progress) (c c' : Columns) → progress_of r c ≡ d → progress_of r' c' ≡ d → (r ≡ r') × (HasStopped d ⊎ (c ≡ c'))
+    (d : Progress) (r r' : Result Unit stopping.Refused) (s s' : StoreState) (c c' : Columns)
+    → progress_of r s c ≡ d → progress_of r' s' c' ≡ d → (r ≡ r') × (HasStopped d ⊎ ((s ≡ s') × (c ≡ c')))
