@@ -78,6 +78,7 @@ plain : State → stored.State
 plain st = record { splines = st.splines; quads = st.quads; mark = st.mark; last = st.last }
 
 pub ran_settled : RanSettled
+unfolding plain
 ran_settled d a a' st st' t t' h k =
     let e = h ∙ sym k in
     (
@@ -141,13 +142,13 @@ delivered_settled = told _ (λ o. (o.result.fits, o.result.points, o.output)) (�
 unfoldable points_back : Delivery → Option ℕ
 points_back d = cond d.result.fits (Some d.result.points) None
 
+delivers_same : (r : Option ℕ) (o : Output) → ◌≡◌ {A = Option ℕ × Output} (points_back (delivers r o), (delivers r o).output) (r, o)
+unfolding points_back
+delivers_same None o = refl
+delivers_same (Some n) o = refl
+
 pub delivers_settled : DeliversSettled
-delivers_settled = told _ (λ d. (points_back d, d.output)) (λ a. both a.0 a.1)
-  where
-    both : (r : Option ℕ) (o : Output) → (points_back (delivers r o), (delivers r o).output) ≡ (r, o)
-    unfolding points_back
-    both None o = refl
-    both (Some n) o = refl
+delivers_settled = told _ (λ d. (points_back d, d.output)) (λ a. delivers_same a.0 a.1)
 
 -- a flattening's result is found again in its answer and its counts
 unfoldable result_back : Flattened → Result counts.Flattened Refused
@@ -157,13 +158,13 @@ result_back f = result_of f.answer f
     result_of (Ok done) f = Ok (record { splines = f.splines; quads = f.quads; points = f.points })
     result_of (Err r) f = Err (record { refusal = r; splines = f.splines; quads = f.quads })
 
+answered_same : (r : Result counts.Flattened Refused) → result_back (answered r) ≡ r
+unfolding result_back
+answered_same (Ok f) = refl
+answered_same (Err r) = refl
+
 pub answered_settled : AnsweredSettled
-answered_settled = told answered result_back same
-  where
-    same : (r : Result counts.Flattened Refused) → result_back (answered r) ≡ r
-    unfolding result_back
-    same (Ok f) = refl
-    same (Err r) = refl
+answered_settled = told answered result_back answered_same
 
 pub flatten_settled : FlattenSettled
 flatten_settled = told _ (λ f. (f.result, f.quads, f.splines, f.output)) (λ a. refl)
