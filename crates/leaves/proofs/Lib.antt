@@ -1,3 +1,4 @@
+pub mod Shifts
 pub mod Comparisons
 pub mod Signs
 pub mod WholeUp
@@ -13,4 +14,3 @@ pub mod SixthLargest
 pub mod Fits
 pub mod FmaOnly
 pub mod SqrtOnly
-pub mod SquareRoot

@@ -2,6 +2,7 @@ pub mod Single
 pub mod Fma
 pub mod Exact
 pub mod FmaLaws
+pub mod Aligned
 pub mod Sqrt
 pub mod SqrtLaws
 pub mod Small

@@ -1,9 +1,103 @@
-ghost use Rattle.std.specs.Prelude.{◌≡◌};
+// Square root by a guess and an exact correction over whole numbers. The proof rests on the correction alone.
+ghost use Rattle.std.specs.Prelude.{◌≡◌, ◌*◌, ◌^◌, ◌<◌, ◌≤◌};
+ghost use Rattle.std.specs.Float.{binary32};
+ghost use Rattle.rounding.specs.Roots.{rooted, IsNear};
 ghost use Rattle.leaves.specs.Sqrt.{sqrt32};
 
-// The square root, rounded once: the language's own.
+use crate::parts;
+
+// About 2 ^ 16 over the root of 1 + f / 2 ^ 23, or of twice that, by a cubic polynomial. Of this
+// function, `gap` and `guess` only bounds are proved: `settle` makes the answer right.
+fn inverse(f: u64, even: bool) -> u64
+    requires { f < 0x80_0000 }
+    ensures { result ≤ 65467 }
+{
+    let a = f * 5427 / 0x80_0000;
+    let b = f * (17845 - a) / 0x80_0000;
+    let y = 65467 - f * (31596 - b) / 0x80_0000;
+    if even { y } else { y * 46341 / 0x1_0000 }
+}
+
+// By how much t falls short of 2 ^ 62, in units of 2 ^ 32: what a step of Newton's needs.
+fn gap(t: u64) -> u64
+    ensures { result ≤ 0x4000_0000 }
+{
+    if t < 0x4000_0000_0000_0000 {
+        (0x4000_0000_0000_0000 - t) / 0x1_0000_0000
+    } else {
+        0
+    }
+}
+
+// About the root of n, from the inverse y: one step, to the second order.
+fn guess(n: u64, y: u64) -> u64
+    requires n_bound { n < 2 ^ 48 }
+    requires y_bound { y ≤ 65467 }
+    ensures { result < 0x1000_0000 }
+{
+    let v = n / 0x1_0000;
+    let h = gap(y * y * v);
+    let g = v * y / 0x8000;
+    let c = h / 2 + 3 * (h * h) / 0x2_0000_0000;
+    (g + g * c / 0x4000_0000 + 134) / 0x100
+}
+
+// The whole number nearest to the root of n, from any start: right from a bad guess too, but slow.
+fn settle(n: u64, start: u64) -> u64
+    requires n_nonzero { 0 < n }
+    requires n_bound { n < 2 ^ 48 }
+    requires start_bound { start < 0x1000_0000 }
+    ensures { IsNear n result }
+{
+    let mut r = start;
+    while r * r + r < n {
+        r += 1;
+    }
+    while n + r <= r * r {
+        r -= 1;
+    }
+    r
+}
+
+// By how much m is shifted left to have 24 digits: 0, except for a subnormal.
+fn lift(m: u64) -> u64
+    requires m_nonzero { 0 < m }
+    requires m_bound { m < 2 ^ 24 }
+    ensures { (result < 24) × (2 ^ 23 ≤ m * 2 ^ result) × (m * 2 ^ result < 2 ^ 24) }
+{
+    (u64::leading_zeros(m) as u64) - 40
+}
+
+// The root of m * 2 ^ e smallest values. n has 47 or 48 digits and leaves an even exponent, so its
+// root has the 24 that stay.
+fn root_parts(m: u64, e: u64) -> f32
+    requires m_nonzero { 0 < m }
+    requires m_bound { m < 2 ^ 24 }
+    requires e_bound { e < 1024 }
+    ensures { result ≡ rooted binary32 (m * 2 ^ e * 2 ^ 149) }
+{
+    let l = lift(m);
+    let w = m << l;
+    let p = e + 126 - l;
+    let t = p % 2;
+    let n = w * 0x80_0000 * (1 + t);
+    let r = settle(n, guess(n, inverse(w - 0x80_0000, t == 0)));
+    parts::join(false, r, p / 2)
+}
+
 pub fn sqrt(x: f32) -> f32
     ensures { result ≡ sqrt32 x }
 {
-    x.sqrt()
+    if x > 0.0 {
+        let i: f32 = f32::from_bits(0x7f80_0000);
+        if x < i {
+            let b = f32::to_bits(x);
+            return root_parts(parts::digits(b), parts::place(b));
+        }
+        return x;
+    }
+    if x == 0.0 {
+        return x;
+    }
+    0.0 / 0.0
 }

@@ -2,20 +2,22 @@
 ghost use Rattle.std.specs.Prelude.{◌≡◌};
 ghost use Rattle.leaves.specs.Small.{negative_of, abs_of, less_of, min_of, max_of, clamp_of};
 
+use crate::parts;
+
 // The sign, of a zero too; false for a NaN.
 pub fn negative(x: f32) -> bool
     ensures { result ≡ negative_of x }
 {
-    if x.is_nan() {
+    if x != x {
         return false;
     }
-    x.is_sign_negative()
+    parts::minus(f32::to_bits(x))
 }
 
 pub fn abs(x: f32) -> f32
     ensures { result ≡ abs_of x }
 {
-    x.abs()
+    if negative(x) { -x } else { x }
 }
 
 // Whether a is less than b, where -0 counts as less than +0.
@@ -34,7 +36,7 @@ fn less(a: f32, b: f32) -> bool
 pub fn min(a: f32, b: f32) -> f32
     ensures { result ≡ min_of a b }
 {
-    if a.is_nan() {
+    if a != a {
         return b;
     }
     if less(b, a) { b } else { a }
@@ -43,7 +45,7 @@ pub fn min(a: f32, b: f32) -> f32
 pub fn max(a: f32, b: f32) -> f32
     ensures { result ≡ max_of a b }
 {
-    if a.is_nan() {
+    if a != a {
         return b;
     }
     if less(a, b) { b } else { a }

@@ -5,6 +5,17 @@ ghost use Rattle.leaves.specs.Whole.{whole_up_of, whole_near_of};
 
 use crate::parts;
 
+// t / 2 ^ d, down to a whole number.
+fn whole_below(t: u64, d: u64) -> u64
+    requires { t < 2 ^ 24 }
+    ensures { result ≡ t / 2 ^ d }
+{
+    if d > 38 {
+        return 0;
+    }
+    t >> d
+}
+
 // t / 2 ^ d, up to a whole number.
 fn whole_above(t: u64, d: u64) -> u64
     requires { t < 2 ^ 24 }
@@ -20,7 +31,20 @@ fn whole_above(t: u64, d: u64) -> u64
 pub fn ceil(x: f32) -> f32
     ensures { result ≡ ceil_of x }
 {
-    x.ceil()
+    if !parts::finite(x) {
+        return x;
+    }
+    let b = f32::to_bits(x);
+    let t = parts::digits(b);
+    let p = parts::place(b);
+    // here x is whole, and rounding gives it back
+    if p >= 149 {
+        return parts::rounded(parts::minus(b), t, p + 1, 0);
+    }
+    if parts::minus(b) {
+        return parts::rounded(true, whole_below(t, 149 - p), 150, 0);
+    }
+    parts::rounded(false, whole_above(t, 149 - p), 150, 0)
 }
 
 // The least whole number not below x as a count; 65,537 for an x that is not from 0 to 65,536.

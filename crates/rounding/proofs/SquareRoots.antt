@@ -17,7 +17,7 @@ use Rattle.rounding.proofs.Rounding.{size_at}
 use Rattle.rounding.proofs.Roots.{root_shift, square}
 
 -- ---- by an n of fewer digits: n * 4 ^ j, where the root h of n has one digit more than the format keeps
-pub compare_is : (a b : ℕ) (o : Ordering) → Cmp o a b → compare a b ≡ o
+compare_is : (a b : ℕ) (o : Ordering) → Cmp o a b → compare a b ≡ o
 compare_is a b o h = go (compare a b) o (cmp a b) h
   where
     no : a < b → b < a → ⊥

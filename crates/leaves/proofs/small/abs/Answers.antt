@@ -1,16 +1,11 @@
--- `leaves::abs` meets its contract: the library's is the definition's. Assumes nothing.
-use mathlib.Core.Path.{◌≡◌, refl, ◌∙◌}
-use mathlib.Core.Bool.{false}
-use lib.Ieee.{Float, nan, inf, fin}
-use Rattle.std.specs.Float.{float_with_sign}
-use Rattle.leaves.specs.Small.{abs_of}
+-- `leaves::small::abs` meets its contract. Assumes nothing.
+use mathlib.Core.Path.{sym, ◌∙◌}
+use mathlib.Core.Bool.{true, false}
+use Rattle.leaves.proofs.Signs.{abs_is}
 use Rattle.leaves.proofs.small.abs.Goals as goal
 
-alike : (x : Float) → float_with_sign false x ≡ abs_of x
-unfolding abs_of float_with_sign
-alike nan = refl
-alike (inf s) = refl
-alike (fin s m e) = refl
+pub returns-then-negative : goal.returns-then-negative
+returns-then-negative c = abs_is c.args.x true (sym c.negative.ensures ∙ c.if-negative.true)
 
-pub returns : goal.returns
-returns c = c.abs.ensures.value ∙ alike c.args.x
+pub returns-else-negative : goal.returns-else-negative
+returns-else-negative c = abs_is c.args.x false (sym c.negative.ensures ∙ c.if-negative.false)

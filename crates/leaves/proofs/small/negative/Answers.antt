@@ -1,19 +1,17 @@
--- `leaves::negative` meets its contract: the library's is the definition's. Assumes nothing.
-use mathlib.Core.Path.{◌≡◌, refl, sym, ◌∙◌}
-use lib.Ieee.{Float, nan, inf, fin}
-use Rattle.std.specs.Float.{is_sign_negative}
-use Rattle.leaves.specs.Small.{negative_of}
-use Rattle.leaves.proofs.Signs.{unsigned_nan}
+-- `leaves::small::negative` meets its contract. Assumes nothing.
+use mathlib.Core.Path.{refl, sym, ◌∙◌}
+use mathlib.Core.Bool.{false}
+use Rattle.leaves.proofs.Comparisons.{held}
+use Rattle.leaves.proofs.Signs.{nan_test, no_nan, sign_of, unsigned_nan}
 use Rattle.leaves.proofs.small.negative.Goals as goal
 
-alike : (x : Float) → is_sign_negative x ≡ negative_of x
-unfolding negative_of is_sign_negative
-alike nan = refl
-alike (inf s) = refl
-alike (fin s m e) = refl
+pub returns-then-x : goal.returns-then-x
+returns-then-x c = let x = c.args.x in unsigned_nan x (sym (nan_test x) ∙ c.if-x.true)
 
-pub returns-then-is_nan : goal.returns-then-is_nan
-returns-then-is_nan c = unsigned_nan c.args.x (sym c.is_nan.ensures.value ∙ c.if-is_nan.true)
+pub float_to_bits-x : goal.float_to_bits-x
+float_to_bits-x c = no_nan c.args.x false c.if-x.false refl
 
 pub returns : goal.returns
-returns c = c.is_sign_negative.ensures ∙ alike c.args.x
+returns c =
+    let x = c.args.x in
+    c.minus.ensures ∙ sign_of x (held x c.well_formed.0.1) (no_nan x false c.if-x.false refl)
