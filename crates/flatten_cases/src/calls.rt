@@ -2,22 +2,17 @@
 use point::Point;
 use std::io;
 use std::io::Read;
-use store::{Call, Drawn};
+use store::{Call, Store};
 
 fn point(list: &mut impl Read) -> io::Result<Point> {
-    let x = replay::float(list)?;
-    let y = replay::float(list)?;
-    Ok(Point { x, y })
+    Ok(Point::new(replay::float(list)?, replay::float(list)?))
 }
 
 fn call(list: &mut impl Read) -> io::Result<Call> {
     let kind = replay::number(list)?;
-    let p1 = point(list)?;
-    let p2 = point(list)?;
-    let p3 = point(list)?;
-    let w1 = replay::float(list)?;
-    let w2 = replay::float(list)?;
-    let call = match kind {
+    let (p1, p2, p3) = (point(list)?, point(list)?, point(list)?);
+    let (w1, w2) = (replay::float(list)?, replay::float(list)?);
+    Ok(match kind {
         0 => Call::Move(p1),
         1 => Call::Line(p1),
         2 => Call::Quad(p1, p2),
@@ -25,29 +20,17 @@ fn call(list: &mut impl Read) -> io::Result<Call> {
         4 => Call::RatQuad(p1, p2, w1),
         5 => Call::RatCubic(p1, p2, p3, w1, w2),
         _ => Call::Build,
-    };
-    Ok(call)
+    })
 }
 
-// The calls that follow, each of which must be accepted.
-pub fn draw(
-    list: &mut impl Read,
-    x: &mut [f32; 256],
-    y: &mut [f32; 256],
-    weight: &mut [f32; 256],
-    commands: &mut [u8; 256],
-    calls: u32,
-) -> io::Result<Drawn> {
-    let mut drawn = store::fresh(x, y, weight, commands);
+// The calls that follow, on a fresh store, up to the first that is refused; whether none is.
+pub fn draw(list: &mut impl Read, store: &mut Store<'_>, calls: u32) -> io::Result<bool> {
+    let mut answer = store.fresh();
     for _ in 0..calls {
-        let st = drawn.state;
-        let answer = drawn.answer;
         let call = call(list)?;
-        let done = answer.is_ok();
-        let next = store::draw(x, y, weight, commands, st, call);
-        if done {
-            drawn = next;
+        if answer.is_ok() {
+            answer = store.draw(call);
         }
     }
-    Ok(drawn)
+    Ok(answer.is_ok())
 }

@@ -1,35 +1,26 @@
 // A drawing with a column full at each place in turn: 6 or 7, all that was pushed before stays, and no word and no point is written. With just enough room
 // all is as with more.
-use crate::flattening::{NONE, UNTOUCHED, WHOLE_ROWS, flattened};
-use crate::layout::{
-    ALL, END, FIRST_QUAD, OUTPUTS, PARTIAL_SPLINES, QUAD_COUNT, QUADS, RESULTS, SPLINES, entry,
-    extent, first, room,
-};
-use flatten::Flattened;
+use crate::flattening::{Full, SHORTS, Short, UNTOUCHED, flattened};
+use crate::layout::{ALL, Column, OUTPUTS, QUADS, RESULTS};
+use answer::Refusal;
+use flatten::{Flattened, Refused};
 use point::Setting;
 use replay::Tally;
-use store::StoreState;
+use store::Drawing;
 
 // The first `same` rows of a column are the whole run's, and those from `n` on are untouched.
-fn kept(got: &[u32; ALL], whole: &[u32; ALL], column: u32, same: usize, n: usize) -> bool {
-    let at = first(column);
-    let all = room(column);
-    let end = extent(column, n);
-    let held = replay::same(got, whole, at, extent(column, same));
-    if all < end {
-        return false;
-    }
-    held & replay::all_are(got, at + end, all - end, UNTOUCHED)
+fn kept(got: &[u32; ALL], whole: &[u32; ALL], column: Column, same: usize, n: usize) -> bool {
+    let at = column.first();
+    let all = column.room();
+    let end = column.extent(n);
+    end <= all
+        && replay::same(got, whole, at, column.extent(same))
+        && replay::all_are(got, at + end, all - end, UNTOUCHED)
 }
 
-// The same of all columns from `from` to `to`, n rows of each.
-pub fn all_kept(got: &[u32; ALL], whole: &[u32; ALL], from: u32, to: u32, n: usize) -> bool {
-    let mut good = true;
-    for column in from..to {
-        let held = kept(got, whole, column, n, n);
-        good = good & held;
-    }
-    good
+// The same of several columns, n rows of each.
+pub fn all_kept(got: &[u32; ALL], whole: &[u32; ALL], columns: &[Column], n: usize) -> bool {
+    columns.iter().all(|column| kept(got, whole, *column, n, n))
 }
 
 // Of n splines the starts and first quads are the whole run's, and so are the first `ended` sums, ends and numbers of quads and the first `flagged` flags.
@@ -40,200 +31,154 @@ fn splines_kept(
     ended: usize,
     flagged: usize,
 ) -> bool {
-    let sum = kept(got, whole, 6, ended, n);
-    let start_x = kept(got, whole, 7, n, n);
-    let start_y = kept(got, whole, 8, n, n);
-    let end_x = kept(got, whole, 9, ended, n);
-    let end_y = kept(got, whole, 10, ended, n);
-    let flag = kept(got, whole, 11, flagged, n);
-    let begin = kept(got, whole, FIRST_QUAD, n, n);
-    let count = kept(got, whole, QUAD_COUNT, ended, n);
-    sum & start_x & start_y & end_x & end_y & flag & begin & count
+    let begun = [Column::P0x, Column::P0y, Column::FirstQuad];
+    let done = [
+        Column::Curvature,
+        Column::P2x,
+        Column::P2y,
+        Column::QuadCount,
+    ];
+    all_kept(got, whole, &begun, n)
+        && done.iter().all(|c| kept(got, whole, *c, ended, n))
+        && kept(got, whole, Column::Contour, flagged, n)
 }
 
 // The last spline carries the flag until the next one opens.
 fn last_flagged(got: &[u32; ALL], n: usize) -> bool {
-    (n == 0) | (entry(got, 11, n.saturating_sub(1)) == 1)
+    n == 0 || Column::Contour.entry(got, n.saturating_sub(1)) == 1
 }
 
 // The sum of spline `last` up to the quad before `place`.
 fn sum_so_far(whole: &[u32; ALL], place: usize, last: usize) -> u32 {
     let before = place.saturating_sub(1);
-    if (place == 0) | (entry(whole, PARTIAL_SPLINES, before) as usize != last) {
+    if place == 0 || Column::PartialSplines.entry(whole, before) as usize != last {
         return 0;
     }
-    entry(whole, QUADS, extent(QUADS, before) + 14)
+    let rows = Column::QuadRows;
+    rows.entry(whole, rows.extent(before) + 14)
 }
 
 // Whether spline `last` ends at the point whose x and y are these numbers of quad_rows.
 fn ends_at(got: &[u32; ALL], whole: &[u32; ALL], last: usize, x: usize, y: usize) -> bool {
-    let on_x = entry(got, 9, last) == entry(whole, QUADS, x);
-    let on_y = entry(got, 10, last) == entry(whole, QUADS, y);
-    on_x & on_y
+    let on_x = Column::P2x.entry(got, last) == Column::QuadRows.entry(whole, x);
+    let on_y = Column::P2y.entry(got, last) == Column::QuadRows.entry(whole, y);
+    on_x && on_y
 }
 
 // Whether the quads of spline `last` are those from its first one to the one before `place`.
 fn ranges_to(got: &[u32; ALL], place: usize, last: usize) -> bool {
-    let begin = entry(got, FIRST_QUAD, last) as usize;
-    let count = entry(got, QUAD_COUNT, last) as usize;
+    let begin = Column::FirstQuad.entry(got, last) as usize;
+    let count = Column::QuadCount.entry(got, last) as usize;
     begin + count == place
 }
 
 // A spline that the refused quad would have gone on with. It ends where that quad starts, or where the quad before it ended: a cubic's last piece may end a
 // rounding beside the next start.
 fn open_kept(got: &[u32; ALL], whole: &[u32; ALL], place: usize, last: usize) -> bool {
-    let summed = entry(got, 6, last) == sum_so_far(whole, place, last);
-    let start = extent(QUADS, place);
-    let before = extent(QUADS, place.saturating_sub(1));
+    let summed = Column::Curvature.entry(got, last) == sum_so_far(whole, place, last);
+    let start = Column::QuadRows.extent(place);
+    let before = Column::QuadRows.extent(place.saturating_sub(1));
     let at_start = ends_at(got, whole, last, start, start + 3);
-    let at_end = (place > 0) & ends_at(got, whole, last, before + 2, before + 5);
-    summed & ranges_to(got, place, last) & (at_start | at_end)
+    let at_end = place > 0 && ends_at(got, whole, last, before + 2, before + 5);
+    summed && ranges_to(got, place, last) && (at_start || at_end)
 }
 
 fn quads_refused(
     got: &[u32; ALL],
     whole: &[u32; ALL],
-    r: Flattened,
+    r: Refused,
     splines: usize,
     place: usize,
 ) -> bool {
     let n = r.splines;
     let last = n.saturating_sub(1);
-    let answer = r.answer;
-    let opens = entry(whole, PARTIAL_SPLINES, place) as usize == n;
+    let opens = Column::PartialSplines.entry(whole, place) as usize == n;
     let ended = if opens { n } else { last };
-    let refused = answer::number(answer) == 6;
-    let counted = (r.quads == place) & (n <= splines) & (r.points == 0);
-    let quads = all_kept(got, whole, QUADS, SPLINES, place);
-    let held = splines_kept(got, whole, n, ended, last);
-    let open = opens | open_kept(got, whole, place, last);
-    refused & counted & quads & held & open & last_flagged(got, n)
+    r.refusal == Refusal::QuadsFull
+        && r.quads == place
+        && n <= splines
+        && all_kept(got, whole, &QUADS, place)
+        && splines_kept(got, whole, n, ended, last)
+        && (opens || open_kept(got, whole, place, last))
+        && last_flagged(got, n)
 }
 
 fn splines_refused(
     got: &[u32; ALL],
     whole: &[u32; ALL],
-    r: Flattened,
+    r: Refused,
     quads: usize,
     place: usize,
 ) -> bool {
     let n = r.splines;
-    let answer = r.answer;
-    let refused = answer::number(answer) == 7;
-    let counted = (n == place) & (r.quads <= quads) & (r.points == 0);
-    let pushed = all_kept(got, whole, QUADS, SPLINES, r.quads);
-    let held = splines_kept(got, whole, n, n, n.saturating_sub(1));
-    refused & counted & pushed & held & last_flagged(got, n)
+    r.refusal == Refusal::SplinesFull
+        && n == place
+        && r.quads <= quads
+        && all_kept(got, whole, &QUADS, r.quads)
+        && splines_kept(got, whole, n, n, n.saturating_sub(1))
+        && last_flagged(got, n)
 }
 
 // Whether the column that is short is one of the quad table.
-fn of_quads(short: u32) -> bool {
-    (short < SPLINES) | (short == WHOLE_ROWS)
+fn of_quads(short: Short) -> bool {
+    match short {
+        Short::WholeRows => true,
+        Short::Of(column) => column == Column::QuadRows || column == Column::PartialSplines,
+    }
 }
 
 // How many rows the drawing needs of it.
-fn needed(r: Flattened, short: u32) -> usize {
-    if of_quads(short) {
-        return r.quads;
-    }
-    r.splines
+fn needed(r: Flattened, short: Short) -> usize {
+    if of_quads(short) { r.quads } else { r.splines }
 }
 
-// One run with the column `short` full before row `place`.
+// One run with a column that is full, against the whole one.
 fn refuses(
-    x: &[f32; 256],
-    y: &[f32; 256],
-    weight: &[f32; 256],
-    commands: &[u8; 256],
-    st: StoreState,
+    drawing: &Drawing<'_>,
     setting: Setting,
     whole: &[u32; ALL],
-    quads: usize,
-    splines: usize,
-    short: u32,
-    place: usize,
+    all: Flattened,
+    full: Full,
 ) -> bool {
     let mut got = [0u32; ALL];
-    let r = flattened(x, y, weight, commands, st, setting, short, place, &mut got);
-    let silent = all_kept(&got, whole, OUTPUTS, END, 0);
-    if of_quads(short) {
-        return silent & quads_refused(&got, whole, r, splines, place);
+    let Err(r) = flattened(drawing, setting, Some(full), &mut got) else {
+        return false;
+    };
+    let silent = all_kept(&got, whole, &OUTPUTS, 0);
+    if of_quads(full.short) {
+        return silent && quads_refused(&got, whole, r, all.splines, full.place);
     }
-    silent & splines_refused(&got, whole, r, quads, place)
+    silent && splines_refused(&got, whole, r, all.quads, full.place)
 }
 
-// One column, full before each row that the drawing needs.
-fn at_each_place(
-    x: &[f32; 256],
-    y: &[f32; 256],
-    weight: &[f32; 256],
-    commands: &[u8; 256],
-    st: StoreState,
-    setting: Setting,
-    whole: &[u32; ALL],
-    quads: usize,
-    splines: usize,
-    short: u32,
-) -> Tally {
-    let mut tally = replay::none();
-    let rows = if of_quads(short) { quads } else { splines };
-    for place in (0..rows).rev() {
-        let right = refuses(
-            x, y, weight, commands, st, setting, whole, quads, splines, short, place,
-        );
-        tally = replay::counted(tally, right);
-    }
-    tally
-}
-
-// Each column of the tables in turn.
-pub fn each_column(
-    x: &[f32; 256],
-    y: &[f32; 256],
-    weight: &[f32; 256],
-    commands: &[u8; 256],
-    st: StoreState,
-    setting: Setting,
-) -> Tally {
+// Each column of the tables in turn, full before each row that the drawing needs.
+pub fn each_column(drawing: &Drawing<'_>, setting: Setting) -> Tally {
+    let mut tally = Tally::default();
     let mut whole = [0u32; ALL];
-    let r = flattened(x, y, weight, commands, st, setting, NONE, 0, &mut whole);
-    let quads = r.quads;
-    let splines = r.splines;
-    let mut tally = replay::none();
-    for short in QUADS..NONE {
-        let column = at_each_place(
-            x, y, weight, commands, st, setting, &whole, quads, splines, short,
-        );
-        tally = replay::both(tally, column);
+    let Ok(all) = flattened(drawing, setting, None, &mut whole) else {
+        return tally;
+    };
+    for short in SHORTS {
+        for place in (0..needed(all, short)).rev() {
+            tally.count(refuses(drawing, setting, &whole, all, Full { short, place }));
+        }
     }
     tally
 }
 
-// Both tables and the outputs are the same to the last entry that is seen.
-fn same_results(got: &[u32; ALL], whole: &[u32; ALL]) -> bool {
-    replay::same(got, whole, first(QUADS), RESULTS)
-}
-
-// Each column of the tables in turn, just as long as the drawing needs.
-pub fn each_enough(
-    x: &[f32; 256],
-    y: &[f32; 256],
-    weight: &[f32; 256],
-    commands: &[u8; 256],
-    st: StoreState,
-    setting: Setting,
-) -> Tally {
+// Each column of the tables in turn, just as long as the drawing needs: both tables and the outputs are the same to the last entry that is seen.
+pub fn each_enough(drawing: &Drawing<'_>, setting: Setting) -> Tally {
+    let mut tally = Tally::default();
     let mut whole = [0u32; ALL];
     let mut got = [0u32; ALL];
-    let r = flattened(x, y, weight, commands, st, setting, NONE, 0, &mut whole);
-    let mut tally = replay::none();
-    for short in QUADS..NONE {
-        let place = needed(r, short);
-        let e = flattened(x, y, weight, commands, st, setting, short, place, &mut got);
-        let answer = e.answer;
-        let done = answer.is_ok();
-        let same = same_results(&got, &whole);
-        tally = replay::counted(tally, done & same);
+    let Ok(all) = flattened(drawing, setting, None, &mut whole) else {
+        return tally;
+    };
+    for short in SHORTS {
+        let place = needed(all, short);
+        let r = flattened(drawing, setting, Some(Full { short, place }), &mut got);
+        let same = replay::same(&got, &whole, Column::QuadRows.first(), RESULTS);
+        tally.count(r.is_ok() && same);
     }
     tally
 }

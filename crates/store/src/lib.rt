@@ -30,7 +30,7 @@ pub const QUAD: u8 = 2;
 pub const CUBIC: u8 = 3;
 
 // The state beside the columns: how many points and commands there are, and which point opened the contour.
-#[derive(Clone, Copy, Default)]
+#[derive(Clone, Copy, Default, PartialEq, Eq)]
 pub struct StoreState {
     pub points: usize,
     pub commands: usize,

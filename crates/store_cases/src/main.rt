@@ -2,33 +2,54 @@
 // answers, states and entries agree. A line is a letter and its words, each of eight hex digits; tests/rust/answers has the list's letters.
 #![tactic(auto)]
 
-ghost use Rattle.std.specs.Prelude.{◌≤◌};
-
+use answer::Answer;
+use columns::{read, write};
+use leaves::bits;
 use point::Point;
 use replay::{Tally, float, letter, number as word};
-use std::io;
 use std::io::Read;
-use store::{Drawn, StoreState};
+use std::{array, io};
+use store::{Drawing, Store, StoreState};
 
-// The store's state, the lengths of its columns that are lent, the line of the list, and how many of the lines that compare agree.
-#[derive(Clone, Copy)]
+// The columns and how much of each is lent, the store's state, the line of the list, and how many of the lines that compare agree.
+#[derive(Drop)]
 struct Run {
+    x: [f32; 16],
+    y: [f32; 16],
+    weight: [f32; 16],
+    commands: [u8; 16],
+    lent: Lent,
     state: StoreState,
-    x: usize,
-    y: usize,
-    weight: usize,
-    commands: usize,
     line: u64,
     compared: Tally,
 }
 
+#[derive(Clone, Copy, Default)]
+struct Lent {
+    x: usize,
+    y: usize,
+    weight: usize,
+    commands: usize,
+}
+
+impl Lent {
+    // As much of each column as is asked for, or all of it.
+    fn read(list: &mut impl Read) -> io::Result<Lent> {
+        Ok(Lent {
+            x: count(list)?,
+            y: count(list)?,
+            weight: count(list)?,
+            commands: count(list)?,
+        })
+    }
+}
+
 // A word of all ones means the largest count.
 fn count(list: &mut impl Read) -> io::Result<usize> {
-    let n = word(list)?;
-    if n == 0xffff_ffff {
-        return Ok(0xffff_ffff_ffff_ffff);
+    match word(list)? {
+        u32::MAX => Ok(usize::MAX),
+        n => Ok(n as usize),
     }
-    Ok(n as usize)
 }
 
 fn byte(list: &mut impl Read) -> io::Result<u8> {
@@ -36,292 +57,161 @@ fn byte(list: &mut impl Read) -> io::Result<u8> {
 }
 
 fn point(list: &mut impl Read) -> io::Result<Point> {
-    let x = float(list)?;
-    let y = float(list)?;
-    Ok(Point::new(x, y))
+    Ok(Point::new(float(list)?, float(list)?))
 }
 
 fn state(list: &mut impl Read) -> io::Result<StoreState> {
-    let points = count(list)?;
-    let commands = count(list)?;
-    let opening = count(list)?;
     Ok(StoreState {
-        points,
-        commands,
-        opening,
+        points: count(list)?,
+        commands: count(list)?,
+        opening: count(list)?,
     })
 }
 
-fn same_state(a: StoreState, b: StoreState) -> bool {
-    (a.points == b.points) & (a.commands == b.commands) & (a.opening == b.opening)
-}
-
-// How much of a column is lent: the length asked for, or all of it.
-fn lent(n: usize, most: usize) -> usize
-    ensures { result ≤ most }
-{
-    if n < most { n } else { most }
-}
-
-// Each entry has a value of its own, so that any write is seen.
-fn fill(column: &mut [f32], from: f32) {
-    let mut v = from;
-    for entry in column.iter_mut() {
-        *entry = v;
-        v = v + 1.0;
+impl Run {
+    fn new() -> Run {
+        Run {
+            x: [0.0; 16],
+            y: [0.0; 16],
+            weight: [0.0; 16],
+            commands: [0; 16],
+            lent: Lent::default(),
+            state: StoreState::default(),
+            line: 0,
+            compared: Tally::default(),
+        }
     }
-}
 
-fn fill_commands(commands: &mut [u8]) {
-    let mut v = 100u8;
-    for command in commands.iter_mut() {
-        *command = v;
-        v = v.wrapping_add(1);
+    // Each entry has a value of its own, so that any write is seen.
+    fn renew(&mut self) {
+        self.x = array::from_fn(|i| 1000.0 + i as f32);
+        self.y = array::from_fn(|i| 2000.0 + i as f32);
+        self.weight = array::from_fn(|i| 3000.0 + i as f32);
+        self.commands = array::from_fn(|i| 100u8.wrapping_add(i as u8));
     }
-}
 
-// The calls with plain points.
-fn plain_call(
-    list: &mut impl Read,
-    x: &mut [f32],
-    y: &mut [f32],
-    weight: &mut [f32],
-    commands: &mut [u8],
-    st: StoreState,
-    l: u8,
-) -> io::Result<Drawn> {
-    let p1 = point(list)?;
-    if l == b'm' {
-        return Ok(store::move_to(x, y, weight, commands, st, p1));
+    // A call, and its answer.
+    fn call(&mut self, list: &mut impl Read, letter: u8) -> io::Result<Answer> {
+        // Fields behind a reference can't be lent side by side yet, so the columns are lent as copies.
+        let (mut x, mut y, mut weight, mut commands) = (self.x, self.y, self.weight, self.commands);
+        let lent = self.lent;
+        let mut store = Store {
+            x: &mut x[..lent.x.min(16)],
+            y: &mut y[..lent.y.min(16)],
+            weight: &mut weight[..lent.weight.min(16)],
+            commands: &mut commands[..lent.commands.min(16)],
+            state: self.state,
+        };
+        let answer = match letter {
+            b'f' => store.fresh(),
+            b'b' => store.build(),
+            b'm' => store.move_to(point(list)?),
+            b'l' => store.line_to(point(list)?),
+            b'q' => store.quad_to(point(list)?, point(list)?),
+            b'r' => store.rat_quad_to(point(list)?, point(list)?, float(list)?),
+            b'v' => {
+                let (p1, p2, p3) = (point(list)?, point(list)?, point(list)?);
+                store.rat_cubic_to(p1, p2, p3, float(list)?, float(list)?)
+            }
+            _ => store.cubic_to(point(list)?, point(list)?, point(list)?),
+        };
+        self.state = store.state;
+        self.x = x;
+        self.y = y;
+        self.weight = weight;
+        self.commands = commands;
+        Ok(answer)
     }
-    if l == b'l' {
-        return Ok(store::line_to(x, y, weight, commands, st, p1));
-    }
-    let p2 = point(list)?;
-    if l == b'q' {
-        return Ok(store::quad_to(x, y, weight, commands, st, p1, p2));
-    }
-    let p3 = point(list)?;
-    Ok(store::cubic_to(x, y, weight, commands, st, p1, p2, p3))
-}
 
-fn rational_call(
-    list: &mut impl Read,
-    x: &mut [f32],
-    y: &mut [f32],
-    weight: &mut [f32],
-    commands: &mut [u8],
-    st: StoreState,
-    l: u8,
-) -> io::Result<Drawn> {
-    let p1 = point(list)?;
-    let p2 = point(list)?;
-    if l == b'r' {
-        let w = float(list)?;
-        return Ok(store::rat_quad_to(x, y, weight, commands, st, p1, p2, w));
+    fn drawable(&self) -> bool {
+        let drawing = Drawing {
+            x: &self.x[..self.lent.x.min(16)],
+            y: &self.y[..self.lent.y.min(16)],
+            weight: &self.weight[..self.lent.weight.min(16)],
+            commands: &self.commands[..self.lent.commands.min(16)],
+            state: self.state,
+        };
+        drawing.drawable()
     }
-    let p3 = point(list)?;
-    let w1 = float(list)?;
-    let w2 = float(list)?;
-    Ok(store::rat_cubic_to(x, y, weight, commands, st, p1, p2, p3, w1, w2))
-}
 
-fn call(
-    list: &mut impl Read,
-    x: &mut [f32],
-    y: &mut [f32],
-    weight: &mut [f32],
-    commands: &mut [u8],
-    st: StoreState,
-    l: u8,
-) -> io::Result<Drawn> {
-    match l {
-        b'f' => Ok(store::fresh(x, y, weight, commands)),
-        b'b' => Ok(store::build(x, y, weight, commands, st)),
-        b'r' | b'v' => rational_call(list, x, y, weight, commands, st, l),
-        _ => plain_call(list, x, y, weight, commands, st, l),
-    }
-}
-
-// What an entry of the list says is there.
-fn same_point(list: &mut impl Read, x: &[f32], y: &[f32], weight: &[f32]) -> io::Result<bool> {
-    let i = count(list)?;
-    let same_x = leaves::bits(columns::read(x, i, f32::NAN)) == word(list)?;
-    let same_y = leaves::bits(columns::read(y, i, f32::NAN)) == word(list)?;
-    let same_weight = leaves::bits(columns::read(weight, i, f32::NAN)) == word(list)?;
-    Ok(same_x & same_y & same_weight)
-}
-
-// One more comparison. The first that differs is written, by its line.
-fn told(rt: &impl Print, mut run: Run, agreed: bool) -> io::Result<Run> {
-    let compared = run.compared;
-    if !agreed & (compared.right == compared.all) {
-        println!(rt; "the first that differs is line {}", run.line)?;
-    }
-    run.compared = replay::counted(compared, agreed);
-    Ok(run)
-}
-
-// A line that makes the store: its lengths with fresh columns, a state, a point or a command by hand.
-fn made(
-    list: &mut impl Read,
-    x: &mut [f32],
-    y: &mut [f32],
-    weight: &mut [f32],
-    commands: &mut [u8],
-    mut run: Run,
-    l: u8,
-) -> io::Result<Run> {
-    if l == b'h' {
-        run.state = state(list)?;
-        return Ok(run);
-    }
-    if l == b's' {
+    // Whether a point is as the list says.
+    fn same_point(&self, list: &mut impl Read) -> io::Result<bool> {
         let i = count(list)?;
-        columns::write(x, i, float(list)?);
-        columns::write(y, i, float(list)?);
-        columns::write(weight, i, float(list)?);
-        return Ok(run);
+        let same_x = bits(read(&self.x, i, f32::NAN)) == word(list)?;
+        let same_y = bits(read(&self.y, i, f32::NAN)) == word(list)?;
+        let same_weight = bits(read(&self.weight, i, f32::NAN)) == word(list)?;
+        Ok(same_x && same_y && same_weight)
     }
-    if l == b'k' {
-        let i = count(list)?;
-        columns::write(commands, i, byte(list)?);
-        return Ok(run);
-    }
-    fill(x, 1000.0);
-    fill(y, 2000.0);
-    fill(weight, 3000.0);
-    fill_commands(commands);
-    run.x = count(list)?;
-    run.y = count(list)?;
-    run.weight = count(list)?;
-    run.commands = count(list)?;
-    Ok(run)
-}
 
-// A call, and the answer that it must give.
-fn called(
-    rt: &impl Print,
-    list: &mut impl Read,
-    x: &mut [f32],
-    y: &mut [f32],
-    weight: &mut [f32],
-    commands: &mut [u8],
-    mut run: Run,
-    l: u8,
-) -> io::Result<Run> {
-    let nx = lent(run.x, x.len());
-    let ny = lent(run.y, y.len());
-    let nw = lent(run.weight, weight.len());
-    let nc = lent(run.commands, commands.len());
-    let st = run.state;
-    let d = call(
-        list,
-        &mut x[..nx],
-        &mut y[..ny],
-        &mut weight[..nw],
-        &mut commands[..nc],
-        st,
-        l,
-    )?;
-    let answer = d.answer;
-    run.state = d.state;
-    let agreed = answer::number(answer) == word(list)?;
-    told(rt, run, agreed)
-}
+    // One more comparison. The first that differs is written, by its line.
+    fn told(&mut self, rt: &impl Print, agreed: bool) -> io::Result<()> {
+        if !agreed && self.compared.is_right() {
+            println!(rt; "the first that differs is line {}", self.line)?;
+        }
+        self.compared.count(agreed);
+        Ok(())
+    }
 
-// A line that says what must be seen: whether the drawing can be flattened, the state, a point or a command.
-fn seen(
-    rt: &impl Print,
-    list: &mut impl Read,
-    x: &[f32],
-    y: &[f32],
-    weight: &[f32],
-    commands: &[u8],
-    run: Run,
-    l: u8,
-) -> io::Result<Run> {
-    let st = run.state;
-    if l == b't' {
-        let agreed = same_state(st, state(list)?);
-        return told(rt, run, agreed);
+    // A line that makes the store: fresh columns and their lengths, a state, a point or a command by hand.
+    fn made(&mut self, list: &mut impl Read, letter: u8) -> io::Result<()> {
+        match letter {
+            b'h' => self.state = state(list)?,
+            b's' => {
+                let i = count(list)?;
+                write(&mut self.x, i, float(list)?);
+                write(&mut self.y, i, float(list)?);
+                write(&mut self.weight, i, float(list)?);
+            }
+            b'k' => {
+                let i = count(list)?;
+                write(&mut self.commands, i, byte(list)?);
+            }
+            _ => {
+                self.renew();
+                self.lent = Lent::read(list)?;
+            }
+        }
+        Ok(())
     }
-    if l == b'p' {
-        let agreed = same_point(list, x, y, weight)?;
-        return told(rt, run, agreed);
-    }
-    if l == b'o' {
-        let i = count(list)?;
-        let agreed = columns::read(commands, i, 0) as u32 == word(list)?;
-        return told(rt, run, agreed);
-    }
-    let nx = lent(run.x, x.len());
-    let ny = lent(run.y, y.len());
-    let nw = lent(run.weight, weight.len());
-    let nc = lent(run.commands, commands.len());
-    let ok = store::drawable(&x[..nx], &y[..ny], &weight[..nw], &commands[..nc], st);
-    let agreed = ok == (word(list)? == 1);
-    told(rt, run, agreed)
-}
 
-fn step(
-    rt: &impl Print,
-    list: &mut impl Read,
-    x: &mut [f32; 16],
-    y: &mut [f32; 16],
-    weight: &mut [f32; 16],
-    commands: &mut [u8; 16],
-    run: Run,
-    l: u8,
-) -> io::Result<Run> {
-    match l {
-        b'c' | b'h' | b's' | b'k' => made(list, x, y, weight, commands, run, l),
-        b'd' | b't' | b'p' | b'o' => seen(rt, list, x, y, weight, commands, run, l),
-        _ => called(rt, list, x, y, weight, commands, run, l),
+    // Whether what the list says is seen: whether the drawing can be flattened, the state, a point, a command or, after a call, its answer.
+    fn agrees(&mut self, list: &mut impl Read, letter: u8) -> io::Result<bool> {
+        match letter {
+            b'd' => Ok(self.drawable() == (word(list)? == 1)),
+            b't' => Ok(self.state == state(list)?),
+            b'p' => self.same_point(list),
+            b'o' => {
+                let i = count(list)?;
+                Ok(u32::from(read(&self.commands, i, 0)) == word(list)?)
+            }
+            _ => {
+                let answer = self.call(list, letter)?;
+                Ok(answer::number(answer) == word(list)?)
+            }
+        }
     }
-}
 
-fn report(rt: &impl Print, run: Run) -> io::Result<()> {
-    replay::print_of(rt, run.compared)?;
-    println!(rt; " agree")
+    fn step(&mut self, rt: &impl Print, list: &mut impl Read, letter: u8) -> io::Result<()> {
+        match letter {
+            b'c' | b'h' | b's' | b'k' => self.made(list, letter),
+            _ => {
+                let agreed = self.agrees(list, letter)?;
+                self.told(rt, agreed)
+            }
+        }
+    }
 }
 
 fn main(rt: HostRuntime) -> io::Result<()> {
     let mut list = rt.stdin();
-    let mut x = [0f32; 16];
-    let mut y = [0f32; 16];
-    let mut weight = [0f32; 16];
-    let mut commands = [0u8; 16];
-    let none = StoreState {
-        points: 0,
-        commands: 0,
-        opening: 0,
-    };
-    let mut run = Run {
-        state: none,
-        x: 0,
-        y: 0,
-        weight: 0,
-        commands: 0,
-        line: 0,
-        compared: replay::none(),
-    };
-    for i in 0..100000u64 {
-        let l = letter(&mut list)?;
-        if l == 0 {
+    let mut run = Run::new();
+    for line in 1..=100_000 {
+        let letter = letter(&mut list)?;
+        if letter == 0 {
             break;
         }
-        run.line = i + 1;
-        run = step(
-            &rt,
-            &mut list,
-            &mut x,
-            &mut y,
-            &mut weight,
-            &mut commands,
-            run,
-            l,
-        )?;
+        run.line = line;
+        run.step(&rt, &mut list, letter)?;
     }
-    report(&rt, run)
+    println!(rt; "{} agree", run.compared)
 }
