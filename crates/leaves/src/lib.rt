@@ -1,5 +1,5 @@
 // Float leaves: each function equals its definition in specs/, for every f32. The library has mul_add, sqrt, ceil, abs, min, max and clamp; the rules ask for
-// leaves of our own, proved over whole numbers (docs/RULES.md, Numbers), so these stay.
+// leaves of our own, proved over whole numbers (docs/DECISIONS.md, 37, 56), so these stay.
 #![tactic(auto)]
 
 mod cutting;
