@@ -1,5 +1,6 @@
 // The drawing calls. points, used and opening are the store's counts and open index: each call reads them, writes the new ones and returns the answer's number.
-// The heads name all that is lent one by one, since they are the C interface. A refused call changes nothing, except for `kermezhul_fresh`: it reads no counts, and if it is refused it sets all three to 0.
+// A refused call changes nothing, except for `kermezhul_fresh`: it reads no counts, and if it is refused it sets all three to 0. The heads name what is lent one by
+// one, since they are the C interface.
 
 ghost use Rattle.std.specs.Prelude.{◌≡◌};
 ghost use Rattle.point.specs.Point.{point_at};

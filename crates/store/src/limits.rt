@@ -9,15 +9,14 @@ use point::Point;
 pub fn coordinate_ok(v: f32) -> bool
     ensures { result ≡ coordinate_ok_of v }
 {
-    (-65536.0 <= v) & (v <= 65536.0)
+    (-65536.0..=65536.0).contains(&v)
 }
 
 // From 1/64 to 64.
-#[tactic(auto, unfolding(crate::specs::Drawing::weight_ok_of))]
 pub fn weight_ok(w: f32) -> bool
     ensures { result ≡ weight_ok_of w }
 {
-    (0.015625 <= w) & (w <= 64.0)
+    (0.015625..=64.0).contains(&w)
 }
 
 #[tactic(auto, unfolding(crate::specs::Drawing::every))]

@@ -114,5 +114,5 @@ pub fn uses(command: u8) -> usize
 fn stored_ok(v: f32) -> bool
     ensures { result ≡ stored_ok_of v }
 {
-    (-4194304.0 <= v) & (v <= 4194304.0)
+    (-4194304.0..=4194304.0).contains(&v)
 }
