@@ -28,13 +28,6 @@ impl PointCommand {
     const END_WORD: u32 = 0xff80_0000;
 
     const SIGN_BIT: u32 = 0x8000_0000;
-
-    // Stands until its callers take `u32::from`.
-    pub fn pack(self) -> u32
-        ensures { result ≡ pack_of self }
-    {
-        u32::from(self)
-    }
 }
 
 impl From<PointCommand> for u32 {

@@ -49,7 +49,7 @@ impl Outputs<'_> {
         if !starts {
             return from;
         }
-        let word = PointCommand::Start(k as usize).pack();
+        let word = u32::from(PointCommand::Start(k as usize));
         self.write_entry(from.at, word, first, false);
         Place {
             at: from.at + 1,
@@ -70,7 +70,7 @@ fn write_steps(
     ensures same { SameOutputs outputs.old outputs.new }
     ensures written { written (output_of outputs.new) result ≡ write_steps_of (quad_row_at (quads_of quads.now)) size n from (output_of outputs.old) }
 {
-    let word = PointCommand::Incr(size).pack();
+    let word = u32::from(PointCommand::Incr(size));
     let mut at = from.at;
     let mut cursor = from.cursor;
     for p in 1..=n {
@@ -119,7 +119,7 @@ fn write_spline(
     let size = walk::size(sum);
     let n = walk::steps(sum);
     let to = write_steps(quads, outputs, size, n, start);
-    let word = PointCommand::End(k as usize, row.contour).pack();
+    let word = u32::from(PointCommand::End(k as usize, row.contour));
     outputs.write_entry(to.at, word, row.p2, row.contour);
     let at = to.at + 1;
     Place {

@@ -33,6 +33,6 @@ returns-clause-written c =
     c.size-size.ensures
     c.steps-n.ensures
     c.write_steps-to.ensures.written
-    c.pack-word.ensures
+    c.from-word.ensures
     c.write_entry.ensures.written
     c.end_cursor.ensures

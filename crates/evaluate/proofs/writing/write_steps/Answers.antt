@@ -14,7 +14,7 @@ loop-p-preserved c = record {
   lent = search rules;
   stepping =
       stepping_more c.loop-p.invariant.stepping c.loop-p-test.true c.step_cursor-cursor.ensures c.at-quad.ensures
-      c.point-point.ensures c.pack-word.ensures c.write_entry.ensures.written;
+      c.point-point.ensures c.from-word.ensures c.write_entry.ensures.written;
 }
 
 pub returns-clause-written : goal.returns-clause-written
@@ -26,5 +26,5 @@ unfolding quad_row_at
 returns-2-clause-written c =
     stepping_end
     (stepping_more c.loop-p.invariant.stepping c.loop-p-test.true c.step_cursor-cursor.ensures c.at-quad.ensures
-    c.point-point.ensures c.pack-word.ensures c.write_entry.ensures.written)
+    c.point-point.ensures c.from-word.ensures c.write_entry.ensures.written)
     (omega arith)
