@@ -15,7 +15,7 @@ fn line<F: Fn(f32, f32, f32) -> u32>(list: &mut impl Read, letter: u8, leaf: F) 
     let (a, b, c) = (float(list)?, float(list)?, float(list)?);
     let check = Check::against(list, leaf(a, b, c))?;
     Ok(Check {
-        agrees: check.agrees && found == letter,
+        agrees: check.agrees && found == Some(letter),
         ..check
     })
 }

@@ -11,19 +11,19 @@ use std::io::Read;
 fn number(head: &[u8; 7], most: usize) -> usize
     ensures { result ≤ most }
 {
-    let mut n: usize = 0;
+    let mut n = 0;
     for byte in &head[..6] {
-        let digit = *byte % 16;
-        n = (n % 100_000) * 10 + digit as usize;
+        n = (n % 100_000) * 10 + usize::from(byte % 16);
     }
-    if n < most { n } else { most }
+    n.min(most)
 }
 
 fn run(rt: &impl Print, input: &[u8], output: &mut [u8]) -> io::Result<()> {
     match listing::listing(input, output) {
         Some(m) => {
-            if m <= output.len() {
-                rt.write_all(&output[..m])?;
+            // This is never none: no more is written than the buffer has.
+            if let Some(text) = output.get(..m) {
+                rt.write_all(text)?;
             }
             Ok(())
         }

@@ -1,6 +1,6 @@
 // Numbers from a list. A number is eight lowercase hex digits and one byte after them, so each takes nine bytes, and no line end has to be looked for. What a
 // contract says holds of a reader whose bytes are known, as one over a slice; of standard input nothing is known, and tests/replay tries these functions.
-ghost use Rattle.std.specs.Prelude.{◌≡◌, ◌*◌, ℕ, ◌<◌, List, IfOk, OnOk, OnErr, IfSome, Some, drop, length, slice_index};
+ghost use Rattle.std.specs.Prelude.{◌≡◌, ◌*◌, ℕ, ◌<◌, List, IfOk, OnOk, OnErr, IfSome, Some, drop, length, slice_get};
 ghost use Rattle.std.specs.Io.KnownBytes.{Consumes};
 ghost use Rattle.leaves.specs.Bits.{float_of};
 ghost use Rattle.replay.specs.Reading.{number_in, followed_by};
@@ -29,15 +29,15 @@ pub fn float<R: Read>(list: &mut R) -> io::Result<f32>
     Ok(leaves::from_bits(number(list)?))
 }
 
-// The letter that a line begins with, and the byte after it; 0 at the end.
-pub fn letter<R: Read>(list: &mut R) -> io::Result<u8>
-    ensures value { IfOk result (λ b. IfSome (R.remaining list.old) (λ bytes. b ≡ slice_index bytes 0)) }
+// The letter that a line begins with, and the byte after it; none at the end.
+pub fn letter<R: Read>(list: &mut R) -> io::Result<Option<u8>>
+    ensures value { IfOk result (λ b. IfSome (R.remaining list.old) (λ bytes. b ≡ slice_get bytes 0)) }
     ensures rest { OnOk result (IfSome (R.remaining list.old) (λ bytes. R.remaining list.new ≡ Some (drop 2 bytes))) }
     ensures err { OnErr result ((bs : List ℕ) × Consumes (R.remaining list.old) (R.remaining list.new) bs × (length bs < 2)) }
 {
     let mut start = [0u8; 2];
     let n = input::read_full(list, &mut start)?;
-    Ok(start[..n].first().copied().unwrap_or(0))
+    Ok(start[..n].first().copied())
 }
 
 // Whether the next n numbers are those from a place on. All of them are read, even after a difference.

@@ -45,7 +45,9 @@ pub fn check_all<P: Print, R: Read, F: Fn(&mut R) -> io::Result<Check>>(
         if !check.agrees && tally.is_right() {
             println!(rt;
                 "vector {} gives {:08x} where the list has {:08x}",
-                i + 1, check.got, check.want
+                i + 1,
+                check.got,
+                check.want
             )?;
         }
         tally.count(check.agrees);

@@ -206,10 +206,9 @@ fn main(rt: HostRuntime) -> io::Result<()> {
     let mut list = rt.stdin();
     let mut run = Run::new();
     for line in 1..=100_000 {
-        let letter = letter(&mut list)?;
-        if letter == 0 {
+        let Some(letter) = letter(&mut list)? else {
             break;
-        }
+        };
         run.line = line;
         run.step(&rt, &mut list, letter)?;
     }

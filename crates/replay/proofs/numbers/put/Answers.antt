@@ -1,5 +1,5 @@
 -- `replay::put` meets its contract: what is left of the column is laid after what already is. Assumes nothing.
-use Rattle.std.proofs.Common.{◌<◌, ◌≤◌, ◌⊎◌, length, ap, ◌∙◌, arith}
+use Rattle.std.proofs.Common.{◌<◌, ap, ◌∙◌, arith}
 use Rattle.std.proofs.Math.ListN.{length-take}
 use Rattle.std.proofs.Math.Seq.{get_or-take}
 use Rattle.replay.proofs.Laying.{lay_on, lay_all}
