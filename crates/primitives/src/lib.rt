@@ -50,6 +50,7 @@ pub enum Primitive {
     Excess,
 }
 
+// By name and not as an array, since the definitions read row.x.a, and no reader has a bound to show.
 #[derive(Clone, Copy)]
 pub struct Three {
     pub a: f32,

@@ -83,6 +83,7 @@ fn clear_flag(clears: bool, contour: &mut [u8], k: usize)
 }
 
 impl SplineColumnsMut<'_> {
+    // Column by column: the eight are of four types, so a list of them would be no plainer.
     #[tactic(auto, unfolding(crate::specs::Tables::put_spline))]
     pub fn put(&mut self, edit: SplineEdit)
         ensures same { SameSplines self.old self.new }
