@@ -14,7 +14,7 @@ use Rattle.leaves.specs.Bits.{float_of}
 use Rattle.text.specs.Bytes.{stands_at}
 use Rattle.text.specs.Hex.{hex_stands_at, hex_number_at, hex_at_of}
 use Rattle.text.proofs.Standing.{stands_append, stands_inside}
-use Rattle.std.specs.Prelude.{Option, Some, None}
+use Rattle.std.specs.Prelude.{Some, None}
 use Rattle.listing.specs.Grammar.{key_texts}
 use Rattle.listing.specs.Reading.{Placed, field_stands_at, field_value_at, field_at_of, field_width, Fields, read, wrong, fields_from}
 

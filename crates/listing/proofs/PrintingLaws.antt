@@ -18,7 +18,6 @@ use Rattle.text.proofs.Shapes.{Overlap, shorter, longer, overlap, newlines_longe
 pub use Rattle.text.proofs.Shapes.{newlines-append}
 use Rattle.listing.specs.declared.Op.{Op}
 use Rattle.listing.specs.declared.Op.TheVariants.{Move, Line, Quad, RatQuad, Cubic, RatCubic}
-
 use Rattle.listing.specs.Grammar.{op_line_of, keys_of}
 use Rattle.listing.specs.Reading.{read, Drawing, Fault, Finish, fields_from, with_fields, command_from, try_ops, ops, command_at}
 use Rattle.listing.specs.Printing.{TextCommand, field_lines, command_lines, printed, Patterns, ProperCommand, Proper, none, more, Good, call_in, calls_in}

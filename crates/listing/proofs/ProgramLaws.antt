@@ -19,7 +19,7 @@ use Rattle.store.specs.declared.Call.TheVariants.{Build}
 use Rattle.store.specs.Columns.{Columns, even_of}
 use Rattle.store.specs.Drawing.{Outcome, outcome, draw_of, fresh_of}
 use Rattle.evaluate.specs.Evaluate.{Finished}
-use Rattle.listing.specs.Reading.{Progress, going, finished, stopped, read_of}
+use Rattle.listing.specs.Reading.{Progress, finished, stopped, read_of}
 use Rattle.listing.specs.Writing.{report_of, column_points}
 use Rattle.listing.specs.Program.{zeros, program_columns, program_output, refused, ready, built, built_from, after_reading, drawn_in, drawn_of, said_of, listing_of}
 use Rattle.listing.specs.Told.{Telling, told_of}

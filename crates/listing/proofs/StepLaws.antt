@@ -19,8 +19,6 @@ use Rattle.store.specs.Columns.{Columns}
 use Rattle.store.specs.Drawing.{Outcome, outcome, draw_of}
 use Rattle.text.specs.Bytes.{stands_at}
 use Rattle.listing.specs.declared.Op.{Op}
-
-
 use Rattle.std.specs.Prelude.{Err}
 use Rattle.answer.specs.declared.Refusal.{Refusal}
 use Rattle.listing.specs.Grammar.{op_line_of, keys_of}

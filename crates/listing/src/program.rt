@@ -74,11 +74,7 @@ fn flat(
 }
 
 // The front half of the program: from the bytes of a listing to words and points in lent columns, and how many points there are.
-pub fn told(
-    setting: Setting,
-    input: &[u8],
-    outputs: &mut Outputs<'_>,
-) -> Result<usize, Refused>
+pub fn told(setting: Setting, input: &[u8], outputs: &mut Outputs<'_>) -> Result<usize, Refused>
     ensures same { SameOutputs outputs.old outputs.new }
     ensures told { telling (account_as result) (output_of outputs.new) ≡ told_of setting input.now (output_of outputs.old) }
 {

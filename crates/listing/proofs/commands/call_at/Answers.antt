@@ -1,7 +1,6 @@
 -- `listing::call_at` meets its contract: the fields that are left, read after the values so far, give what all of them give. Assumes nothing.
-use Rattle.std.proofs.Common.{◌≡◌, [], refl, sym, ap, ◌∙◌, arith, length, length-take-le, get_or, ◌+◌, Err}
+use Rattle.std.proofs.Common.{[], refl, sym, ap, ◌∙◌, arith, length, length-take-le, get_or, ◌+◌, Err}
 use Rattle.std.proofs.Math.ListN.{length-set}
-use Rattle.listing.specs.Grammar.{keys_of}
 use Rattle.listing.specs.Reading.{Placed, fields_from, Drawing, call_as}
 use Rattle.listing.proofs.FieldLaws.{row_off, row_on, row_inside, row_end}
 use Rattle.listing.proofs.CommandLaws.{fields_fault, fields_drawn, passed_on, some_of_ok, none_of_err, at_most_eight}

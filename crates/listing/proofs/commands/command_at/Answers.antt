@@ -1,7 +1,6 @@
 -- `listing::command_at` meets its contract: the end of the text, no op line, or the command of the first op line that matches. Assumes nothing.
 use Rattle.std.proofs.Common.{sym, ap, ◌∙◌, arith, ◌≡◌, ◌+◌, length, Err}
 use borrow.Author.Tests.{le-leb}
-use Rattle.listing.specs.Grammar.{op_line_of}
 use Rattle.listing.specs.Reading.{Placed, ops, command_at, call_as, command_as}
 use Rattle.listing.proofs.CommandLaws.{passed_on, some_of_ok, none_of_err, try_found, behind_op, no_op, of_op}
 use Rattle.listing.proofs.commands.command_at.Goals as goal

@@ -1,10 +1,9 @@
 -- `listing::draw` meets its contract: too long, stopped at a line, or read to the end and built. Assumes nothing.
-use Rattle.std.proofs.Common.{◌≡◌, sym, ap, ◌∙◌, Err}
-use Rattle.answer.specs.Answer.{Done}
-use Rattle.store.specs.Drawing.{outcome, fresh_of}
+use Rattle.std.proofs.Common.{ap, ◌∙◌, Err}
+use Rattle.store.specs.Drawing.{fresh_of}
 use Rattle.store.specs.Lent.{store_columns}
-use Rattle.listing.specs.Reading.{on_no_line, progress_of, read_of}
-use Rattle.listing.specs.Program.{program_columns, drawn_as, refused, drawn_of}
+use Rattle.listing.specs.Reading.{on_no_line}
+use Rattle.listing.specs.Program.{drawn_as, refused}
 use Rattle.listing.proofs.CommandLaws.{passed_to, passed_on}
 use Rattle.listing.proofs.ProgramLaws.{fresh_done, read_fresh, too_long, after_stopped, after_finished, build_refused, build_done}
 use Rattle.listing.proofs.program.draw.Goals as goal

@@ -1,5 +1,5 @@
 -- `listing::listing` meets its contract: what is told in the program's own columns is listed. Assumes nothing.
-use Rattle.std.proofs.Common.{refl, sym, ◌∙◌, Err}
+use Rattle.std.proofs.Common.{refl, sym, Err}
 use Rattle.answer.proofs.Laws.{ok_is_done}
 use Rattle.listing.specs.Program.{zeros, program_output}
 use Rattle.listing.proofs.WritingLaws.{listed_seen}

@@ -1,5 +1,5 @@
 -- `listing::read` meets its contract: the steps that are left give what all of them give, and more steps than bytes are left. Assumes nothing.
-use Rattle.std.proofs.Common.{◌≡◌, refl, sym, ap, ◌∙◌, arith, rules, ℕ, ◌+◌, ◌-◌, ◌≤◌, length, Some, None, Ok, Err}
+use Rattle.std.proofs.Common.{◌≡◌, refl, sym, ap, ◌∙◌, arith, rules, ◌+◌, ◌-◌, length, Ok, Err}
 use Rattle.answer.specs.Answer.{Done}
 use Rattle.store.specs.Drawing.{outcome}
 use Rattle.store.specs.Lent.{store_columns}
