@@ -34,7 +34,7 @@ fn value_point(values: &[f32], i: usize, j: usize) -> Point
 
 impl Op {
     #[tactic(auto, unfolding(crate::specs::Grammar::op_line_of))]
-    pub fn line(self) -> &'static [u8]
+    pub(crate) fn line(self) -> &'static [u8]
         ensures { result.now ≡ op_line_of self }
     {
         match self {
@@ -48,7 +48,7 @@ impl Op {
     }
 
     #[tactic(auto, unfolding(crate::specs::Grammar::keys_of, crate::specs::Grammar::quad_keys, crate::specs::Grammar::cubic_keys))]
-    pub fn keys(self) -> &'static [&'static [u8]]
+    pub(crate) fn keys(self) -> &'static [&'static [u8]]
         ensures { key_texts result.now ≡ keys_of self }
     {
         match self {
@@ -62,7 +62,7 @@ impl Op {
 
     // The call of the values of the keys.
     #[tactic(auto, unfolding(crate::specs::Grammar::call_of))]
-    pub fn call(self, values: &[f32]) -> Call
+    pub(crate) fn call(self, values: &[f32]) -> Call
         ensures { result ≡ call_of self values.now }
     {
         let p1 = value_point(values, 0, 1);
