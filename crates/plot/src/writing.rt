@@ -10,6 +10,8 @@ ghost use Rattle.plot.specs.Lent.{points_of};
 
 use crate::Finished;
 
+// A text and the place in it are two parameters: a struct of both would make each function promise that it still holds the caller's text, and say no more.
+
 // Writes the pen's letters and the blank after them, and gives the place after both.
 fn put_pen(text: &mut [u8], at: usize, up: bool) -> usize
     requires { at + 3 ≤ length text.old }
