@@ -1,6 +1,6 @@
 // A float's pattern taken apart and put together, and the one rounding in between. The finite f32
 // of pattern b is digits(b) * 2 ^ place(b) times the smallest value, 2 ^ -149.
-ghost use Rattle.std.specs.Prelude.{◌≡◌, ◌⊎◌, suc, ◌+◌, ◌*◌, ◌/◌, ◌%◌, ◌^◌, ◌<◌, ◌≤◌, leb};
+ghost use Rattle.std.specs.Prelude.{◌≡◌, ◌⊎◌, suc, ◌+◌, ◌-◌, ◌*◌, ◌/◌, ◌%◌, ◌^◌, ◌<◌, ◌≤◌, leb};
 ghost use Rattle.std.specs.Float.{binary32};
 ghost use Rattle.std.specs.Float.Ieee.{units, round, top};
 ghost use Rattle.std.specs.Float.Ieee.Scale as Scale;
@@ -68,13 +68,15 @@ fn cut(s: bool, w: u64, d: u64, k: u64) -> f32
     join(s, q, k)
 }
 
-// By how much m is shifted left to have 62 digits.
-fn lift(m: u64) -> u64
+// By how much m is shifted left to have so many digits.
+pub fn lift<const DIGITS: u64>(m: u64) -> u64
+    requires some { 0 < DIGITS }
+    requires most { DIGITS ≤ 64 }
     requires m_nonzero { 0 < m }
-    requires m_bound { m < 2 ^ 62 }
-    ensures { (result < 62) × (2 ^ 61 ≤ m * 2 ^ result) × (m * 2 ^ result < 2 ^ 62) }
+    requires m_bound { m < 2 ^ DIGITS }
+    ensures { (result < DIGITS) × (2 ^ (DIGITS - 1) ≤ m * 2 ^ result) × (m * 2 ^ result < 2 ^ DIGITS) }
 {
-    (u64::leading_zeros(m) as u64) - 2
+    (u64::leading_zeros(m) as u64) - (64 - DIGITS)
 }
 
 // m * 2 ^ z / 2 ^ (150 + y), rounded: 2 ^ y is worth half of the smallest value. m is shifted to 62
@@ -88,7 +90,7 @@ pub fn rounded(s: bool, m: u64, z: u64, y: u64) -> f32
     if m == 0 {
         return join(s, 0, 0);
     }
-    let l = lift(m);
+    let l = lift::<62>(m);
     let w = m << l;
     if z + 37 >= l + y {
         return cut(s, w, 37, z + 37 - (l + y));

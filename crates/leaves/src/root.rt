@@ -22,11 +22,7 @@ fn inverse(f: u64, even: bool) -> u64
 fn gap(t: u64) -> u64
     ensures { result ≤ 0x4000_0000 }
 {
-    if t < 0x4000_0000_0000_0000 {
-        (0x4000_0000_0000_0000 - t) / 0x1_0000_0000
-    } else {
-        0
-    }
+    0x4000_0000_0000_0000u64.saturating_sub(t) / 0x1_0000_0000
 }
 
 // About the root of n, from the inverse y: one step, to the second order.
@@ -59,15 +55,6 @@ fn settle(n: u64, start: u64) -> u64
     r
 }
 
-// By how much m is shifted left to have 24 digits: 0, except for a subnormal.
-fn lift(m: u64) -> u64
-    requires m_nonzero { 0 < m }
-    requires m_bound { m < 2 ^ 24 }
-    ensures { (result < 24) × (2 ^ 23 ≤ m * 2 ^ result) × (m * 2 ^ result < 2 ^ 24) }
-{
-    (u64::leading_zeros(m) as u64) - 40
-}
-
 // The root of m * 2 ^ e smallest values. n has 47 or 48 digits and leaves an even exponent, so its
 // root has the 24 that stay.
 fn root_parts(m: u64, e: u64) -> f32
@@ -76,7 +63,8 @@ fn root_parts(m: u64, e: u64) -> f32
     requires e_bound { e < 1024 }
     ensures { result ≡ rooted binary32 (m * 2 ^ e * 2 ^ 149) }
 {
-    let l = lift(m);
+    // 0, except for a subnormal
+    let l = parts::lift::<24>(m);
     let w = m << l;
     let p = e + 126 - l;
     let t = p % 2;
