@@ -1,6 +1,6 @@
 // Fused multiply-add: mostly by way of f64, and otherwise over whole numbers, where the exact product
 // plus the addend is brought to 24 digits by its count of leading zeros and rounded once.
-ghost use Rattle.std.specs.Prelude.{◌≡◌, ◌+◌, ◌-◌, ◌*◌, ◌^◌, ◌<◌, eqb, ltb, cond};
+ghost use Rattle.std.specs.Prelude.{◌≡◌, ◌+◌, ◌-◌, ◌*◌, ◌^◌, ◌<◌, eqb, cond};
 ghost use Rattle.std.specs.Float.{binary32};
 ghost use Rattle.std.specs.Float.Ieee.{sum};
 ghost use Rattle.rounding.specs.Parts as Parts;
@@ -10,13 +10,6 @@ ghost use Rattle.leaves.specs.Aligned.{fma_bits, Aligns};
 
 use crate::parts;
 
-// How far x and y lie apart.
-fn gap(x: u64, y: u64) -> u64
-    ensures { result ≡ cond (ltb x y) (y - x) (x - y) }
-{
-    if x < y { y - x } else { x - y }
-}
-
 // The size of the sum of x and y with their signs. Both outcomes are worked out and one is chosen:
 // signs are as random as the input, and a branch on them would be guessed wrong half the time.
 fn sum_size(s: bool, x: u64, t: bool, y: u64) -> u64
@@ -24,7 +17,7 @@ fn sum_size(s: bool, x: u64, t: bool, y: u64) -> u64
     requires y_bound { y < 2 ^ 61 }
     ensures { result ≡ sum_size s x t y }
 {
-    let d = gap(x, y);
+    let d = x.abs_diff(y);
     if s == t { x + y } else { d }
 }
 
