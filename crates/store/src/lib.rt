@@ -10,14 +10,9 @@ use point::{Point, WeightedPoint};
 
 mod builder;
 mod limits;
-mod old;
 mod reading;
 mod writing;
 
-pub use old::{
-    Drawn, build, cubic_to, draw, drawable, fresh, line_to, move_to, quad_to, rat_cubic_to,
-    rat_quad_to, stored_point,
-};
 pub use reading::uses;
 
 // The commands are bytes here too, since the column that C lends holds bytes.
