@@ -4,7 +4,7 @@ use mathlib.Core.Bool.{Bool, true, false}
 use Prim.Native.Nat.{ℕ, suc, ◌*◌, ◌/◌, ◌^◌, ◌<◌}
 use native.Mathlib.Nat.{mul_right_comm, mul-div_cancel}
 use lib.IntN.{ℤ}
-use lib.Ieee.{Float, inf, fin, binary32, up, down, lt, eq, div}
+use lib.Ieee.{nan, Float, inf, fin, binary32, up, down, lt, eq}
 use lib.Ieee.Fits.{down_pos}
 use lib.Ieee.Exact.{HasValue}
 use Rattle.rounding.specs.Roots.{rooted}
@@ -34,6 +34,6 @@ pub at_zero : (x : Float) → eq x plain ≡ true → x ≡ sqrt32 x
 unfolding sqrt_of
 at_zero x h = let z = only_zero x h in z.2 ∙ sym (ap (sqrt_of binary32) z.2)
 
-pub elsewhere : (x : Float) → lt plain x ≡ false → eq x plain ≡ false → div binary32 plain plain ≡ sqrt32 x
-unfolding div sqrt_of
+pub elsewhere : (x : Float) → lt plain x ≡ false → eq x plain ≡ false → nan ≡ sqrt32 x
+unfolding sqrt_of
 elsewhere x h k = sym (Comparisons.elsewhere (sqrt_of binary32) refl refl (λ m e. refl) x h k)

@@ -77,8 +77,7 @@ pub fn sqrt(x: f32) -> f32
     ensures { result ≡ sqrt32 x }
 {
     if x > 0.0 {
-        let i: f32 = f32::from_bits(0x7f80_0000);
-        if x < i {
+        if x < f32::INFINITY {
             let b = f32::to_bits(x);
             return root_parts(parts::digits(b), parts::place(b));
         }
@@ -87,5 +86,5 @@ pub fn sqrt(x: f32) -> f32
     if x == 0.0 {
         return x;
     }
-    0.0 / 0.0
+    f32::NAN
 }

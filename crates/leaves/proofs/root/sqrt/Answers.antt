@@ -1,46 +1,45 @@
 -- `leaves::root::sqrt` meets its contract. Assumes nothing.
-use mathlib.Core.Path.{◌≡◌, sym, ap₂, ◌∙◌}
+use mathlib.Core.Path.{◌≡◌, refl, sym, ap₂, ◌∙◌}
 use mathlib.Core.Bool.{true, false}
 use Prim.Native.Nat.{ℕ, ◌*◌, ◌^◌, ◌<◌}
 use native.Mathlib.Nat.{lt_of_lt_of_le, lt_of_le_of_lt, le_of_eq}
 use native.Mathlib.Omega.{arith}
 use lib.Dec.{leb}
-use lib.Ieee.{Float, binary32, lt, div, nan_bits, to_bits}
+use lib.Ieee.{binary32, nan, lt, to_bits, of_bits}
 use Rattle.rounding.specs.Parts.{sig, place}
 use Rattle.rounding.proofs.Parts.{sig_lt, place_le}
 use Rattle.rounding.specs.Roots.{rooted}
-use Rattle.leaves.proofs.Comparisons.{plain, zero_is, above, under, level, held, sig_pos, bits_value}
+use Rattle.leaves.proofs.Comparisons.{plain, above, under, level, held, sig_pos, bits_value}
 use Rattle.leaves.proofs.RootParts.{root_value, at_infinity, at_zero, elsewhere}
 use Rattle.leaves.proofs.root.sqrt.Goals as goal
 
-pub float_from_bits-i : goal.float_from_bits-i
-unfolding nan_bits
-float_from_bits-i c = tt
+nan_is : of_bits binary32 0x7fc0_0000 ≡ nan
+unfolding of_bits
+nan_is = refl
 
 pub root_parts-requires : goal.root_parts-requires
 root_parts-requires c =
     let x = c.args.x in
     let b = to_bits binary32 x in
     let p : 0 < sig binary32 b = sig_pos x (held x c.well_formed.0.1) (above x true c.if-x.true)
-    (under x true c.if-x-i.true) in record { m_nonzero = lt_of_lt_of_le p (le_of_eq (sym c.digits.ensures)); m_bound = lt_of_le_of_lt (le_of_eq c.digits.ensures) (sig_lt binary32 b); e_bound = omega (arith, c.place.ensures, place_le binary32 b) }
+    (under x true c.if-x-2.true) in record { m_nonzero = lt_of_lt_of_le p (le_of_eq (sym c.digits.ensures)); m_bound = lt_of_le_of_lt (le_of_eq c.digits.ensures) (sig_lt binary32 b); e_bound = omega (arith, c.place.ensures, place_le binary32 b) }
 
-pub returns-then-x-i : goal.returns-then-x-i
-returns-then-x-i c =
+pub returns-then-x-2 : goal.returns-then-x-2
+returns-then-x-2 c =
     let x = c.args.x in
     let b = to_bits binary32 x in
     let h : lt plain x ≡ true = above x true c.if-x.true in
     c.root_parts.ensures
     ∙ ap₂ (λ (m e : ℕ). rooted binary32 (m * 2 ^ e * 2 ^ 149)) c.digits.ensures c.place.ensures
     ∙ root_value x (leb 2147483648 b) (sig binary32 b * 2 ^ place binary32 b) h
-    (bits_value x (held x c.well_formed.0.1) h (under x true c.if-x-i.true))
+    (bits_value x (held x c.well_formed.0.1) h (under x true c.if-x-2.true))
 
 pub returns-then-x : goal.returns-then-x
-returns-then-x c = let x = c.args.x in at_infinity x (above x true c.if-x.true) (under x false c.if-x-i.false)
+returns-then-x c = let x = c.args.x in at_infinity x (above x true c.if-x.true) (under x false c.if-x-2.false)
 
-pub returns-then-x-2 : goal.returns-then-x-2
-returns-then-x-2 c = let x = c.args.x in at_zero x (level x true c.if-x-2.true)
+pub returns-then-x-3 : goal.returns-then-x-3
+returns-then-x-3 c = let x = c.args.x in at_zero x (level x true c.if-x-3.true)
 
 pub returns : goal.returns
 returns c =
-    let x = c.args.x in ap₂ (λ (a b : Float). div binary32 a b) zero_is zero_is
-    ∙ elsewhere x (above x false c.if-x.false) (level x false c.if-x-2.false)
+    let x = c.args.x in nan_is ∙ elsewhere x (above x false c.if-x.false) (level x false c.if-x-3.false)
