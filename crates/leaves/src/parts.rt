@@ -11,8 +11,11 @@ ghost use Rattle.rounding.specs.Alike.{Alike};
 pub fn finite(x: f32) -> bool
     ensures { result ≡ Scale.finite x }
 {
-    let i: f32 = f32::from_bits(0x7f80_0000);
-    if x < i { -i < x } else { false }
+    if x < f32::INFINITY {
+        -f32::INFINITY < x
+    } else {
+        false
+    }
 }
 
 pub fn minus(b: u32) -> bool

@@ -1,7 +1,7 @@
 -- `leaves::parts::finite` meets its contract. Assumes nothing.
 use mathlib.Core.Path.{◌≡◌, refl, sym, ap, ◌∙◌}
 use mathlib.Core.Bool.{true, false, true≢false}
-use lib.Ieee.{Float, nan, inf, fin, binary32, lt, neg, of_bits, nan_bits}
+use lib.Ieee.{Float, nan, inf, fin, binary32, lt, neg, of_bits}
 use lib.Ieee.Scale.{finite}
 use Rattle.leaves.proofs.parts.finite.Goals as goal
 
@@ -22,14 +22,10 @@ not_below nan h = refl
 not_below (inf s) h = refl
 not_below (fin s m e) h = absurd (true≢false h)
 
-pub float_from_bits-i : goal.float_from_bits-i
-unfolding nan_bits
-float_from_bits-i c = tt
-
-pub returns-then-x-i : goal.returns-then-x-i
-returns-then-x-i c =
+pub returns-then-x : goal.returns-then-x
+returns-then-x c =
     ap (λ (i : Float). lt (neg i) c.args.x) inf_is
-    ∙ above c.args.x (sym (ap (λ (i : Float). lt c.args.x i) inf_is) ∙ c.if-x-i.true)
+    ∙ above c.args.x (sym (ap (λ (i : Float). lt c.args.x i) inf_is) ∙ c.if-x.true)
 
-pub returns-else-x-i : goal.returns-else-x-i
-returns-else-x-i c = not_below c.args.x (sym (ap (λ (i : Float). lt c.args.x i) inf_is) ∙ c.if-x-i.false)
+pub returns-else-x : goal.returns-else-x
+returns-else-x c = not_below c.args.x (sym (ap (λ (i : Float). lt c.args.x i) inf_is) ∙ c.if-x.false)
