@@ -48,4 +48,3 @@ NotPrintable = Err refusal.NotPrintable
 
 pattern abbrev pub BufferShort : Answer
 BufferShort = Err refusal.BufferShort
-

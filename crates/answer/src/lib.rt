@@ -2,7 +2,7 @@
 #![tactic(auto)]
 
 ghost use Rattle.std.specs.Prelude.{◌≡◌};
-ghost use Rattle.answer.specs.Number.{is_done, number_of, refusal_number_of};
+ghost use Rattle.answer.specs.Number.{number_of, refusal_number_of};
 
 // Each refusal, with its number.
 #[derive(Clone, Copy, PartialEq, Eq)]
@@ -38,12 +38,12 @@ pub enum Refusal {
 // Done, or why not.
 pub type Answer = Result<(), Refusal>;
 
-impl Refusal {
-    // The only match on a refusal: all other code goes by its number.
-    pub fn number(self) -> u32
-        ensures { result ≡ refusal_number_of self }
-    {
-        match self {
+impl From<Refusal> for u32 {
+    ghost from_gives = { λ refusal number. number ≡ refusal_number_of refusal };
+
+    // The numbers stand here alone.
+    fn from(refusal: Refusal) -> Self {
+        match refusal {
             Refusal::BadCoordinate => 1,
             Refusal::BadWeight => 2,
             Refusal::Unusable => 3,
@@ -67,12 +67,6 @@ pub fn number(a: Answer) -> u32
 {
     match a {
         Ok(()) => 0,
-        Err(refusal) => refusal.number(),
+        Err(refusal) => u32::from(refusal),
     }
-}
-
-pub fn is_done(a: Answer) -> bool
-    ensures { result ≡ is_done a }
-{
-    number(a) == 0
 }

@@ -92,7 +92,7 @@ fn put_head(buffer: &mut [u8], number: u64, line: u64, points: u64) -> usize
 pub fn refuse(output: &mut [u8], refused: Refused) -> Option<usize>
     ensures { listed result output.new ≡ listed_as (report_of (Err refused.refusal) refused.line []) output.old }
 {
-    let number = u64::from(refused.refusal.number());
+    let number = u64::from(u32::from(refused.refusal));
     let line = refused.line as u64;
     let needed = head_length(number, line, 0);
     if output.len() < needed {

@@ -8,10 +8,10 @@ use Rattle.listing.proofs.writing.refuse.Goals as goal
 pub returns-then-output-needed : goal.returns-then-output-needed
 returns-then-output-needed c =
     listed_seen _ _ _ _ (listed_short (head_of c.from-number.result c.args.refused.line 0) c.args.output.now (omega arith))
-    (refusal_report c.from-number.result _ _ (c.from-number.ensures ∙ c.number.ensures))
+    (refusal_report c.from-number.result _ _ (c.from-number.ensures ∙ c.from.ensures))
 
 pub returns : goal.returns
 returns c =
     listed_seen _ _ _ _
     (listed_bytes (head_of c.from-number.result c.args.refused.line 0) c.args.output.now _ _ (omega arith) c.head_length-needed.ensures c.put_head.ensures.stored)
-    (refusal_report c.from-number.result _ _ (c.from-number.ensures ∙ c.number.ensures))
+    (refusal_report c.from-number.result _ _ (c.from-number.ensures ∙ c.from.ensures))
