@@ -91,13 +91,13 @@ pub less_is : (x y : Float) (l e : Bool) → lt x y ≡ l → eq x y ≡ e → l
 unfolding less_of
 less_is x y l e h k = ap₂ (λ (a b : Bool). a || (b && (negative_of x && not (negative_of y)))) (sym h) (sym k)
 
-pub min_is : (x y : Float) (n l : Bool) → ne x x ≡ n → less_of y x ≡ l → cond (n || l) y x ≡ min_of x y
+pub min_is : (x y : Float) (n l : Bool) → is_nan x ≡ n → less_of y x ≡ l → cond (n || l) y x ≡ min_of x y
 unfolding min_of
-min_is x y n l h k = ap₂ (λ (a b : Bool). cond (a || b) y x) (sym h ∙ nan_test x) (sym k)
+min_is x y n l h k = ap₂ (λ (a b : Bool). cond (a || b) y x) (sym h) (sym k)
 
-pub max_is : (x y : Float) (n l : Bool) → ne x x ≡ n → less_of x y ≡ l → cond (n || l) y x ≡ max_of x y
+pub max_is : (x y : Float) (n l : Bool) → is_nan x ≡ n → less_of x y ≡ l → cond (n || l) y x ≡ max_of x y
 unfolding max_of
-max_is x y n l h k = ap₂ (λ (a b : Bool). cond (a || b) y x) (sym h ∙ nan_test x) (sym k)
+max_is x y n l h k = ap₂ (λ (a b : Bool). cond (a || b) y x) (sym h) (sym k)
 
 pub clamp_is : (x lo hi : Float) (t u : Bool) → lt x lo ≡ t → lt hi x ≡ u → cond t lo (cond u hi x) ≡ clamp_of x lo hi
 unfolding clamp_of

@@ -6,7 +6,7 @@ ghost use Rattle.leaves.specs.Bits.{bits_of, float_of};
 pub fn bits(x: f32) -> u32
     ensures { result ≡ bits_of x }
 {
-    if x != x {
+    if x.is_nan() {
         return 0x7fc0_0000;
     }
     f32::to_bits(x)
@@ -17,7 +17,7 @@ pub fn from_bits(b: u32) -> f32
     ensures { result ≡ float_of b }
 {
     if b % 0x8000_0000 > 0x7f80_0000 {
-        return 0.0 / 0.0;
+        return f32::NAN;
     }
     f32::from_bits(b)
 }

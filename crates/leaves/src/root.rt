@@ -7,7 +7,7 @@ ghost use Rattle.leaves.specs.Sqrt.{sqrt32};
 use crate::parts;
 
 // About 2 ^ 16 over the root of 1 + f / 2 ^ 23, or of twice that, by a cubic polynomial. Of this
-// function, `gap` and `guess` only bounds are proved: `settle` makes the answer right.
+// function and of `guess` only bounds are proved: `settle` makes the answer right.
 fn inverse(f: u64, even: bool) -> u64
     requires { f < 0x80_0000 }
     ensures { result ≤ 65467 }
@@ -18,13 +18,6 @@ fn inverse(f: u64, even: bool) -> u64
     if even { y } else { y * 46341 / 0x1_0000 }
 }
 
-// By how much t falls short of 2 ^ 62, in units of 2 ^ 32: what a step of Newton's needs.
-fn gap(t: u64) -> u64
-    ensures { result ≤ 0x4000_0000 }
-{
-    0x4000_0000_0000_0000u64.saturating_sub(t) / 0x1_0000_0000
-}
-
 // About the root of n, from the inverse y: one step, to the second order.
 fn guess(n: u64, y: u64) -> u64
     requires n_bound { n < 2 ^ 48 }
@@ -32,7 +25,8 @@ fn guess(n: u64, y: u64) -> u64
     ensures { result < 0x1000_0000 }
 {
     let v = n / 0x1_0000;
-    let h = gap(y * y * v);
+    // by how much y * y * v falls short of 2 ^ 62, in units of 2 ^ 32
+    let h = 0x4000_0000_0000_0000u64.saturating_sub(y * y * v) / 0x1_0000_0000;
     let g = v * y / 0x8000;
     let c = h / 2 + 3 * (h * h) / 0x2_0000_0000;
     (g + g * c / 0x4000_0000 + 134) / 0x100
@@ -73,6 +67,8 @@ fn root_parts(m: u64, e: u64) -> f32
     parts::join(false, r, p / 2)
 }
 
+// `sixth_root` makes the same tests. One function with a closure for the positive numbers would be no plainer: the two differ at -0, and its contract would have to say
+// what it gives at each kind of value, where each of the two names its definition.
 pub fn sqrt(x: f32) -> f32
     ensures { result ≡ sqrt32 x }
 {

@@ -8,7 +8,7 @@ use crate::parts;
 pub fn negative(x: f32) -> bool
     ensures { result ≡ negative_of x }
 {
-    if x != x {
+    if x.is_nan() {
         return false;
     }
     parts::minus(f32::to_bits(x))
@@ -36,7 +36,7 @@ fn less(a: f32, b: f32) -> bool
 pub fn min(a: f32, b: f32) -> f32
     ensures { result ≡ min_of a b }
 {
-    if a != a {
+    if a.is_nan() {
         return b;
     }
     if less(b, a) { b } else { a }
@@ -45,7 +45,7 @@ pub fn min(a: f32, b: f32) -> f32
 pub fn max(a: f32, b: f32) -> f32
     ensures { result ≡ max_of a b }
 {
-    if a != a {
+    if a.is_nan() {
         return b;
     }
     if less(a, b) { b } else { a }

@@ -63,7 +63,8 @@ pub fn inv_curvature(k: f32) -> f32
     k * (1.0 - B + root)
 }
 
-// One coordinate of a quad at t.
+// One coordinate of a quad at t. Quads and cubics keep functions of their own, here and below: one over N points would be a loop over an array of lerps that it overwrites,
+// with an invariant, for the two straight lines of lerps that the definitions spell out.
 #[tactic(auto, unfolding(crate::specs::Curve::quad_at_of))]
 pub fn quad_at(t: f32, a: f32, b: f32, c: f32) -> f32
     ensures { result ≡ quad_at_of t a b c }

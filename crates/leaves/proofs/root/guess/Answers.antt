@@ -1,5 +1,6 @@
 -- `leaves::root::guess` meets its contract: bounds only. Assumes nothing.
-use Prim.Native.Nat.{ℕ, ◌+◌, ◌*◌, ◌/◌, ◌<◌, ◌≤◌}
+use mathlib.Core.Path.{◌≡◌}
+use Prim.Native.Nat.{ℕ, ◌+◌, ◌-◌, ◌*◌, ◌/◌, ◌<◌, ◌≤◌}
 use native.Mathlib.Nat.{mul-le-mul}
 use native.Mathlib.Omega.{arith}
 use Rattle.leaves.proofs.root.guess.Goals as goal
@@ -30,5 +31,8 @@ module _ (n y h : ℕ) (N : n < 281474976710656) (Y : y ≤ 65467) (H : h ≤ 10
   both : n / 65536 * y / 32768 * (h / 2 + 3 * (h * h) / 8589934592) ≤ 8070450532247928832
   both = gc_le (n / 65536 * y / 32768) (h / 2 + 3 * (h * h) / 8589934592) (g_le n y N Y) (c_le h H)
 
+room : (s a : ℕ) → s ≡ 4611686018427387904 - a → s / 4294967296 ≤ 1073741824
+room s a h = omega (arith, h)
+
 pub overflow_mul-result : goal.overflow_mul-result
-overflow_mul-result c = omega (arith, both c.args.n c.args.y c.gap-h.result c.requires.n_bound c.requires.y_bound c.gap-h.ensures)
+overflow_mul-result c = omega (arith, both c.args.n c.args.y (c.saturating_sub-h.result / 4294967296) c.requires.n_bound c.requires.y_bound (room c.saturating_sub-h.result (c.args.y * c.args.y * (c.args.n / 65536)) c.saturating_sub-h.ensures))
