@@ -1,41 +1,24 @@
 -- Laws of the small leaves: which float is the NaN, which bit is the sign, and `abs_of`, `less_of`, `min_of`, `max_of`, `clamp_of` by the tests that the code
 -- makes. Assumes nothing.
 use mathlib.Core.Path.{◌≡◌, refl, sym, ap, ap₂, ◌∙◌, subst}
-use mathlib.Core.Bool.{Bool, true, false, not, ◌&&◌, ◌||◌, beq, cond}
-use Prim.Native.Nat.{ℕ, ◌+◌, ◌*◌, ◌<◌, ◌≤◌}
+use mathlib.Core.Bool.{Bool, true, false, not, ◌&&◌, ◌||◌, cond}
+use Prim.Native.Nat.{ℕ, ◌+◌, ◌<◌, ◌≤◌}
 use native.Mathlib.Nat.{le-add_right}
 use native.Mathlib.Omega.{arith}
-use borrow.Author.Tests.{le-leb, lt-leb, eq-eqb}
+use borrow.Author.Tests.{le-leb, lt-leb}
 use lib.IntN.{ℤ}
-use lib.Dec.{T, leb, eqb}
-use lib.Ieee.{Float, nan, inf, fin, Format, binary32, up, down, round, top, lt, eq, ne, neg, fits, is_nan, to_bits}
+use lib.Dec.{T, leb}
+use lib.Ieee.{Float, nan, inf, fin, Format, binary32, round, top, lt, eq, neg, fits, is_nan, to_bits}
 use lib.Ieee.Fits.{neg-fits}
 use lib.Ieee.Bits.{to_bits-lt}
 use Rattle.rounding.proofs.Bounds.{Unsigned, round_unsigned, round_neg}
 use Rattle.leaves.specs.Small.{negative_of, abs_of, less_of, min_of, max_of, clamp_of}
-
--- ---- x != x is the test for a NaN
-not_unlike : (s : Bool) (b : Bool) → not (true && (beq s s || b)) ≡ false
-not_unlike true b = refl
-not_unlike false b = refl
-
-pub nan_test : (x : Float) → ne x x ≡ is_nan x
-unfolding ne eq is_nan
-nan_test nan = refl
-nan_test (inf true) = refl
-nan_test (inf false) = refl
-nan_test (fin s m e) =
-    let a = m * up e * down e in
-    ap (λ (b : Bool). not (b && (beq s s || eqb a 0))) (eq-eqb a a refl) ∙ not_unlike s (eqb a 0)
 
 pub is_nan_lem : (x : Float) → is_nan x ≡ true → x ≡ nan
 unfolding is_nan
 is_nan_lem nan h = refl
 is_nan_lem (inf s) h = cc
 is_nan_lem (fin s m e) h = cc
-
-pub no_nan : (x : Float) (b : Bool) → ne x x ≡ b → b ≡ false → T (not (is_nan x))
-no_nan x b h k = subst (λ (t : Bool). T (not t)) (sym (sym (nan_test x) ∙ h ∙ k)) tt
 
 -- ---- the sign's bit
 sign_bit : (f : Format) (m : ℕ) (e : ℤ) → to_bits f (fin true m e) ≡ top f + to_bits f (fin false m e)

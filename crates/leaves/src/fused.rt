@@ -100,17 +100,17 @@ fn whole_fma(a: f32, b: f32, c: f32) -> f32
 pub fn fma(a: f32, b: f32, c: f32) -> f32
     ensures { result ≡ fma32 a b c }
 {
-    if a != a {
+    if a.is_nan() {
         return whole_fma(a, b, c);
     }
-    if b != b {
+    if b.is_nan() {
         return whole_fma(a, b, c);
     }
-    if c != c {
+    if c.is_nan() {
         return whole_fma(a, b, c);
     }
     let s: f64 = (a as f64) * (b as f64) + (c as f64);
-    if s != s {
+    if s.is_nan() {
         return whole_fma(a, b, c);
     }
     let u = f64::to_bits(s);
