@@ -8,8 +8,11 @@ use native.Mathlib.Nat.{zero-add, le_of_eq, le_trans}
 use lib.Dec.{leb, le→leb}
 use lib.Arith.{lt→nleb}
 use lib.Ieee.Bits.{is_true, is_false}
-use lib.ListN.{length, drop}
+use lib.ListN.{length, drop, get_or}
 use lib.Seq.{sets, sets-eq}
+use lib.Ieee.{nan, Float}
+use Rattle.point.specs.declared.Point.{Point}
+use Rattle.point.specs.Point.{point_at}
 use Rattle.std.specs.Prelude.{Option, None, Some, Result, Ok, Err}
 use Rattle.answer.specs.declared.Refusal.{Refusal}
 use Rattle.answer.specs.Answer.{Answer}
@@ -35,12 +38,12 @@ use Rattle.store.specs.Columns.{Columns}
 use Rattle.listing.specs.declared.BadLine.{BadLine}
 use Rattle.listing.specs.declared.Place.{Place}
 use Rattle.listing.specs.declared.Refused as stopping
-use Rattle.listing.specs.Reading.{Command, Drawing, Fault, Finish, call_as, command_as, Progress, going, finished, stopped, progress_of}
+use Rattle.listing.specs.Reading.{Command, Drawing, Fault, Finish, call_as, command_as, Progress, going, finished, stopped, progress_of, Fields, read, wrong}
 use Rattle.listing.specs.Writing.{Listing, listed, listed_as}
 use Rattle.listing.specs.Program.{listing_of}
 use Rattle.listing.specs.Told.{account_as}
 use Rattle.plotting.specs.PlotListing.{account_of}
-use Rattle.promises.specs.Settled.{Settles, ValueSettled, ResultAndKeptSettled, ColumnsSettled, QuadsSettled, SplinesSettled, OutputSettled, PlotReplySettled, WholeReplySettled, RoundingSettled, PlotSettled, PlottingSettled}
+use Rattle.promises.specs.Settled.{Settles, ValueSettled, ResultAndKeptSettled, ColumnsSettled, QuadsSettled, SplinesSettled, OutputSettled, PlotReplySettled, WholeReplySettled, RoundingSettled, PlotSettled, PlottingSettled, pair_fields, two_points_fields, three_points_fields, PairSettled, TwoPointsSettled, ThreePointsSettled}
 use Rattle.promises.specs.Settled.{DrawnSettled, TablesSettled, RanSettled, FilledSettled, PlannedSettled, DeliveredSettled, DeliversSettled, AnsweredSettled, FlattenSettled, ReplySettled, FlatReplySettled}
 use Rattle.promises.specs.Settled.{TellingSettled, ListingSettled, Lists, ListingLists, NoCall, at_fault, at_end, CallSettled, CommandSettled, HasStopped}
 use Rattle.promises.specs.Settled.{has_stopped, ReadSettled}
@@ -80,8 +83,7 @@ plain st = record { splines = st.splines; quads = st.quads; mark = st.mark; last
 pub ran_settled : RanSettled
 unfolding plain
 ran_settled d a a' st st' t t' h k =
-    let e = h ∙ sym k in
-    (
+    let e = h ∙ sym k in (
       ap (λ (w : World). w.state.answer) e,
       ap (λ (w : World). plain w.state) e,
       ap (λ (w : World). w.quads) e,
@@ -105,8 +107,7 @@ filled_same (Err r) t = refl
 
 pub filled_settled : FilledSettled
 filled_settled d r r' t t' h k =
-    let e = h ∙ sym k in
-    (
+    let e = h ∙ sym k in (
       sym (filled_same r t) ∙ ap filled_back e ∙ filled_same r' t',
       sym (tables_of r t).0 ∙ ap (λ (w : World). w.quads) e ∙ (tables_of r' t').0,
       sym (tables_of r t).1 ∙ ap (λ (w : World). w.splines) e ∙ (tables_of r' t').1,
@@ -252,6 +253,43 @@ lists text given left r h =
 pub listing_lists : ListingLists
 listing_lists input given left r = lists (listing_of input) given left r
 
+-- ---- the fields, back from the values that were read
+pair_back : Fields → Result (Float × Float) ℕ
+pair_back (read v at line) = Ok (get_or v 0 nan, get_or v 1 nan)
+pair_back (wrong line) = Err line
+
+two_back : Fields → Result (Point × Point) ℕ
+two_back (read v at line) = Ok (point_at (get_or v 0 nan) (get_or v 1 nan), point_at (get_or v 2 nan) (get_or v 3 nan))
+two_back (wrong line) = Err line
+
+three_back : Fields → Result (Point × Point × Point) ℕ
+three_back (read v at line) = Ok (point_at (get_or v 0 nan) (get_or v 1 nan), point_at (get_or v 2 nan) (get_or v 3 nan), point_at (get_or v 4 nan) (get_or v 5 nan))
+three_back (wrong line) = Err line
+
+pair_same : (r : Result (Float × Float) ℕ) (end line : ℕ) → pair_back (pair_fields r end line) ≡ r
+unfolding pair_back
+pair_same (Ok v) end line = refl
+pair_same (Err l) end line = refl
+
+two_same : (r : Result (Point × Point) ℕ) (end line : ℕ) → two_back (two_points_fields r end line) ≡ r
+unfolding two_back
+two_same (Ok p) end line = refl
+two_same (Err l) end line = refl
+
+three_same : (r : Result (Point × Point × Point) ℕ) (end line : ℕ) → three_back (three_points_fields r end line) ≡ r
+unfolding three_back
+three_same (Ok p) end line = refl
+three_same (Err l) end line = refl
+
+pub pair_settled : PairSettled
+pair_settled end line = told _ pair_back (λ r. pair_same r end line)
+
+pub two_points_settled : TwoPointsSettled
+two_points_settled end line = told _ two_back (λ r. two_same r end line)
+
+pub three_points_settled : ThreePointsSettled
+three_points_settled end line = told _ three_back (λ r. three_same r end line)
+
 -- ---- a command, back from what is read of it
 line_back : ℕ → BadLine
 line_back line = record { 0 = line }
@@ -345,5 +383,5 @@ pub read_settled : ReadSettled
 read_settled d r r' s s' c c' h k = (
   sym (read_same r s c) ∙ ap read_back (h ∙ sym k) ∙ read_same r' s' c',
   apart (either_told HasStopped store_back d (progress_of r s c) (progress_of r' s' c') (s, c) (s', c') h k
-  (store_told r s c (s', c')) (store_told r' s' c' (s', c'))),
+      (store_told r s c (s', c')) (store_told r' s' c' (s', c'))),
 )

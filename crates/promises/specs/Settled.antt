@@ -2,8 +2,7 @@
 -- what it was lent, and a definition over what it was given. So for each form that a contract has: two outcomes that satisfy it are the same, part by part. Which public
 -- function has which form is a table of docs/PROMISES.md, held to the sources by tests/settled/run.
 -- All NaNs are one value here; which bytes a NaN then has in an f32 column is not settled, and that is the one exception. Assumes nothing.
-use Rattle.std.specs.Prelude.{ℕ, ◌≤◌, ◌<◌, ◌≡◌, ◌⊎◌, Bool, List, ◌++◌, Option, None, Some, Result, ℤ, Float, length, drop}
-use Rattle.answer.specs.declared.Refusal.{Refusal}
+use Rattle.std.specs.Prelude.{ℕ, ◌≤◌, ◌<◌, ◌≡◌, ◌⊎◌, Bool, List, ◌++◌, Option, None, Some, Result, ℤ, Float, length, drop, [], ◌∷◌, Ok, Err}
 use Rattle.answer.specs.declared.Refusal.{Refusal}
 use Rattle.answer.specs.Answer.{Answer}
 use Rattle.primitives.specs.declared.State as stored
@@ -11,6 +10,7 @@ use Rattle.primitives.specs.declared.Edit as planned
 use Rattle.primitives.specs.Edits.{edited_or}
 use Rattle.primitives.specs.Edits.{State}
 use Rattle.store.specs.declared.Call.{Call}
+use Rattle.point.specs.declared.Point.{Point}
 use Rattle.store.specs.declared.StoreState.{StoreState}
 use Rattle.store.specs.Columns.{Columns, columns, state_at}
 use Rattle.store.specs.Drawing.{outcome}
@@ -25,7 +25,7 @@ use Rattle.flatten.specs.Flatten.{Flattened, Output, output, flattening}
 use Rattle.listing.specs.declared.BadLine.{BadLine}
 use Rattle.listing.specs.declared.Place.{Place}
 use Rattle.listing.specs.declared.Refused as stopping
-use Rattle.listing.specs.Reading.{Command, Drawing, Fault, Finish, call_as, command_as, Progress, stopped, progress_of}
+use Rattle.listing.specs.Reading.{wrong, read, Fields, Command, Drawing, Fault, Finish, call_as, command_as, Progress, stopped, progress_of}
 use Rattle.listing.specs.Writing.{listed, listed_as}
 use Rattle.listing.specs.Program.{listing_of}
 use Rattle.listing.specs.Told.{account_as, telling}
@@ -135,6 +135,28 @@ pub record Lists (text given : List ℕ) (r : Option ℕ) (left : List ℕ) : Ty
 
 abbrev pub ListingLists : Type 0
 ListingLists = (input given left : List ℕ) (r : Option ℕ) → listed r left ≡ listed_as (listing_of input) given → Lists (listing_of input) given r left
+
+-- ---- the fields of a listing: two values, two points or three points as they were read, or the line of the first fault
+abbrev pub pair_fields : Result (Float × Float) ℕ → ℕ → ℕ → Fields
+pair_fields (Ok v) at line = read (v.0 ∷ v.1 ∷ []) at line
+pair_fields (Err line') at line = wrong line'
+
+abbrev pub two_points_fields : Result (Point × Point) ℕ → ℕ → ℕ → Fields
+two_points_fields (Ok p) at line = read (p.0.x ∷ p.0.y ∷ p.1.x ∷ p.1.y ∷ []) at line
+two_points_fields (Err line') at line = wrong line'
+
+abbrev pub three_points_fields : Result (Point × Point × Point) ℕ → ℕ → ℕ → Fields
+three_points_fields (Ok p) at line = read (p.0.x ∷ p.0.y ∷ p.1.x ∷ p.1.y ∷ p.2.x ∷ p.2.y ∷ []) at line
+three_points_fields (Err line') at line = wrong line'
+
+abbrev pub PairSettled : Type 0
+PairSettled = (end line : ℕ) → Settles (λ (r : Result (Float × Float) ℕ). pair_fields r end line)
+
+abbrev pub TwoPointsSettled : Type 0
+TwoPointsSettled = (end line : ℕ) → Settles (λ (r : Result (Point × Point) ℕ). two_points_fields r end line)
+
+abbrev pub ThreePointsSettled : Type 0
+ThreePointsSettled = (end line : ℕ) → Settles (λ (r : Result (Point × Point × Point) ℕ). three_points_fields r end line)
 
 -- ---- inside the program: a command of a listing. It settles the result, and the place after the command unless there is none
 pub data NoCall : Command → Type 0 where
