@@ -35,7 +35,7 @@ returns-then-u-eq0 c =
 pub float_to_float-result : goal.float_to_float-result
 float_to_float-result c =
     let a = c.args in
-    narrows a.a a.b a.c (total a.a a.b a.c) (returns-then-u-eq0 c) c.if-is_nan-4.ensures.not_nan
+    narrows a.a a.b a.c (total a.a a.b a.c) (let w = c.well_formed in fast_zero a.a a.b a.c (held a.a w.0.1) (held a.b w.1.0.1) (held a.c w.1.1.0.1) c.if-is_nan-4.ensures.not_nan c.if-u-eq0.true) c.if-is_nan-4.ensures.not_nan
 
 pub overflow_add-result : goal.overflow_add-result
 overflow_add-result c = let a = c.args in record { fits = room a.a a.b a.c (record { from = c.if-e-lt898.false; to = c.if-e-gt1149.false; no_tie = c.if-u-eq268435456.false }) }
@@ -61,6 +61,6 @@ pub float_to_float-result-2 : goal.float_to_float-result-2
 float_to_float-result-2 c =
     let a = c.args in
     let u = to_bits binary64 (total a.a a.b a.c) in
-    narrows a.a a.b a.c (of_bits binary64 (shorter u)) (returns c)
+    narrows a.a a.b a.c (of_bits binary64 (shorter u)) (let w = c.well_formed in fast a.a a.b a.c (held a.a w.0.1) (held a.b w.1.0.1) (held a.c w.1.1.0.1) c.if-is_nan-4.ensures.not_nan (record { from = c.if-e-lt898.false; to = c.if-e-gt1149.false; no_tie = c.if-u-eq268435456.false }))
     (subst (λ (b : Bool). T (not b)) (nan_bits_is binary64 (shorter u))
     (shorter_no_nan u (record { from = c.if-e-lt898.false; to = c.if-e-gt1149.false; no_tie = c.if-u-eq268435456.false })))
