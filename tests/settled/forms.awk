@@ -199,7 +199,8 @@ function form_of(head, name,    i, k, lent, list, n, param, type, returns, bodie
             if ((" " sides[2] " ") ~ /[ (]result[ ).]/) problem = "the right side of its contract names the result: " sides[2]
             # what a reference in a struct refers to
             while (match(sides[1], /\.new\.[a-z_]+\.now/)) sides[1] = substr(sides[1], 1, RSTART + RLENGTH - 5) substr(sides[1], RSTART + RLENGTH)
-            # a form may need something that was given, as the state that a refusal keeps: the theorem that settles it is for any
+            # one form needs something that was given, the state that a refusal keeps: the theorem that settles it is for any
+            if (sides[1] ~ /\.(old|now)/ && sides[1] != "edited_or self.now.st result") problem = "the left side of its contract reads what was given: " sides[1]
             gsub(/[a-z_]+\.(old|now)(\.[a-z_]+)*/, "given", sides[1])
             used = used sides[1] " "
             sides[1] = left_form(sides[1]) " ≡ …"
