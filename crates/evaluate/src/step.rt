@@ -2,8 +2,7 @@
 ghost use Rattle.std.specs.Prelude.{◌≡◌, ◌≤◌};
 ghost use Rattle.leaves.specs.Single.{whole32};
 ghost use Rattle.tables.specs.Lent.{quads_of};
-ghost use Rattle.tables.specs.Tables.{quad_row_at, sum_at_of};
-ghost use Rattle.walk.specs.Walk.{cursor_at_of};
+ghost use Rattle.tables.specs.Tables.{quad_row_at};
 ghost use Rattle.evaluate.specs.Evaluate.{previous_sum_of, step_quad_of, parameter_of, step_point_of};
 
 use crate::StepQuad;
@@ -20,14 +19,6 @@ fn previous_sum(quads: &QuadColumns<'_>, i: usize) -> f32
         return quads.sum_at(i - 1);
     }
     0.0
-}
-
-// The quad cursor for step p.
-pub fn step_cursor(quads: &QuadColumns<'_>, p: u32, cursor: usize) -> usize
-    requires { p ≤ 65537 }
-    ensures { result ≡ cursor_at_of (sum_at_of quads.now.quad_rows.now cursor) (whole32 p) cursor }
-{
-    walk::cursor_at(quads, p as f32, cursor)
 }
 
 impl StepQuad {

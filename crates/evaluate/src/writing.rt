@@ -9,7 +9,7 @@ ghost use Rattle.evaluate.specs.Output.{fits_output};
 ghost use Rattle.evaluate.specs.Writing.{written, write_entry_of, write_start_of, write_steps_of, end_cursor_of, write_spline_of, write_walk_of};
 ghost use Rattle.evaluate.specs.Delivery.{delivers, deliver_of};
 
-use crate::{Outputs, Place, StepQuad, step};
+use crate::{Outputs, Place, StepQuad};
 use columns::{flag_byte, write};
 use command::PointCommand;
 use point::{Point, Setting};
@@ -74,7 +74,7 @@ fn write_steps(
     let mut at = from.at;
     let mut cursor = from.cursor;
     for p in 1..=n {
-        cursor = step::step_cursor(quads, p, cursor);
+        cursor = walk::cursor_at(quads, p as f32, cursor);
         let quad = StepQuad::at(quads, cursor);
         let point = quad.point(size, p);
         outputs.write_entry(at, word, point, false);

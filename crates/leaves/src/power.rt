@@ -1,6 +1,6 @@
 // Sixth powers of numbers of 24 binary digits, whole: 144 digits, 32 to a limb and the rest in the top one. The four limbs are a scratch that is lent and used
 // again for each power.
-ghost use Rattle.std.specs.Prelude.{◌≡◌, ◌*◌, ◌^◌, ◌<◌, leb, length};
+ghost use Rattle.std.specs.Prelude.{◌≡◌, ◌*◌, ◌^◌, ◌<◌, leb};
 ghost use Rattle.leaves.specs.Power.{Limbs, number};
 
 // p * s in the place of p, limb by limb, with the carry passed on to the next.
@@ -22,7 +22,6 @@ fn times(p: &mut [u64; 4], s: u64)
 
 // s alone, whatever the scratch held.
 fn start(p: &mut [u64; 4], s: u64)
-    requires p_len { length p.old ≡ 4 }
     requires s_bound { s < 2 ^ 24 }
     ensures { Limbs p.new × (number p.new ≡ s ^ 1) }
 {
@@ -34,7 +33,6 @@ fn start(p: &mut [u64; 4], s: u64)
 
 // The sixth power of an s that has nothing below its ten leading digits h: that of h has 60 digits.
 fn short_power(p: &mut [u64; 4], h: u64)
-    requires p_len { length p.old ≡ 4 }
     requires h_bound { h < 1024 }
     ensures { Limbs p.new × (number p.new ≡ (h * 2 ^ 14) ^ 6) }
 {
@@ -48,7 +46,6 @@ fn short_power(p: &mut [u64; 4], h: u64)
 
 // s ^ 6.
 fn sixth_power(p: &mut [u64; 4], s: u64)
-    requires p_len { length p.old ≡ 4 }
     requires s_bound { s < 2 ^ 24 }
     ensures { Limbs p.new × (number p.new ≡ s ^ 6) }
 {
@@ -78,9 +75,8 @@ fn at_most(p: &[u64; 4], t: u64) -> bool
 
 // Whether s ^ 6 is at most t * 2 ^ 96.
 pub fn under(p: &mut [u64; 4], s: u64, t: u64) -> bool
-    requires p_len { length p.old ≡ 4 }
     requires s_bound { s < 2 ^ 24 }
-    ensures { (length p.new ≡ 4) × (result ≡ leb (s ^ 6) (t * 2 ^ 96)) }
+    ensures { result ≡ leb (s ^ 6) (t * 2 ^ 96) }
 {
     sixth_power(p, s);
     at_most(p, t)

@@ -13,7 +13,7 @@ unfolding quad_row_at
 loop-p-preserved c = record {
   lent = search rules;
   stepping =
-      stepping_more c.loop-p.invariant.stepping c.loop-p-test.true c.step_cursor-cursor.ensures c.at-quad.ensures
+      stepping_more c.loop-p.invariant.stepping c.loop-p-test.true c.cursor_at-cursor.ensures c.at-quad.ensures
       c.point-point.ensures c.from-word.ensures c.write_entry.ensures.written;
 }
 
@@ -25,6 +25,6 @@ pub returns-2-clause-written : goal.returns-2-clause-written
 unfolding quad_row_at
 returns-2-clause-written c =
     stepping_end
-    (stepping_more c.loop-p.invariant.stepping c.loop-p-test.true c.step_cursor-cursor.ensures c.at-quad.ensures
+    (stepping_more c.loop-p.invariant.stepping c.loop-p-test.true c.cursor_at-cursor.ensures c.at-quad.ensures
     c.point-point.ensures c.from-word.ensures c.write_entry.ensures.written)
     (omega arith)

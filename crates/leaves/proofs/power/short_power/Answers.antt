@@ -27,5 +27,5 @@ pub returns : goal.returns
 returns c =
     let a = c.args in
     let s = a.h * a.h * a.h in
-    short_is a.p.now (s * s) ((a.h * 2 ^ 14) ^ 6) c.requires.p_len
+    short_is a.p.now (s * s) ((a.h * 2 ^ 14) ^ 6) c.told-p
     (ap (λ (x : ℕ). x * 2 ^ 84) (sixth a.h) ∙ sym (mul_pow a.h (2 ^ 14) 6))
