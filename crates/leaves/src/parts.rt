@@ -42,6 +42,29 @@ pub fn place(b: u32) -> u64
     if x == 0 { 0 } else { (x - 1) as u64 }
 }
 
+// A positive finite float, taken apart for its roots.
+#[derive(Clone, Copy)]
+pub struct Positive {
+    pub digits: u64,
+    pub place: u64,
+    pub ghost some: { 0 < digits },
+    pub ghost digits_bound: { digits < 2 ^ 24 },
+    pub ghost place_bound: { place < 1024 },
+}
+
+impl Positive {
+    // Of the pattern b.
+    pub fn of(b: u32) -> Self
+        requires { 0 < Parts.sig binary32 b }
+        ensures { (result.digits ≡ Parts.sig binary32 b) × (result.place ≡ Parts.place binary32 b) }
+    {
+        Positive {
+            digits: digits(b),
+            place: place(b),
+        }
+    }
+}
+
 // The f32 of the sign s and q * 2 ^ k smallest values. The sum carries into the exponent's field by
 // itself, and subnormals need no case.
 pub fn join(s: bool, q: u64, k: u64) -> f32

@@ -4,7 +4,7 @@ ghost use Rattle.std.specs.Float.{binary32};
 ghost use Rattle.rounding.specs.Roots.{rooted, IsNear};
 ghost use Rattle.leaves.specs.Sqrt.{sqrt32};
 
-use crate::parts;
+use crate::parts::{self, Positive};
 
 // About 2 ^ 16 over the root of 1 + f / 2 ^ 23, or of twice that, by a cubic polynomial. Of this
 // function and of `guess` only bounds are proved: `settle` makes the answer right.
@@ -49,18 +49,14 @@ fn settle(n: u64, start: u64) -> u64
     r
 }
 
-// The root of m * 2 ^ e smallest values. n has 47 or 48 digits and leaves an even exponent, so its
-// root has the 24 that stay.
-fn root_parts(m: u64, e: u64) -> f32
-    requires m_nonzero { 0 < m }
-    requires m_bound { m < 2 ^ 24 }
-    requires e_bound { e < 1024 }
-    ensures { result ≡ rooted binary32 (m * 2 ^ e * 2 ^ 149) }
+// The root of x. n has 47 or 48 digits and leaves an even exponent, so its root has the 24 that stay.
+fn root_parts(x: Positive) -> f32
+    ensures { result ≡ rooted binary32 (x.digits * 2 ^ x.place * 2 ^ 149) }
 {
     // 0, except for a subnormal
-    let l = parts::lift::<24>(m);
-    let w = m << l;
-    let p = e + 126 - l;
+    let l = parts::lift::<24>(x.digits);
+    let w = x.digits << l;
+    let p = x.place + 126 - l;
     let t = p % 2;
     let n = w * 0x80_0000 * (1 + t);
     let r = settle(n, guess(n, inverse(w - 0x80_0000, t == 0)));
@@ -74,8 +70,7 @@ pub fn sqrt(x: f32) -> f32
 {
     if x > 0.0 {
         if x < f32::INFINITY {
-            let b = f32::to_bits(x);
-            return root_parts(parts::digits(b), parts::place(b));
+            return root_parts(Positive::of(f32::to_bits(x)));
         }
         return x;
     }

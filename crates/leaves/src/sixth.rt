@@ -4,7 +4,8 @@ ghost use Rattle.std.specs.Float.{binary32};
 ghost use Rattle.rounding.specs.Roots.{root, IsRoot, cut_to};
 ghost use Rattle.leaves.specs.Sixth.{sixth_root_of};
 
-use crate::{parts, power};
+use crate::parts::{self, Positive};
+use crate::power;
 
 // The largest r with r ^ 6 at most t * 2 ^ 96, a binary digit at a time from the top one down, each tried in the same scratch.
 fn settle(t: u64) -> u64
@@ -22,26 +23,21 @@ fn settle(t: u64) -> u64
     r
 }
 
-// How many places k up the root's last digit stands. Its power counts m * 2 ^ (e + 745): six places for each k, 96 below the scratch's top limb, and by the rest m is
-// shifted left to 43 to 48 digits.
-fn root_place(m: u64, e: u64) -> u64
-    requires m_nonzero { 0 < m }
-    requires m_bound { m < 2 ^ 24 }
-    requires e_bound { e < 1024 }
-    ensures { (result * 6 ≤ e + 649) × (e + 649 - result * 6 < 64) × (2 ^ 42 ≤ m * 2 ^ (e + 649 - result * 6)) × (m * 2 ^ (e + 649 - result * 6) < 2 ^ 48) }
+// How many places k up the root's last digit stands. Its power counts x.digits * 2 ^ (x.place + 745): six places for each k, 96 below the scratch's top limb, and by
+// the rest the digits are shifted left to 43 to 48.
+fn root_place(x: Positive) -> u64
+    ensures { (result * 6 ≤ x.place + 649) × (x.place + 649 - result * 6 < 64) × (2 ^ 42 ≤ x.digits * 2 ^ (x.place + 649 - result * 6)) × (x.digits * 2 ^ (x.place + 649 - result * 6) < 2 ^ 48) }
 {
-    (e + 670 - (u64::leading_zeros(m) as u64)) / 6
+    (x.place + 670 - (u64::leading_zeros(x.digits) as u64)) / 6
 }
 
-// The root of m * 2 ^ e smallest values.
-fn sixth_parts(m: u64, e: u64) -> f32
-    requires m_nonzero { 0 < m }
-    requires m_bound { m < 2 ^ 24 }
-    requires e_bound { e < 1024 }
-    ensures { result ≡ cut_to binary32 (root 6 (m * 2 ^ e * 2 ^ 745)) }
+// The root of x.
+fn sixth_parts(x: Positive) -> f32
+    ensures { result ≡ cut_to binary32 (root 6 (x.digits * 2 ^ x.place * 2 ^ 745)) }
 {
-    let k = root_place(m, e);
-    parts::join(false, settle(m << (e + 649 - k * 6)), k)
+    let k = root_place(x);
+    let t = x.digits << (x.place + 649 - k * 6);
+    parts::join(false, settle(t), k)
 }
 
 // The largest f32 whose sixth power is at most q.
@@ -50,8 +46,7 @@ pub fn sixth_root(q: f32) -> f32
 {
     if q > 0.0 {
         if q < f32::INFINITY {
-            let b = f32::to_bits(q);
-            return sixth_parts(parts::digits(b), parts::place(b));
+            return sixth_parts(Positive::of(f32::to_bits(q)));
         }
         return q;
     }

@@ -5,13 +5,12 @@ ghost use Rattle.leaves.specs.Whole.{whole_up_of, whole_near_of};
 
 use crate::parts;
 
-// t / 2 ^ d, down to a whole number. `whole_above` and `whole_nearest` stay beside it: each adds a term of its own before the shift, and `whole_above` may give 1
-// where d > 38, so a shared function would take both from each caller.
+// t / 2 ^ d, down to a whole number. `whole_above` and `whole_nearest` stay beside it: each adds a term of its own before the shift, which a t of 24 digits leaves
+// room for, and `whole_above` may give 1 where d > 38, so a shared function would take both from each caller.
 fn whole_below(t: u64, d: u64) -> u64
-    requires { t < 2 ^ 24 }
     ensures { result ≡ t / 2 ^ d }
 {
-    if d > 38 {
+    if d > 63 {
         return 0;
     }
     t >> d

@@ -72,9 +72,9 @@ module _ (m l : ℕ) (lo : 2 ^ 23 ≤ m * 2 ^ l) (hi : m * 2 ^ l < 2 ^ 24) where
 pub returns : goal.returns
 returns c =
     let f = c.lift-l in
-    let a = c.args in
+    let a = c.args.x in
     let l = f.result in
     c.join.ensures
-    ∙ value (a.m * 2 ^ l % 2 ^ 64) (a.e + 126 - l) c.settle-r.result (low a.m l f.ensures.1 f.ensures.2)
-    (high a.m l f.ensures.1 f.ensures.2) c.settle-r.ensures
-    a.m a.e l (same a.m l f.ensures.1 f.ensures.2) refl f.ensures.0
+    ∙ value (a.digits * 2 ^ l % 2 ^ 64) (a.place + 126 - l) c.settle-r.result (low a.digits l f.ensures.1 f.ensures.2)
+    (high a.digits l f.ensures.1 f.ensures.2) c.settle-r.ensures
+    a.digits a.place l (same a.digits l f.ensures.1 f.ensures.2) refl f.ensures.0

@@ -44,14 +44,14 @@ module _ (e z : ℕ) (h : 21 ≤ z) (k : z - 21 ≤ 42) where
 
 pub returns : goal.returns
 returns c =
-    let a = c.args in
-    let v = known a.m c.requires.m_nonzero c.requires.m_bound in
-    let z = count_leading_zeros 64 a.m in
-    let d = (a.e + 670 - z) % 6 in
-    let f = five_more a.m (z - 21) d (mod-lt (a.e + 670 - z) (zero-lt-suc 5)) v.2 v.3 in
-    let g = shift_is a.e z v.0 v.1 in (
-      sixes_le a.e z v.0 v.1,
-      shift_lt a.e z v.0 v.1,
-      subst (λ (l : ℕ). 4398046511104 ≤ a.m * 2 ^ l) g f.0,
-      subst (λ (l : ℕ). a.m * 2 ^ l < 281474976710656) g f.1,
+    let a = c.args.x in
+    let v = known a.digits a.some a.digits_bound in
+    let z = count_leading_zeros 64 a.digits in
+    let d = (a.place + 670 - z) % 6 in
+    let f = five_more a.digits (z - 21) d (mod-lt (a.place + 670 - z) (zero-lt-suc 5)) v.2 v.3 in
+    let g = shift_is a.place z v.0 v.1 in (
+      sixes_le a.place z v.0 v.1,
+      shift_lt a.place z v.0 v.1,
+      subst (λ (l : ℕ). 4398046511104 ≤ a.digits * 2 ^ l) g f.0,
+      subst (λ (l : ℕ). a.digits * 2 ^ l < 281474976710656) g f.1,
     )

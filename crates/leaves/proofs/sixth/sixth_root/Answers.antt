@@ -1,13 +1,10 @@
 -- `leaves::sixth::sixth_root` meets its contract. Assumes nothing.
 use mathlib.Core.Path.{◌≡◌, refl, sym, ap₂, ◌∙◌}
 use mathlib.Core.Bool.{true, false}
-use Prim.Native.Nat.{ℕ, ◌*◌, ◌^◌, ◌<◌}
-use native.Mathlib.Nat.{lt_of_lt_of_le, lt_of_le_of_lt, le_of_eq}
-use native.Mathlib.Omega.{arith}
+use Prim.Native.Nat.{ℕ, ◌*◌, ◌^◌}
 use lib.Dec.{leb}
 use lib.Ieee.{binary32, nan, to_bits, lt, of_bits}
 use Rattle.rounding.specs.Parts.{sig, place}
-use Rattle.rounding.proofs.Parts.{sig_lt, place_le}
 use Rattle.rounding.specs.Roots.{root, cut_to}
 use Rattle.leaves.proofs.Comparisons.{plain, zero_is, above, under, level, held, sig_pos, bits_value}
 use Rattle.leaves.proofs.SixthParts.{root_value, at_infinity, at_zero, elsewhere}
@@ -17,12 +14,10 @@ nan_is : of_bits binary32 0x7fc0_0000 ≡ nan
 unfolding of_bits
 nan_is = refl
 
-pub sixth_parts-requires : goal.sixth_parts-requires
-sixth_parts-requires c =
+pub of-requires : goal.of-requires
+of-requires c =
     let x = c.args.q in
-    let b = to_bits binary32 x in
-    let p : 0 < sig binary32 b = sig_pos x (held x c.well_formed.0.1) (above x true c.if-q.true)
-    (under x true c.if-q-2.true) in record { m_nonzero = lt_of_lt_of_le p (le_of_eq (sym c.digits.ensures)); m_bound = lt_of_le_of_lt (le_of_eq c.digits.ensures) (sig_lt binary32 b); e_bound = omega (arith, c.place.ensures, place_le binary32 b) }
+    sig_pos x (held x c.well_formed.0.1) (above x true c.if-q.true) (under x true c.if-q-2.true)
 
 pub returns-then-q-2 : goal.returns-then-q-2
 returns-then-q-2 c =
@@ -30,7 +25,7 @@ returns-then-q-2 c =
     let b = to_bits binary32 x in
     let h : lt plain x ≡ true = above x true c.if-q.true in
     c.sixth_parts.ensures
-    ∙ ap₂ (λ (m e : ℕ). cut_to binary32 (root 6 (m * 2 ^ e * 2 ^ 745))) c.digits.ensures c.place.ensures
+    ∙ ap₂ (λ (m e : ℕ). cut_to binary32 (root 6 (m * 2 ^ e * 2 ^ 745))) c.of.ensures.0 c.of.ensures.1
     ∙ root_value x (leb 2147483648 b) (sig binary32 b * 2 ^ place binary32 b) h
     (bits_value x (held x c.well_formed.0.1) h (under x true c.if-q-2.true))
 

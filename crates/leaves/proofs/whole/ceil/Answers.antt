@@ -67,11 +67,6 @@ returns-then-p-ge149 c =
     p.result c.minus.ensures t.ensures p.ensures)
     (p.result - 149) (add-sub_of_le c.if-p-ge149.true)
 
-pub whole_below-requires : goal.whole_below-requires
-whole_below-requires c =
-    let x = c.args.x in digits_lt c.digits-t.result
-    (to_bits binary32 x) c.digits-t.ensures
-
 pub rounded-requires-then-minus : goal.rounded-requires-then-minus
 rounded-requires-then-minus c =
     let x = c.args.x in

@@ -6,8 +6,8 @@ use native.Mathlib.Nat.{div-eq_of_lt, lt_of_lt_of_le}
 use lib.Pow.{pow_mono}
 use Rattle.leaves.proofs.whole.whole_below.Goals as goal
 
-pub returns-then-d-gt38 : goal.returns-then-d-gt38
-returns-then-d-gt38 c = sym (div-eq_of_lt (lt_of_lt_of_le c.requires (pow_mono (far c.args.d c.if-d-gt38.true))))
+pub returns-then-d-gt63 : goal.returns-then-d-gt63
+returns-then-d-gt63 c = sym (div-eq_of_lt (lt_of_lt_of_le c.ranges.t.fits (pow_mono (far c.args.d c.if-d-gt63.true))))
   where
-    far : (d : ℕ) → 38 < d → 24 ≤ d
+    far : (d : ℕ) → 63 < d → 64 ≤ d
     far d h = omega arith
