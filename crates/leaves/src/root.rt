@@ -49,18 +49,20 @@ fn settle(n: u64, start: u64) -> u64
     r
 }
 
-// The root of x. n has 47 or 48 digits and leaves an even exponent, so its root has the 24 that stay.
-fn root_parts(x: Positive) -> f32
-    ensures { result ≡ rooted binary32 (x.digits * 2 ^ x.place * 2 ^ 149) }
-{
-    // 0, except for a subnormal
-    let l = parts::lift::<24>(x.digits);
-    let w = x.digits << l;
-    let p = x.place + 126 - l;
-    let t = p % 2;
-    let n = w * 0x80_0000 * (1 + t);
-    let r = settle(n, guess(n, inverse(w - 0x80_0000, t == 0)));
-    parts::join(false, r, p / 2)
+impl Positive {
+    // The square root. n has 47 or 48 digits and leaves an even exponent, so its root has the 24 that stay.
+    pub fn root(self) -> f32
+        ensures { result ≡ rooted binary32 (self.digits * 2 ^ self.place * 2 ^ 149) }
+    {
+        // 0, except for a subnormal
+        let l = parts::lift::<24>(self.digits);
+        let w = self.digits << l;
+        let p = self.place + 126 - l;
+        let t = p % 2;
+        let n = w * 0x80_0000 * (1 + t);
+        let r = settle(n, guess(n, inverse(w - 0x80_0000, t == 0)));
+        parts::join(false, r, p / 2)
+    }
 }
 
 // `sixth_root` makes the same tests. One function with a closure for the positive numbers would be no plainer: the two differ at -0, and its contract would have to say
@@ -70,7 +72,7 @@ pub fn sqrt(x: f32) -> f32
 {
     if x > 0.0 {
         if x < f32::INFINITY {
-            return root_parts(Positive::of(f32::to_bits(x)));
+            return Positive::of(f32::to_bits(x)).root();
         }
         return x;
     }

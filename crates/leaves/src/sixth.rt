@@ -23,21 +23,23 @@ fn settle(t: u64) -> u64
     r
 }
 
-// How many places k up the root's last digit stands. Its power counts x.digits * 2 ^ (x.place + 745): six places for each k, 96 below the scratch's top limb, and by
-// the rest the digits are shifted left to 43 to 48.
-fn root_place(x: Positive) -> u64
-    ensures { (result * 6 ≤ x.place + 649) × (x.place + 649 - result * 6 < 64) × (2 ^ 42 ≤ x.digits * 2 ^ (x.place + 649 - result * 6)) × (x.digits * 2 ^ (x.place + 649 - result * 6) < 2 ^ 48) }
-{
-    (x.place + 670 - (u64::leading_zeros(x.digits) as u64)) / 6
-}
+impl Positive {
+    // How many places k up the root's last digit stands. Its power counts digits * 2 ^ (place + 745): six places for each k, 96 below the scratch's top limb, and by
+    // the rest the digits are shifted left to 43 to 48.
+    fn root_place(self) -> u64
+        ensures { (result * 6 ≤ self.place + 649) × (self.place + 649 - result * 6 < 64) × (2 ^ 42 ≤ self.digits * 2 ^ (self.place + 649 - result * 6)) × (self.digits * 2 ^ (self.place + 649 - result * 6) < 2 ^ 48) }
+    {
+        (self.place + 670 - (u64::leading_zeros(self.digits) as u64)) / 6
+    }
 
-// The root of x.
-fn sixth_parts(x: Positive) -> f32
-    ensures { result ≡ cut_to binary32 (root 6 (x.digits * 2 ^ x.place * 2 ^ 745)) }
-{
-    let k = root_place(x);
-    let t = x.digits << (x.place + 649 - k * 6);
-    parts::join(false, settle(t), k)
+    // The sixth root.
+    pub fn sixth_root(self) -> f32
+        ensures { result ≡ cut_to binary32 (root 6 (self.digits * 2 ^ self.place * 2 ^ 745)) }
+    {
+        let k = self.root_place();
+        let t = self.digits << (self.place + 649 - k * 6);
+        parts::join(false, settle(t), k)
+    }
 }
 
 // The largest f32 whose sixth power is at most q.
@@ -46,7 +48,7 @@ pub fn sixth_root(q: f32) -> f32
 {
     if q > 0.0 {
         if q < f32::INFINITY {
-            return sixth_parts(Positive::of(f32::to_bits(q)));
+            return Positive::of(f32::to_bits(q)).sixth_root();
         }
         return q;
     }

@@ -24,7 +24,7 @@ returns-then-x-2 c =
     let x = c.args.x in
     let b = to_bits binary32 x in
     let h : lt plain x ≡ true = above x true c.if-x.true in
-    c.root_parts.ensures
+    c.root.ensures
     ∙ ap₂ (λ (m e : ℕ). rooted binary32 (m * 2 ^ e * 2 ^ 149)) c.of.ensures.0 c.of.ensures.1
     ∙ root_value x (leb 2147483648 b) (sig binary32 b * 2 ^ place binary32 b) h
     (bits_value x (held x c.well_formed.0.1) h (under x true c.if-x-2.true))

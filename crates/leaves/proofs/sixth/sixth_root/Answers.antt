@@ -24,7 +24,7 @@ returns-then-q-2 c =
     let x = c.args.q in
     let b = to_bits binary32 x in
     let h : lt plain x ≡ true = above x true c.if-q.true in
-    c.sixth_parts.ensures
+    c.sixth_root.ensures
     ∙ ap₂ (λ (m e : ℕ). cut_to binary32 (root 6 (m * 2 ^ e * 2 ^ 745))) c.of.ensures.0 c.of.ensures.1
     ∙ root_value x (leb 2147483648 b) (sig binary32 b * 2 ^ place binary32 b) h
     (bits_value x (held x c.well_formed.0.1) h (under x true c.if-q-2.true))

@@ -1,4 +1,4 @@
--- `leaves::sixth::root_place` meets its contract. Shifted left by its leading zeros less 21, m has 43 digits, and the rest of a division by six is at most five
+-- `leaves::parts::Positive::root_place` meets its contract. Shifted left by its leading zeros less 21, m has 43 digits, and the rest of a division by six is at most five
 -- more. Assumes nothing.
 use mathlib.Core.Path.{◌≡◌, refl, sym, ap, ◌∙◌, subst}
 use Prim.Native.Nat.{ℕ, ◌+◌, ◌-◌, ◌*◌, ◌/◌, ◌%◌, ◌^◌, ◌≤◌, ◌<◌}
@@ -8,7 +8,7 @@ use lib.Count.{count_leading_zeros}
 use lib.Dec.{lit≤, lit<}
 use lib.Pow.{pow-add, pow_pos, pow_mono}
 use Rattle.rounding.proofs.Lifts.{lifted}
-use Rattle.leaves.proofs.sixth.root_place.Goals as goal
+use Rattle.leaves.proofs.parts.Positive.root_place.Goals as goal
 
 module _ (m : ℕ) (M : 0 < m) (L : m < 16777216) where
   known : (21 ≤ count_leading_zeros 64 m) × (count_leading_zeros 64 m - 21 ≤ 42) × (4398046511104 ≤ m * 2 ^ (count_leading_zeros 64 m - 21)) ×
@@ -44,7 +44,7 @@ module _ (e z : ℕ) (h : 21 ≤ z) (k : z - 21 ≤ 42) where
 
 pub returns : goal.returns
 returns c =
-    let a = c.args.x in
+    let a = c.args.self in
     let v = known a.digits a.some a.digits_bound in
     let z = count_leading_zeros 64 a.digits in
     let d = (a.place + 670 - z) % 6 in

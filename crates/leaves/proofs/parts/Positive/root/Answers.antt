@@ -1,4 +1,4 @@
--- `leaves::root::root_parts` meets its contract. n has 47 or 48 digits, so the nearest whole number to its root has the 24 that stay. Assumes nothing.
+-- `leaves::parts::Positive::root` meets its contract. n has 47 or 48 digits, so the nearest whole number to its root has the 24 that stay. Assumes nothing.
 use mathlib.Core.Path.{◌≡◌, refl, sym, ap, ◌∙◌, subst}
 use mathlib.Core.Logic.{◌⊎◌, inr}
 use mathlib.Core.Bool.{false}
@@ -11,7 +11,7 @@ use lib.Ieee.{binary32, units}
 use Rattle.facts.proofs.Numbers.{no_digit}
 use Rattle.rounding.specs.Roots.{rooted, IsNear}
 use Rattle.rounding.proofs.RootTest.{near_ge, near_le, rooted_near}
-use Rattle.leaves.proofs.root.root_parts.Goals as goal
+use Rattle.leaves.proofs.parts.Positive.root.Goals as goal
 
 regroup : (m e l a k : ℕ) → l + (a + (k + k)) ≡ e + 149 → m * 2 ^ l * 2 ^ a * (2 ^ k * 2 ^ k) ≡ m * 2 ^ e * 2 ^ 149
 regroup m e l a k h =
@@ -72,7 +72,7 @@ module _ (m l : ℕ) (lo : 2 ^ 23 ≤ m * 2 ^ l) (hi : m * 2 ^ l < 2 ^ 24) where
 pub returns : goal.returns
 returns c =
     let f = c.lift-l in
-    let a = c.args.x in
+    let a = c.args.self in
     let l = f.result in
     c.join.ensures
     ∙ value (a.digits * 2 ^ l % 2 ^ 64) (a.place + 126 - l) c.settle-r.result (low a.digits l f.ensures.1 f.ensures.2)
