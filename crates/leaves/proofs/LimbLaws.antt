@@ -24,15 +24,15 @@ top_lt a b c d s h =
 less : (a b : ℕ) → a < suc b → a ≤ b
 less a b h = omega arith
 
--- a lower limb times a number of 24 digits
-product_le : (a s : ℕ) → a < 2 ^ 32 → s < 2 ^ 24 → a * s ≤ (2 ^ 32 - 1) * (2 ^ 24 - 1)
-product_le a s h k = mul-le-mul (less a 4294967295 h) (less s 16777215 k)
+-- a lower limb times a number of 32 digits
+product_le : (a s : ℕ) → a < 2 ^ 32 → s < 2 ^ 32 → a * s ≤ (2 ^ 32 - 1) * (2 ^ 32 - 1)
+product_le a s h k = mul-le-mul (less a 4294967295 h) (less s 4294967295 k)
 
-sum_fits_lem : (x y : ℕ) → x ≤ (2 ^ 32 - 1) * (2 ^ 24 - 1) → y < 2 ^ 64 → x + y / 2 ^ 32 < 2 ^ 64
+sum_fits_lem : (x y : ℕ) → x ≤ (2 ^ 32 - 1) * (2 ^ 32 - 1) → y < 2 ^ 64 → x + y / 2 ^ 32 < 2 ^ 64
 sum_fits_lem x y h k = omega arith
 
 -- the four limbs, as the code makes them
-module _ (p : List ℕ) (s : ℕ) (l : Limbs p) (k : s < 2 ^ 24) where
+module _ (p : List ℕ) (s : ℕ) (l : Limbs p) (k : s < 2 ^ 32) where
   pub fits : (x : ℕ) → x < 2 ^ 32 → x * s < 2 ^ 64
   fits x h = lt_of_le_of_lt (product_le x s h k) (lit< tt)
 
@@ -129,9 +129,9 @@ first : (s : ℕ) → whole s 0 0 0 ≡ s ^ 1
 unfolding whole
 first s = add-zero s ∙ sym (pow-suc s 0 ∙ ap (λ (x : ℕ). x * s) (pow-zero s) ∙ one-mul s)
 
-pub start_is : (p : List ℕ) (s : ℕ) → length p ≡ 4 → s < 2 ^ 24 → Limbs (filled p s 0 0 0) × (number (filled p s 0 0 0) ≡ s ^ 1)
+pub start_is : (p : List ℕ) (s : ℕ) → length p ≡ 4 → s < 2 ^ 32 → Limbs (filled p s 0 0 0) × (number (filled p s 0 0 0) ≡ s ^ 1)
 start_is p s e h =
-    stored p s 0 0 0 (s ^ 1) e (record { size = refl; a_lt = lt_of_lt_of_le h (lit≤ tt); b_lt = lit< tt; c_lt = lit< tt }, first s)
+    stored p s 0 0 0 (s ^ 1) e (record { size = refl; a_lt = h; b_lt = lit< tt; c_lt = lit< tt }, first s)
 
 -- a number of sixty digits, 84 places up
 up : (x : ℕ) → whole 0 0 (x % 2 ^ 12 * 2 ^ 20) (x / 2 ^ 12) ≡ x * 2 ^ 84

@@ -18,6 +18,7 @@ pub fn finite(x: f32) -> bool
     }
 }
 
+// `minus`, `digits` and `place` are functions of a pattern, since the library has none of them and definitions speak of a pattern's parts.
 pub fn minus(b: u32) -> bool
     ensures { result ≡ leb (top binary32) b }
 {
@@ -47,9 +48,9 @@ pub fn place(b: u32) -> u64
 pub struct Positive {
     pub digits: u64,
     pub place: u64,
-    pub ghost some: { 0 < digits },
-    pub ghost digits_bound: { digits < 2 ^ 24 },
-    pub ghost place_bound: { place < 1024 },
+    ghost some: { 0 < digits },
+    ghost digits_bound: { digits < 2 ^ 24 },
+    ghost place_bound: { place < 1024 },
 }
 
 impl Positive {

@@ -1,4 +1,5 @@
-// The bits of an f32, and the f32 of any bits. In Rattle all NaNs are one value.
+// The bits of an f32, and the f32 of any bits. In Rattle all NaNs are one value, and `f32::to_bits` and `f32::from_bits` require that there is none, so these two are
+// leaves of their own, and definitions name them.
 ghost use Rattle.std.specs.Prelude.{◌≡◌};
 ghost use Rattle.leaves.specs.Bits.{bits_of, float_of};
 

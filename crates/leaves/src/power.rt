@@ -4,12 +4,12 @@ ghost use Rattle.std.specs.Prelude.{◌≡◌, ◌*◌, ◌^◌, ◌<◌, leb};
 ghost use Rattle.leaves.specs.Power.{Limbs, number};
 
 // p * s in the place of p, limb by limb, with the carry passed on to the next.
-fn times(p: &mut [u64; 4], s: u64)
+fn times(p: &mut [u64; 4], s: u32)
     requires limbs { Limbs p.old }
-    requires s_bound { s < 2 ^ 24 }
     requires product_bound { number p.old * s < 2 ^ 144 }
     ensures { Limbs p.new × (number p.new ≡ number p.old * s) }
 {
+    let s = s as u64;
     let a = p[0] * s;
     let b = p[1] * s + a / 0x1_0000_0000;
     let c = p[2] * s + b / 0x1_0000_0000;
@@ -21,11 +21,10 @@ fn times(p: &mut [u64; 4], s: u64)
 }
 
 // s alone, whatever the scratch held.
-fn start(p: &mut [u64; 4], s: u64)
-    requires s_bound { s < 2 ^ 24 }
+fn start(p: &mut [u64; 4], s: u32)
     ensures { Limbs p.new × (number p.new ≡ s ^ 1) }
 {
-    p[0] = s;
+    p[0] = s as u64;
     p[1] = 0;
     p[2] = 0;
     p[3] = 0;
@@ -45,12 +44,12 @@ fn short_power(p: &mut [u64; 4], h: u64)
 }
 
 // s ^ 6.
-fn sixth_power(p: &mut [u64; 4], s: u64)
-    requires s_bound { s < 2 ^ 24 }
+fn sixth_power(p: &mut [u64; 4], s: u32)
+    requires { s < 2 ^ 24 }
     ensures { Limbs p.new × (number p.new ≡ s ^ 6) }
 {
     if s % 0x4000 == 0 {
-        short_power(p, s / 0x4000);
+        short_power(p, (s / 0x4000) as u64);
         return;
     }
     start(p, s);
@@ -74,8 +73,8 @@ fn at_most(p: &[u64; 4], t: u64) -> bool
 }
 
 // Whether s ^ 6 is at most t * 2 ^ 96.
-pub fn under(p: &mut [u64; 4], s: u64, t: u64) -> bool
-    requires s_bound { s < 2 ^ 24 }
+pub fn under(p: &mut [u64; 4], s: u32, t: u64) -> bool
+    requires { s < 2 ^ 24 }
     ensures { result ≡ leb (s ^ 6) (t * 2 ^ 96) }
 {
     sixth_power(p, s);

@@ -33,6 +33,7 @@ fn guess(n: u64, y: u64) -> u64
 }
 
 // The whole number nearest to the root of n, from any start: right from a bad guess too, but slow.
+// Both loops go by a test on r, the answer itself, and count nothing: no range says how far r has to go.
 fn settle(n: u64, start: u64) -> u64
     requires n_nonzero { 0 < n }
     requires n_bound { n < 2 ^ 48 }

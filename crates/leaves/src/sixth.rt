@@ -8,14 +8,14 @@ use crate::parts::{self, Positive};
 use crate::power;
 
 // The largest r with r ^ 6 at most t * 2 ^ 96, a binary digit at a time from the top one down, each tried in the same scratch.
-fn settle(t: u64) -> u64
+fn settle(t: u64) -> u32
     requires { t < 2 ^ 48 }
     ensures { IsRoot 6 (t * 2 ^ 96) result }
 {
     let mut p = [0u64; 4];
     let mut r = 0;
-    for i in (0..24u64).rev() {
-        let s = r + (1u64 << i);
+    for i in (0..24u32).rev() {
+        let s = r + (1u32 << i);
         if power::under(&mut p, s, t) {
             r = s;
         }
@@ -38,7 +38,7 @@ impl Positive {
     {
         let k = self.root_place();
         let t = self.digits << (self.place + 649 - k * 6);
-        parts::join(false, settle(t), k)
+        parts::join(false, settle(t) as u64, k)
     }
 }
 

@@ -4,4 +4,4 @@ use Rattle.leaves.specs.Power.{number}
 use Rattle.leaves.proofs.power.sixth_power.Goals as goal
 
 pub times-requires : goal.times-requires
-times-requires c = record { limbs = c.loop.invariant.0; s_bound = c.requires.s_bound; product_bound = room (number c.loop.p) c.args.s c.loop.counter c.requires.s_bound c.loop-test.true c.loop.invariant.1 }
+times-requires c = record { limbs = c.loop.invariant.0; product_bound = room (number c.loop.p) c.args.s c.loop.counter c.requires c.loop-test.true c.loop.invariant.1 }
