@@ -16,6 +16,7 @@ use point::Setting;
 use store::{Drawing, StoreState};
 use tables::{QuadColumnsMut, SplineColumnsMut, Tables};
 
+// C gives a number. Not by From, since Setting is the point crate's, and which number stands for which setting is the C interface's.
 #[tactic(auto, unfolding(crate::specs::Reply::setting_of))]
 fn setting_of(number: u32) -> Setting
     ensures { result ≡ setting_of number }

@@ -61,7 +61,7 @@ impl From<Refusal> for u32 {
     }
 }
 
-// 0, or the refusal's number.
+// 0, or the refusal's number. No From, since Answer is the library's Result and u32 the language's own: no crate may write that impl.
 pub fn number(a: Answer) -> u32
     ensures { result ≡ number_of a }
 {

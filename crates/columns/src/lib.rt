@@ -19,6 +19,7 @@ pub fn write<T: Copy>(column: &mut [T], i: usize, v: T)
     }
 }
 
+// Not `u8::from` and `!= 0` at each caller: the rule of the flags in a lent column has its names here, and its definitions.
 #[tactic(auto, unfolding(crate::specs::Flags::flag_byte_of))]
 pub fn flag_byte(flag: bool) -> u8
     ensures { result ≡ flag_byte_of flag }

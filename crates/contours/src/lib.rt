@@ -4,7 +4,8 @@
 ghost use Rattle.std.specs.Prelude.{◌≡◌};
 ghost use Rattle.contours.specs.Finished.{shortest_of};
 
-// How many points columns of these lengths hold: as many as the shortest has entries.
+// How many points columns of these lengths hold: as many as the shortest has entries. Three lengths, not a struct of columns: a public
+// function, which columns of floats and of whole numbers share.
 #[tactic(auto, unfolding(crate::specs::Finished::shortest_of))]
 pub fn shortest(x: usize, y: usize, end: usize) -> usize
     ensures { result ≡ shortest_of x y end }

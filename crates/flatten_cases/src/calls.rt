@@ -12,6 +12,7 @@ fn call(list: &mut impl Read) -> io::Result<Call> {
     let kind = replay::number(list)?;
     let (p1, p2, p3) = (point(list)?, point(list)?, point(list)?);
     let (w1, w2) = (replay::float(list)?, replay::float(list)?);
+    // The kinds are numbers of the stored list.
     Ok(match kind {
         0 => Call::Move(p1),
         1 => Call::Line(p1),

@@ -30,10 +30,14 @@ pub enum Column {
 pub const ALL: usize = 8206;
 
 // Those of both tables.
-pub const TABLES: usize = 3086;
+pub fn tables(seen: &[u32; ALL]) -> &[u32] {
+    &seen[1024..4110]
+}
 
 // Those of both tables and of the outputs.
-pub const RESULTS: usize = 7182;
+pub fn results(seen: &[u32; ALL]) -> &[u32] {
+    &seen[1024..]
+}
 
 pub const POINTS: [Column; 3] = [Column::X, Column::Y, Column::Weight];
 
@@ -104,13 +108,19 @@ impl Column {
         }
     }
 
+    // Its numbers.
+    pub fn numbers(self, seen: &[u32; ALL]) -> &[u32] {
+        let first = self.first();
+        seen.get(first..first + self.room()).unwrap_or_default()
+    }
+
     // One of its numbers.
     pub fn entry(self, seen: &[u32; ALL], i: usize) -> u32 {
         replay::number_at(seen, self.first(), i)
     }
 }
 
-// Whether the next n rows of the list are those of these columns.
+// Whether the next n rows of the list are those of these columns. The list goes row by row, so each number is found by its place.
 pub fn rows_follow(
     list: &mut impl Read,
     seen: &[u32; ALL],

@@ -1,6 +1,6 @@
 // The refusals 5 and 8, on drawings made here: the run stops at the last command with the tables as they are without it.
 use crate::flattening::{Full, Short, flattened};
-use crate::layout::{ALL, Column, OUTPUTS, TABLES};
+use crate::layout::{ALL, Column, OUTPUTS, tables};
 use crate::refusing::all_kept;
 use answer::Refusal;
 use flatten::{Flattened, Refused};
@@ -48,8 +48,7 @@ fn is_refused(r: Result<Flattened, Refused>, refusal: Refusal, quads: usize) -> 
 
 // Both tables are the same to the last entry that is seen, and no word and no point is written.
 fn same_tables(got: &[u32; ALL], before: &[u32; ALL]) -> bool {
-    all_kept(got, before, &OUTPUTS, 0)
-        && replay::same(got, before, Column::QuadRows.first(), TABLES)
+    all_kept(got, before, &OUTPUTS, 0) && tables(got) == tables(before)
 }
 
 // Flattens n quads, whose walk is longer than the outputs, and then with `last` drawn after them. That must be refused by `roomy` with room, and by `filled`

@@ -32,14 +32,24 @@ fn row(store: &mut Store<'_>, n: u32)
     let _ = store.build();
 }
 
-// A Start, then steps of size 1.0, and a flagged End; no word if there is to be no point.
-fn stepped(words: &[u32; POINTS], points: usize) -> bool {
-    if points < 2 {
-        return replay::all_are(words, 0, POINTS, 0);
+// A Start, then steps of size 1.0, and a flagged End.
+fn stepped(words: &[u32]) -> bool {
+    match words {
+        [start, steps @ .., end] => {
+            *start == 0x7f80_0000
+                && *end == 0xffc0_0000
+                && steps.iter().all(|step| *step == 0x3f80_0000)
+        }
+        _ => false,
     }
-    words[0] == 0x7f80_0000
-        && replay::number_at(words, points - 1, 0) == 0xffc0_0000
-        && replay::all_are(words, 1, points - 2, 0x3f80_0000)
+}
+
+// The words of so many points, and no word if there is to be no point.
+fn walked(words: &[u32; POINTS], due: Result<usize, Refusal>) -> bool {
+    match due {
+        Ok(points) => words.get(..points).is_some_and(|words| stepped(words)),
+        Err(_) => words.iter().all(|word| *word == 0),
+    }
 }
 
 // Whether a row's first 32,768 quads are one spline, and so many points are written or none, with this refusal.
@@ -95,7 +105,7 @@ fn gives(drawing: &Drawing<'_>, due: Result<usize, Refusal>) -> bool {
         && quads == 32_768
         && points == due
         && quad_count[0] == 32_768
-        && stepped(&words, due.unwrap_or(0))
+        && walked(&words, due)
 }
 
 // The same of the row of n quads, which also stores as many points.

@@ -1,21 +1,23 @@
 // A drawing with a column full at each place in turn: 6 or 7, all that was pushed before stays, and no word and no point is written. With just enough room
 // all is as with more.
 use crate::flattening::{Full, SHORTS, Short, UNTOUCHED, flattened};
-use crate::layout::{ALL, Column, OUTPUTS, QUADS, RESULTS};
+use crate::layout::{ALL, Column, OUTPUTS, QUADS, results};
 use answer::Refusal;
 use flatten::{Flattened, Refused};
 use point::Setting;
 use replay::Tally;
 use store::Drawing;
 
+// Here and below n counts rows, and `got` and `whole` hold many columns: the count is no slice's length.
+
 // The first `same` rows of a column are the whole run's, and those from `n` on are untouched.
 fn kept(got: &[u32; ALL], whole: &[u32; ALL], column: Column, same: usize, n: usize) -> bool {
-    let at = column.first();
-    let all = column.room();
-    let end = column.extent(n);
-    end <= all
-        && replay::same(got, whole, at, column.extent(same))
-        && replay::all_are(got, at + end, all - end, UNTOUCHED)
+    let whole = column.numbers(whole);
+    let got = column.numbers(got);
+    let begun = got.get(..column.extent(same));
+    let rest = got.get(column.extent(n)..);
+    begun.is_some_and(|begun| whole.starts_with(begun))
+        && rest.is_some_and(|rest| rest.iter().all(|v| *v == UNTOUCHED))
 }
 
 // The same of several columns, n rows of each.
@@ -177,8 +179,7 @@ pub fn each_enough(drawing: &Drawing<'_>, setting: Setting) -> Tally {
     for short in SHORTS {
         let place = needed(all, short);
         let r = flattened(drawing, setting, Some(Full { short, place }), &mut got);
-        let same = replay::same(&got, &whole, Column::QuadRows.first(), RESULTS);
-        tally.count(r.is_ok() && same);
+        tally.count(r.is_ok() && results(&got) == results(&whole));
     }
     tally
 }

@@ -15,6 +15,7 @@ pub fn read_full<R: Read>(reader: &mut R, buf: &mut [u8]) -> io::Result<usize>
     ensures err { OnErr result ((bs : List ℕ) × Consumes (R.remaining reader.old) (R.remaining reader.new) bs × (length bs < length buf.new)) }
 {
     let mut done = 0;
+    // `read_exact` loses the count where the input ends early, and `read_to_end` needs a heap.
     while done < buf.len() {
         let n = reader.read(&mut buf[done..])?;
         if n == 0 {

@@ -5,7 +5,8 @@ use mathlib.Core.List.{List, []}
 use Prim.Native.Nat.{ℕ, ◌≤◌, ◌<◌}
 use native.Mathlib.Omega.{arith}
 use borrow.Author.Tests.{le-leb, lt-leb}
-use lib.ListN.{length}
+use lib.ListN.{length, take}
+use Rattle.std.proofs.Common.{length-take-le}
 use Rattle.text.proofs.Decimals.{decimal_short}
 use Rattle.std.specs.Prelude.{Err}
 use Rattle.answer.specs.declared.Refusal.{Refusal}
@@ -23,7 +24,7 @@ use Rattle.listing.specs.Reading.{Progress, finished, stopped, read_of}
 use Rattle.listing.specs.Writing.{report_of, column_points}
 use Rattle.listing.specs.Program.{zeros, program_columns, program_output, refused, ready, built, built_from, after_reading, drawn_in, drawn_of, said_of, listing_of}
 use Rattle.listing.specs.Told.{Telling, told_of}
-use Rattle.listing.proofs.WritingLaws.{report_length}
+use Rattle.listing.proofs.WritingLaws.{report_length, column_points-take}
 use Rattle.listing.proofs.ToldLaws.{ToldSaid, told_said}
 
 -- ---- a fresh drawing is made
@@ -80,6 +81,13 @@ module _ (text : List ℕ) (t : Telling) (e : t ≡ told_of Screen text program_
   pub listed_few : t.result.points ≤ 512
   listed_few = omega (arith, listed_said.points, listed_said.few)
 
+  pub listed_room : (t.result.points ≤ length t.output.x) × (t.result.points ≤ length t.output.y) × (t.result.points ≤ length t.output.end)
+  listed_room = listed_said.room
+
+  -- columns that are cut to the points
+  pub listed_cut : length (take t.result.points t.output.x) ≡ t.result.points
+  listed_cut = length-take-le _ _ listed_room.0
+
   pub listed_refusal : is_done t.result.answer ≡ false → report_of t.result.answer t.result.line [] ≡ listing_of text
   unfolding listing_of
   listed_refusal h =
@@ -89,11 +97,14 @@ module _ (text : List ℕ) (t : Telling) (e : t ≡ told_of Screen text program_
       ∙ ap (λ (ps : List Finished). report_of s.answer s.line ps) (sym (listed_said.no_points (sym (ap is_done listed_said.answer) ∙ h)))
 
   pub listed_report : is_done t.result.answer ≡ true
-      → report_of Done 0 (column_points 0 t.result.points t.output.x t.output.y t.output.end) ≡ listing_of text
+      → report_of Done 0 (column_points 0 (length (take t.result.points t.output.x)) (take t.result.points t.output.x) (take t.result.points t.output.y) (take t.result.points t.output.end))
+      ≡ listing_of text
   unfolding listing_of
   listed_report h =
       let s = said_of Screen text in
-      ap (report_of Done 0) listed_said.back
+      let n = t.result.points in
+      ap (λ (m : ℕ). report_of Done 0 (column_points 0 m (take n t.output.x) (take n t.output.y) (take n t.output.end))) listed_cut
+      ∙ ap (report_of Done 0) (column_points-take n t.output.x t.output.y t.output.end 0 n (omega arith) ∙ listed_said.back)
       ∙ ap (λ (l : ℕ). report_of Done l s.points) (sym (listed_said.no_line (sym (ap is_done listed_said.answer) ∙ h)))
       ∙ ap (λ (a : Answer). report_of a s.line s.points) (sym (done_is t.result.answer h) ∙ listed_said.answer)
 

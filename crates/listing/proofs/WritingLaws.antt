@@ -9,7 +9,8 @@ use native.Mathlib.Omega.{arith}
 use borrow.Author.Tests.{le-leb, lt-leb}
 use lib.Dec.{lit≤}
 use lib.Ieee.{Float, nan}
-use lib.ListN.{length, get_or, length-append}
+use lib.ListN.{length, get_or, take, length-append}
+use Rattle.std.proofs.Math.Seq.{get_or-take}
 use lib.Seq.{sets}
 use Rattle.columns.specs.Flags.{flag_byte_of, is_flag_of}
 use Rattle.leaves.specs.Bits.{bits_of}
@@ -75,6 +76,14 @@ pub column_points-length : (i n : ℕ) (x y : List Float) (end : List ℕ) → l
 unfolding column_points
 column_points-length i zero x y end = refl
 column_points-length i (suc n) x y end = ap suc (column_points-length (i + 1) n x y end)
+
+-- the first n rows of columns, from columns that are cut to n
+pub column_points-take : (n : ℕ) (x y : List Float) (end : List ℕ) (i m : ℕ) → i + m ≡ n → column_points i m (take n x) (take n y) (take n end) ≡ column_points i m x y end
+unfolding column_points
+column_points-take n x y end i zero e = refl
+column_points-take n x y end i (suc m) e =
+    let inside : i < n = omega (arith, e) in
+    rw (get_or-take n x i nan inside, get_or-take n y i nan inside, get_or-take n end i 0 inside, column_points-take n x y end (i + 1) m (omega (arith, e)))
 
 pub head_length_is : (number line points : ℕ) → length (head_of number line points) ≡ 22 + length (decimal_of number) + length (decimal_of line) + length (decimal_of points)
 unfolding head_of

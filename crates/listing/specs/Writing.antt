@@ -13,6 +13,7 @@ use Rattle.text.specs.Bytes.{bytes}
 use Rattle.text.specs.Hex.{hex_of}
 use Rattle.text.specs.Decimal.{decimal_of}
 use Rattle.listing.specs.declared.writing.Value.{Value}
+use Rattle.listing.specs.declared.writing.Points.{Points}
 use Rattle.listing.specs.declared.writing.Value.TheVariants.{Decimal, Bits}
 
 unfoldable pub line_of : List ℕ → List ℕ → List ℕ
@@ -53,6 +54,10 @@ head_of number line points =
 unfoldable pub column_points : ℕ → ℕ → List Float → List Float → List ℕ → List Finished
 column_points i zero x y end = []
 column_points i (suc n) x y end = finished (point_at (get_or x i nan) (get_or y i nan)) (is_flag_of (get_or end i 0)) ∷ column_points (i + 1) n x y end
+
+-- as many as x has entries
+abbrev pub points_in : Points → List Finished
+points_in p = column_points 0 (length p.x.now) p.x.now p.y.now p.end.now
 
 -- ---- a text as output: all of its bytes and their count, or nothing written where the output is too short
 pub record Listing : Type 0 where

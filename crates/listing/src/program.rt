@@ -7,6 +7,7 @@ ghost use Rattle.listing.specs.Writing.{listed, listed_as};
 ghost use Rattle.listing.specs.Program.{program_columns, ready, drawn_as, drawn_of, listing_of};
 ghost use Rattle.listing.specs.Told.{account_as, telling, told_from, told_of};
 
+use crate::writing::Points;
 use crate::{Refused, reading, writing};
 use answer::Refusal;
 use evaluate::Outputs;
@@ -110,7 +111,12 @@ pub fn listing(input: &[u8], output: &mut [u8]) -> Option<usize>
     match told(Setting::Screen, input, &mut outputs) {
         Ok(points) => {
             let Outputs { x, y, end, .. } = outputs;
-            writing::report(output, points, x, y, end)
+            let finished = Points {
+                x: &x[..points],
+                y: &y[..points],
+                end: &end[..points],
+            };
+            writing::report(output, &finished)
         }
         Err(refused) => writing::refuse(output, refused),
     }

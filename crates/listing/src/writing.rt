@@ -7,7 +7,7 @@ ghost use Rattle.columns.specs.Flags.{is_flag_of};
 ghost use Rattle.point.specs.Point.{point_at};
 ghost use Rattle.evaluate.specs.Evaluate.{finished};
 ghost use Rattle.text.specs.Written.{WrittenAs};
-ghost use Rattle.listing.specs.Writing.{line_of, value_of, point_lines, all_point_lines, report_of, refusal_of, head_of, column_points, listed, listed_as};
+ghost use Rattle.listing.specs.Writing.{line_of, value_of, point_lines, all_point_lines, report_of, refusal_of, head_of, points_in, listed, listed_as};
 
 use crate::Refused;
 use answer::Answer;
@@ -60,16 +60,24 @@ fn point_lines(buffer: &mut [u8], at: usize, x: f32, y: f32, end: u8) -> usize
     put_line(buffer, third, b"end", Value::Decimal(u64::from(flag)))
 }
 
-fn put_points(buffer: &mut [u8], at: usize, points: usize, x: &[f32], y: &[f32], end: &[u8])
-    requires { at + 28 * points ≤ length buffer.old }
-    ensures { buffer.new ≡ sets buffer.old at (all_point_lines (column_points 0 points x.now y.now end.now)) }
+// Finished points, one in each row of the columns.
+#[derive(Clone, Copy)]
+pub struct Points<'a> {
+    pub x: &'a [f32],
+    pub y: &'a [f32],
+    pub end: &'a [u8],
+}
+
+// The loop goes over one column and reads the others by index: the prover's laws of `zip` are for two slices.
+fn put_points(buffer: &mut [u8], at: usize, points: &Points<'_>)
+    requires { at + 28 * length points.now.x.now ≤ length buffer.old }
+    ensures { buffer.new ≡ sets buffer.old at (all_point_lines (points_in points.now)) }
 {
     let mut next = at;
-    for i in 0..points {
-        let px = columns::read(x, i, f32::NAN);
-        let py = columns::read(y, i, f32::NAN);
-        let flag = columns::read(end, i, 0);
-        next = point_lines(buffer, next, px, py, flag);
+    for (i, x) in points.x.iter().enumerate() {
+        let y = columns::read(points.y, i, f32::NAN);
+        let flag = columns::read(points.end, i, 0);
+        next = point_lines(buffer, next, *x, y, flag);
     }
 }
 
@@ -116,17 +124,18 @@ pub fn refusal(output: &mut [u8], answer: Answer, line: usize) -> Option<usize>
     Some(needed)
 }
 
-// The report of a flattened drawing, from its columns of points.
-pub fn report(output: &mut [u8], points: usize, x: &[f32], y: &[f32], end: &[u8]) -> Option<usize>
-    requires { points ≤ 512 }
-    ensures { listed result output.new ≡ listed_as (report_of Done 0 (column_points 0 points x.now y.now end.now)) output.old }
+// The report of a flattened drawing.
+pub fn report(output: &mut [u8], points: &Points<'_>) -> Option<usize>
+    requires { length points.now.x.now ≤ 512 }
+    ensures { listed result output.new ≡ listed_as (report_of Done 0 (points_in points.now)) output.old }
 {
-    let head = head_length(0, 0, points as u64);
-    let needed = head + 28 * points;
+    let count = points.x.len();
+    let head = head_length(0, 0, count as u64);
+    let needed = head + 28 * count;
     if output.len() < needed {
         return None;
     }
-    let at = put_head(output, 0, 0, points as u64);
-    put_points(output, at, points, x, y, end);
+    let at = put_head(output, 0, 0, count as u64);
+    put_points(output, at, points);
     Some(needed)
 }

@@ -14,7 +14,7 @@ use columns::{is_flag, read};
 mod measuring;
 mod writing;
 
-// Finished points, as many as the shortest column has entries.
+// Finished points, as many as the shortest column has entries. Loops over them go by index: each read is of three columns that may differ in length.
 #[derive(Clone, Copy)]
 struct Finished<'a> {
     x: &'a [f32],
@@ -45,7 +45,8 @@ impl Finished<'_> {
     }
 }
 
-// 12 before 13; neither writes a byte.
+// 12 before 13; neither writes a byte. The columns are three parameters, as in the rules and at the C interface; inside the crate they are one
+// `Finished`.
 #[tactic(auto, using(std::proofs::lemmas::Bool::Decides::nat_tests), unfolding(crate::specs::Plot::measured_of, crate::specs::Plot::plot_in, crate::specs::Plot::plot_of))]
 pub fn plot(x: &[f32], y: &[f32], end: &[u8], text: &mut [u8]) -> Result<usize, Refusal>
     ensures { plot (plotted_of result) text.new ≡ plot_of (finished_of x.now y.now end.now) text.old }

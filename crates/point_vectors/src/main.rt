@@ -83,7 +83,7 @@ fn eval_quad(list: &mut impl Read) -> io::Result<Check> {
     Ok(against_float(list, p.x)?.and(against_float(list, p.y)?))
 }
 
-// The case, its number or its step's bits, and its flag.
+// The case, its number or its step's bits, and its flag: the numbers of the stored list, here and in `pack`.
 fn against_command(list: &mut impl Read, case: u32, value: u32, flag: u32) -> io::Result<Check> {
     Ok(
         Check::against(list, case)?

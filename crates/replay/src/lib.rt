@@ -8,6 +8,6 @@ mod reading;
 mod vectors;
 
 pub use counting::Tally;
-pub use numbers::{Entry, all_are, number_at, put, same};
+pub use numbers::{Entry, number_at, put};
 pub use reading::{float, follow, letter, number};
 pub use vectors::{Check, check_all};

@@ -1,7 +1,7 @@
-// Columns laid out as numbers, one after another in one lent slice, and compared there: a float is its bits, with one NaN.
+// Columns laid out as numbers, one after another in one lent slice, where they are compared: a float is its bits, with one NaN.
 ghost use Rattle.std.specs.Prelude.{◌≡◌, ℕ, ◌+◌, slice_index, slice_set};
 ghost use Rattle.leaves.specs.Bits.{bits_of};
-ghost use Rattle.replay.specs.Numbers.{laid, itself, capped_of, same_from, all_from};
+ghost use Rattle.replay.specs.Numbers.{laid, itself, capped_of};
 
 use columns::{read, write};
 
@@ -62,25 +62,11 @@ fn put_number(numbers: &mut [u32], at: usize, i: usize, v: u32)
     write(numbers, at.saturating_add(i), v);
 }
 
-// The first n entries of a column, from a place on; all of them where it has fewer.
+// The first n entries of a column, from a place on; all of them where it has fewer. n is the room there, so it is no slice's length.
 pub fn put<T: Entry>(numbers: &mut [u32], at: usize, column: &[T], n: usize)
     ensures { numbers.new ≡ laid T.number_of n at column.now numbers.old }
 {
     for (i, v) in column[..n.min(column.len())].iter().enumerate() {
         put_number(numbers, at, i, v.number());
     }
-}
-
-// Whether n numbers from a place on are the same in both.
-pub fn same(a: &[u32], b: &[u32], at: usize, n: usize) -> bool
-    ensures { result ≡ same_from n at a.now b.now }
-{
-    (0..n).all(|i| number_at(a, at, i) == number_at(b, at, i))
-}
-
-// Whether n numbers from a place on are all v.
-pub fn all_are(a: &[u32], at: usize, n: usize, v: u32) -> bool
-    ensures { result ≡ all_from n at v a.now }
-{
-    (0..n).all(|i| number_at(a, at, i) == v)
 }

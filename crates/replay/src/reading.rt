@@ -40,7 +40,8 @@ pub fn letter<R: Read>(list: &mut R) -> io::Result<Option<u8>>
     Ok(start[..n].first().copied())
 }
 
-// Whether the next n numbers are those from a place on. All of them are read, even after a difference.
+// Whether the next n numbers are those from a place on. All of them are read, even after a difference and
+// past the end of `numbers`: so a place and a count, where a sub-slice would end the reading with it.
 pub fn follow<R: Read>(list: &mut R, numbers: &[u32], at: usize, n: usize) -> io::Result<bool>
     ensures value { IfOk result (λ b. IfSome (R.remaining list.old) (λ bytes. b ≡ followed_by n at numbers.now bytes)) }
     ensures rest { OnOk result (IfSome (R.remaining list.old) (λ bytes. R.remaining list.new ≡ Some (drop (9 * n) bytes))) }

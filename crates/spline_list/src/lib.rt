@@ -37,7 +37,8 @@ pub fn put_row(columns: &mut SplineColumnsMut<'_>, i: usize, v: SplineRow)
     write(columns.quad_count, i, v.quad_count);
 }
 
-// Whether the lengths agree: the list has a record for each of n splines, and no column ends before the nth.
+// Whether the lengths agree: the list has a record for each of n splines, and no column ends before the nth. n is asked beside the list, since it is how many splines
+// are in use, and the rule wants a list of exactly as many.
 fn agree(list: &[SplineRow], columns: &SplineColumns<'_>, n: usize) -> bool
     ensures { result ≡ equal_of list.now (splines_of columns.now) n }
 {

@@ -41,6 +41,7 @@ impl Store<'_> {
         write(self.commands, i, command);
     }
 
+    // Points and commands are written by a loop each: one generic function would have to lend `self` to a closure that writes to it.
     #[tactic(auto, using(crate::proofs::Deciding::points_step, crate::proofs::Deciding::points_done))]
     fn put_points(&mut self, at: usize, points: &[WeightedPoint])
         requires { at + length points.now < 2 ^ 64 }

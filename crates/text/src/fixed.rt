@@ -28,7 +28,7 @@ pub fn put_byte(buffer: &mut [u8], at: usize, i: usize, b: u8)
     }
 }
 
-// Writes bytes from a place on, as many as the buffer has room for.
+// Writes bytes from a place on, as many as the buffer has room for. Not by `copy_from_slice`: the C archive may call no memcpy.
 pub fn put_bytes(buffer: &mut [u8], at: usize, bytes: &[u8])
     ensures { buffer.new ≡ sets buffer.old at bytes.now }
 {

@@ -1,4 +1,5 @@
-// Fixed byte strings, hex digits and decimal digits, read and written on slices.
+// Fixed byte strings, hex digits and decimal digits, read and written on slices. Numbers are not printed by Display: std says which
+// bytes it writes of a `String`, which needs a heap. Here they go into a lent slice, and what does not fit is dropped byte by byte, as the contracts say.
 #![tactic(auto)]
 
 mod decimal;
