@@ -1,6 +1,5 @@
 // The point of one step: what `into_segments` of path.rs does for it.
 ghost use Rattle.std.specs.Prelude.{◌≡◌, ◌≤◌};
-ghost use Rattle.leaves.specs.Single.{whole32};
 ghost use Rattle.tables.specs.Lent.{quads_of};
 ghost use Rattle.tables.specs.Tables.{quad_row_at};
 ghost use Rattle.evaluate.specs.Evaluate.{previous_sum_of, step_quad_of, parameter_of, step_point_of};
