@@ -11,6 +11,7 @@ pub fn read<T: Copy>(column: &[T], i: usize, none: T) -> T
     column.get(i).copied().unwrap_or(none)
 }
 
+// By a test and an index: of what `get_mut` lends the kit knows no element of the slice afterwards.
 pub fn write<T: Copy>(column: &mut [T], i: usize, v: T)
     ensures { column.new ≡ set column.old i v }
 {

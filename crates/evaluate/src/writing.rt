@@ -39,7 +39,8 @@ impl Outputs<'_> {
         write(self.end, at, flag_byte(flag));
     }
 
-    // The Start of spline k at its first point, if it has one.
+    // The Start of spline k at its first point, if it has one. The bound on the place stands in three contracts and is no invariant of Place: it is another one
+    // after each entry, and for the cursor another one in each setting.
     #[tactic(auto, unfolding(crate::specs::Writing::write_start_of))]
     fn write_start(&mut self, starts: bool, k: u32, first: Point, from: Place) -> Place
         requires { from.at ≤ 0x4000_0000_0000_0000 }

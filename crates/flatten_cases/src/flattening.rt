@@ -95,6 +95,8 @@ pub fn flattened(
 ) -> Result<Flattened, Refused> {
     let float = leaves::from_bits(UNTOUCHED);
     let byte = UNTOUCHED as u8;
+    // These arrays are spelled out here and in longest.rt, which has others of other lengths: an array cannot be lent out of the function that owns it, and
+    // there is no heap.
     let mut quad_rows = [float; 1934];
     let mut partial_splines = [UNTOUCHED; 128];
     let mut curvature = [float; 128];

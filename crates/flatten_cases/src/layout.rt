@@ -59,7 +59,8 @@ pub const SPLINES: [Column; 8] = [
 pub const OUTPUTS: [Column; 4] = [Column::Words, Column::OutX, Column::OutY, Column::OutEnd];
 
 impl Column {
-    // Where its numbers begin.
+    // Where its numbers begin. These are the sums of `room` over the columns before, written out: a loop over them would need a list of all columns, an order on
+    // them, and an invariant for the bound, to say the same 18 numbers.
     pub fn first(self) -> usize
         ensures { result ≤ 8206 }
     {

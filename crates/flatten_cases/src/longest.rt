@@ -54,6 +54,7 @@ fn walked(words: &[u32; POINTS], due: Result<usize, Refusal>) -> bool {
 
 // Whether a row's first 32,768 quads are one spline, and so many points are written or none, with this refusal.
 fn gives(drawing: &Drawing<'_>, due: Result<usize, Refusal>) -> bool {
+    // All zeros, where flattening.rt marks what is untouched; why no function makes them for both is said there.
     let mut quad_rows = [0.0f32; NUMBERS];
     let mut partial_splines = [0u32; QUADS];
     let mut curvature = [0.0f32; SPLINES];

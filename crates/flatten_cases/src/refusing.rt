@@ -25,6 +25,8 @@ pub fn all_kept(got: &[u32; ALL], whole: &[u32; ALL], columns: &[Column], n: usi
     columns.iter().all(|column| kept(got, whole, *column, n, n))
 }
 
+// `got` and `whole` are two parameters of each function, and no struct: some read only one of them, and limits.rt compares two other runs.
+
 // Of n splines the starts and first quads are the whole run's, and so are the first `ended` sums, ends and numbers of quads and the first `flagged` flags.
 fn splines_kept(
     got: &[u32; ALL],

@@ -8,5 +8,5 @@ pub fn pieces(q: f32, w1: f32, w2: f32) -> u32
     ensures { result ≡ pieces_of q w1 w2 }
 {
     let n = whole::whole_up(sixth::sixth_root(q) * small::max(small::max(w1, w2), 1.0));
-    if n == 0 { 1 } else { n }
+    n.max(1)
 }

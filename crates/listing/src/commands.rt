@@ -22,6 +22,7 @@ fn call_at(listing: &[u8], place: &mut Place, op: Op) -> Result<Call, BadLine>
     ensures { call_as result place.new ≡ with_fields op (fields_from listing.now place.old.at place.old.line [] (keys_of op)) }
 {
     let keys = op.keys();
+    // There is no heap: room for the op with the most fields.
     let mut values = [0.0f32; 8];
     for (i, key) in keys.iter().enumerate() {
         values[i] = fields::field_at(listing, place.at, key).ok_or(BadLine(place.line))?;

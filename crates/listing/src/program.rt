@@ -42,6 +42,7 @@ fn flat(
     ensures same { SameOutputs outputs.old outputs.new }
     ensures told { telling (account_as result) (output_of outputs.new) ≡ told_from setting (ready drawing.now.state (drawing_columns drawing.now)) (output_of outputs.old) }
 {
+    // The tables' room is a local of whoever flattens, here and in flatten_cases: see `listing` below.
     let mut quad_rows = [0.0f32; 3840];
     let mut partial_splines = [0u32; 256];
     let mut curvature = [0.0f32; 256];
@@ -98,6 +99,7 @@ pub fn told(setting: Setting, input: &[u8], outputs: &mut Outputs<'_>) -> Result
 pub fn listing(input: &[u8], output: &mut [u8]) -> Option<usize>
     ensures { listed result output.new ≡ listed_as (listing_of input.now) output.old }
 {
+    // Spelled out in plotting too: an array cannot be lent out of the function that owns it, and there is no heap.
     let mut words = [0u32; 512];
     let mut x = [0.0f32; 512];
     let mut y = [0.0f32; 512];

@@ -81,6 +81,7 @@ fn put_points(buffer: &mut [u8], at: usize, points: &Points<'_>)
     }
 }
 
+// The head's three numbers are parameters here and below: a struct of them would be built at each call, and the definition's `head_of` takes three.
 fn head_length(number: u64, line: u64, points: u64) -> usize
     ensures { result ≡ length (head_of number line points) }
 {
@@ -110,7 +111,8 @@ pub fn refuse(output: &mut [u8], refused: Refused) -> Option<usize>
     Some(needed)
 }
 
-// The two lines of a refusal alone, for a program that has another output than points.
+// The two lines of a refusal alone, for a program that has another output than points. It is beside `refuse` and not in it, since the length is tested before the
+// first byte is written, and is another one with the third line.
 pub fn refusal(output: &mut [u8], answer: Answer, line: usize) -> Option<usize>
     ensures { listed result output.new ≡ listed_as (refusal_of answer line) output.old }
 {

@@ -28,6 +28,10 @@ module _ (z : ℤ) (F : SFits w32 z) where
   pub wide_back : to_z w64 (of_z w64 (to_z w32 (of_z w32 z))) ≡ z
   wide_back = to_z-of_z w64 (to_z w32 (of_z w32 z)) wide_fits ∙ narrow_back
 
+  -- the same of an i64 made from it
+  pub widened : (r : ℤ) → r ≡ to_z w32 (of_z w32 z) → to_z w64 (of_z w64 r) ≡ z
+  widened r h = ap (λ (n : ℤ). to_z w64 (of_z w64 n)) h ∙ wide_back
+
 -- ---- what the two coordinates are
 module _ (x y : Float) where
   abbrev chosen : Bool → Option (ℤ × ℤ)

@@ -13,7 +13,7 @@ use answer::{Answer, Refusal};
 fn move_length(x: i32, y: i32) -> usize
     ensures { result ≡ length (move_of (pen_of true) (position x y)) }
 {
-    5 + text::signed_length(x as i64) + text::signed_length(y as i64)
+    5 + text::signed_length(i64::from(x)) + text::signed_length(i64::from(y))
 }
 
 impl Finished<'_> {

@@ -27,7 +27,7 @@ fn put_number(text: &mut [u8], at: usize, n: i32, after: u8) -> usize
     requires { at + length (signed_of n) + 1 ≤ length text.old }
     ensures { WrittenAs (signed_of n ++ (after ∷ [])) text.old at text.new result }
 {
-    let digits = text::put_signed(text, at, n as i64);
+    let digits = text::put_signed(text, at, i64::from(n));
     let behind = at + digits;
     text::put_byte(text, behind, 0, after);
     behind + 1

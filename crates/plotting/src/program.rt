@@ -11,6 +11,7 @@ use point::Setting;
 pub fn plot_listing(setting: Setting, input: &[u8], text: &mut [u8]) -> Result<usize, Refused>
     ensures { plotting (account_of result) text.new ≡ plot_listing_of setting input.now text.old }
 {
+    // As in `listing::listing`: an array cannot be lent out of the function that owns it, and there is no heap.
     let mut words = [0u32; 512];
     let mut x = [0.0f32; 512];
     let mut y = [0.0f32; 512];

@@ -24,7 +24,8 @@ pub struct State {
     pub last: Option<f32>,
 }
 
-// What a primitive is planned from; `last` is the last spline.
+// What a primitive is planned from; `last` is the last spline. Whoever plans sets it: `Tables::push` plans with a copy of a run that has it looked up anew, as the
+// definition looks it up for each primitive, so of a run lent to `push` this field is not read. The plan is worked out on values alone, and has no tables to ask.
 #[derive(Clone, Copy)]
 pub struct Run {
     pub setting: Setting,

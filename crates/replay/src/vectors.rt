@@ -4,7 +4,8 @@ use crate::reading::number;
 use std::io;
 use std::io::Read;
 
-// What is given, what the list has for it, and whether they agree.
+// What is given, what the list has for it, and whether they agree: that is more than `got == want`, since a vector of equal numbers may have another letter than
+// it should (leaves_vectors).
 #[derive(Clone, Copy)]
 pub struct Check {
     pub got: u32,

@@ -44,6 +44,9 @@ impl Lent {
     }
 }
 
+// The letters are those of the stored list. They stay letters, each matched where the words behind it are read: an enum would name each of the sixteen twice
+// more, once in its conversion and once for what is made, compared or called.
+
 // A word of all ones means the largest count.
 fn count(list: &mut impl Read) -> io::Result<usize> {
     match word(list)? {

@@ -15,7 +15,7 @@ fn all_printable(column: &[f32]) -> bool
     column.iter().all(|v| whole(*v).is_some())
 }
 
-// The entries, rounded.
+// The entries, rounded. By index: of what an `iter_mut` lends the kit knows no element of `to` afterwards.
 fn put_wholes(from: &[f32], to: &mut [i32])
     requires room { length from.now ≤ length to.old }
     requires printable { all_printable from.now ≡ true }

@@ -65,7 +65,7 @@ pub fn cursor_at(quads: &QuadColumns<'_>, p: f32, cursor: usize) -> usize
 pub fn spline_length(k: u32, last: SplineRow, row: SplineRow) -> u64
     ensures { result ≡ spline_length_of k last row }
 {
-    let n = steps(row.curvature) as u64;
+    let n = u64::from(steps(row.curvature));
     if starts_after(k, last, row) {
         return n + 2;
     }
