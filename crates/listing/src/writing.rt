@@ -12,6 +12,8 @@ ghost use Rattle.listing.specs.Writing.{line_of, value_of, point_lines, all_poin
 use crate::Refused;
 use answer::Answer;
 
+// A buffer and the place in it are two parameters: a struct of both would make each function promise that it still holds the caller's buffer, and say no more.
+
 // What stands behind a key: a number in plain decimal, or the bits of a float in eight hex digits.
 #[derive(Clone, Copy)]
 enum Value {

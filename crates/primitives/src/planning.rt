@@ -12,8 +12,8 @@ use point::{Point, WeightedPoint};
 
 const SUM_LIMIT: f32 = 65536.0;
 
-// A quad's three points are three parameters here and below, where a cubic's four are a `Cubic`: the definitions match on Quad(p0, p1, p2), so a struct would
-// be built and taken apart in each function, and its fields spelled out in each clause.
+// A quad's three points are three parameters here and below, where a cubic's four are a `Cubic`: Primitive::Quad and the definitions have them apart, so that
+// with a struct each clause would spell out quad.p0 quad.p1 quad.p2.
 #[tactic(auto, unfolding(crate::specs::Plan::quad_row_of))]
 fn quad_row(
     p0: WeightedPoint,
