@@ -1,4 +1,9 @@
 // Vectors: what is given for the inputs that a list has, against what it has for them.
+ghost use Rattle.std.specs.Prelude.{◌≡◌, ℕ, ◌<◌, List, IfOk, OnOk, OnErr, IfSome, Some, drop, length};
+ghost use Rattle.std.specs.Io.KnownBytes.{Consumes};
+ghost use Rattle.replay.specs.Reading.{number_in};
+ghost use Rattle.replay.specs.Checks.{compared, first_of};
+
 use crate::Tally;
 use crate::reading::number;
 use std::io;
@@ -15,7 +20,11 @@ pub struct Check {
 
 impl Check {
     // Against the next number of the list.
-    pub fn against<R: Read>(list: &mut R, got: u32) -> io::Result<Check> {
+    pub fn against<R: Read>(list: &mut R, got: u32) -> io::Result<Check>
+        ensures value { IfOk result (λ c. IfSome (R.remaining list.old) (λ bytes. c ≡ compared got (number_in bytes))) }
+        ensures rest { OnOk result (IfSome (R.remaining list.old) (λ bytes. R.remaining list.new ≡ Some (drop 9 bytes))) }
+        ensures err { OnErr result ((bs : List ℕ) × Consumes (R.remaining list.old) (R.remaining list.new) bs × (length bs < 9)) }
+    {
         let want = number(list)?;
         Ok(Check {
             got,
@@ -25,7 +34,9 @@ impl Check {
     }
 
     // The first of two that does not agree.
-    pub fn and(self, next: Check) -> Check {
+    pub fn and(self, next: Check) -> Check
+        ensures { result ≡ first_of self next }
+    {
         if self.agrees { next } else { self }
     }
 }
