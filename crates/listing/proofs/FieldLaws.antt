@@ -1,7 +1,7 @@
 -- Laws of fields: when the text has one, what it holds and where it ends; a row of fields is read part by part, and ends inside the text. Assumes nothing.
 use mathlib.Core.Path.{◌≡◌, refl, sym, ap, ◌∙◌}
 use mathlib.Core.Bool.{Bool, true, false, ◌&&◌, cond, and-false}
-use mathlib.Core.List.{List, [], ◌∷◌, ◌++◌}
+use mathlib.Core.List.{List, [], ◌∷◌, ◌++◌, append-nil, append_assoc}
 use Prim.Native.Nat.{ℕ, zero, suc, ◌+◌, ◌≤◌, ◌<◌}
 use native.Mathlib.Numerals.{add-one}
 use native.Mathlib.Omega.{arith}
@@ -88,6 +88,40 @@ module _ (text : List ℕ) (at : ℕ) (key : List ℕ) where
   field_off h line values keys = rw (missing (field_stands_at text at key) (field_value_at text at key) h)
 
 -- ---- rows of fields
+abbrev pub before : List Float → Fields → Fields
+before values (read more at line) = read (values ++ more) at line
+before values (wrong line) = wrong line
+
+abbrev pub joined : List ℕ → Fields → List (List ℕ) → Fields
+joined text (read values at line) keys = before values (fields_from text at line [] keys)
+joined text (wrong line) keys = wrong line
+
+before_cond : (values : List Float) (b : Bool) (f g : Fields) → before values (cond b f g) ≡ cond b (before values f) (before values g)
+before_cond values true f g = refl
+before_cond values false f g = refl
+
+joined_cond : (text : List ℕ) (keys : List (List ℕ)) (b : Bool) (f g : Fields) → joined text (cond b f g) keys ≡ cond b (joined text f keys) (joined text g keys)
+joined_cond text keys true f g = refl
+joined_cond text keys false f g = refl
+
+fields_before : (text : List ℕ) (at line : ℕ) (values more : List Float) (keys : List (List ℕ)) → fields_from text at line (values ++ more) keys ≡ before values (fields_from text at line more keys)
+unfolding fields_from
+fields_before text at line values more [] = refl
+fields_before text at line values more (key ∷ keys) =
+    let v = field_value_at text at key in
+    ap (λ (l : List Float). cond (field_stands_at text at key) (fields_from text (at + field_width key) (line + 1) l keys) (wrong line)) (append_assoc values more (v ∷ []))
+    ∙ ap (λ (f : Fields). cond (field_stands_at text at key) f (wrong line)) (fields_before text (at + field_width key) (line + 1) values (more ++ (v ∷ [])) keys)
+    ∙ sym (before_cond values (field_stands_at text at key) (fields_from text (at + field_width key) (line + 1) (more ++ (v ∷ [])) keys) (wrong line))
+
+pub fields_append : (text : List ℕ) (at line : ℕ) (values : List Float) (keys more : List (List ℕ)) → fields_from text at line values (keys ++ more) ≡ joined text (fields_from text at line values keys) more
+unfolding fields_from
+fields_append text at line values [] more =
+    ap (λ (l : List Float). fields_from text at line l more) (sym (append-nil values)) ∙ fields_before text at line values [] more
+fields_append text at line values (key ∷ keys) more =
+    let v = field_value_at text at key in
+    ap (λ (f : Fields). cond (field_stands_at text at key) f (wrong line)) (fields_append text (at + field_width key) (line + 1) (values ++ (v ∷ [])) keys more)
+    ∙ sym (joined_cond text more (field_stands_at text at key) (fields_from text (at + field_width key) (line + 1) (values ++ (v ∷ [])) keys) (wrong line))
+
 -- after a row the place is inside the text again, and no earlier than its start
 pub record Onward (text : List ℕ) (at at' line' : ℕ) : Type 0 where
   pub placed : Placed text at' line'

@@ -1,5 +1,5 @@
 -- RULES, The program: reading. Every line has a fixed width, so a place in the text and its line number are all that reading keeps. Assumes nothing.
-use Rattle.std.specs.Prelude.{ℕ, zero, suc, ◌+◌, ◌≤◌, Bool, ◌&&◌, cond, List, [], ◌∷◌, ◌++◌, leb, Float, length, Option, Some, None, Result, Ok, Err}
+use Rattle.std.specs.Prelude.{ℕ, zero, suc, ◌≡◌, ◌+◌, ◌≤◌, Bool, ◌&&◌, cond, List, [], ◌∷◌, ◌++◌, leb, Float, length, Option, Some, None, Result, Ok, Err}
 use Rattle.std.specs.List.{find}
 use Rattle.leaves.specs.Bits.{float_of}
 use Rattle.answer.specs.declared.Refusal.{Refusal}
@@ -68,6 +68,10 @@ command_as (Err bad) p = Fault bad.0
 unfoldable pub with_fields : Op → Fields → Command
 with_fields op (read values at line) = Drawing (call_of op values) at line
 with_fields op (wrong line) = Fault line
+
+-- the fields of an op, read from a place of a text: the call of their values, and the place behind them
+abbrev pub FieldsCalled : List ℕ → ℕ → ℕ → Op → Result Call BadLine → Place → Type 0
+FieldsCalled text at line op r p = call_as r p ≡ with_fields op (fields_from text at line [] (keys_of op))
 
 unfoldable pub command_from : List ℕ → ℕ → ℕ → Op → Command
 command_from text at line op = with_fields op (fields_from text (at + length (op_line_of op)) (line + 1) [] (keys_of op))

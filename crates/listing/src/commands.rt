@@ -1,8 +1,7 @@
 // One command: its op line, then its fields.
 
-ghost use Rattle.std.specs.Prelude.{◌≡◌, []};
-ghost use Rattle.listing.specs.Grammar.{keys_of};
-ghost use Rattle.listing.specs.Reading.{Placed, fields_from, with_fields, call_as, ops, op_at_of, command_as, command_at};
+ghost use Rattle.std.specs.Prelude.{◌≡◌};
+ghost use Rattle.listing.specs.Reading.{Placed, FieldsCalled, ops, op_at_of, command_as, command_at};
 
 use crate::grammar::OPS;
 use crate::{BadLine, Op, Place, fields};
@@ -19,7 +18,7 @@ fn op_at(listing: &[u8], at: usize) -> Option<Op>
 // The fields of an op, each on a line of its own; the place goes behind them.
 fn call_at(listing: &[u8], place: &mut Place, op: Op) -> Result<Call, BadLine>
     requires { Placed listing.now place.old.at place.old.line }
-    ensures { call_as result place.new ≡ with_fields op (fields_from listing.now place.old.at place.old.line [] (keys_of op)) }
+    ensures { FieldsCalled listing.now place.old.at place.old.line op result place.new }
 {
     let keys = op.keys();
     // There is no heap: room for the op with the most fields.

@@ -74,3 +74,7 @@ spot_yes x y p h =
 pub spot_no : (x y : Float) → None ≡ spot_of x y → printable_of x && printable_of y ≡ false
 unfolding spot_of
 spot_no x y h = none_cases (printable_of x && printable_of y) (whole_of x, whole_of y) h
+
+-- the plotter units of both coordinates, as one argument
+abbrev pub spot_at : Float × Float → Option (ℤ × ℤ)
+spot_at p = spot_of p.0 p.1

@@ -22,6 +22,15 @@ struct Finished<'a> {
     end: &'a [u8],
 }
 
+// A point in plotter units; none where one of its coordinates has none. Both loops call it, and it is no method: the columns are read in the loops.
+fn spot(x: f32, y: f32) -> Option<(i32, i32)>
+    ensures { result ≡ spot_of x y }
+{
+    let px = units::whole(x)?;
+    let py = units::whole(y)?;
+    Some((px, py))
+}
+
 impl Finished<'_> {
     fn len(&self) -> usize
         ensures { result ≡ length (points_of self.now) }
@@ -29,13 +38,11 @@ impl Finished<'_> {
         contours::shortest(self.x.len(), self.y.len(), self.end.len())
     }
 
-    // A point in plotter units; none where one of its coordinates has none.
-    fn spot(&self, i: usize) -> Option<(i32, i32)>
-        ensures { result ≡ spot_of (get_or self.now.x.now i nan) (get_or self.now.y.now i nan) }
+    // A point's coordinates; NaN past the end.
+    fn at(&self, i: usize) -> (f32, f32)
+        ensures { result ≡ (get_or self.now.x.now i nan, get_or self.now.y.now i nan) }
     {
-        let px = units::whole(read(self.x, i, f32::NAN))?;
-        let py = units::whole(read(self.y, i, f32::NAN))?;
-        Some((px, py))
+        (read(self.x, i, f32::NAN), read(self.y, i, f32::NAN))
     }
 
     fn flag(&self, i: usize) -> bool

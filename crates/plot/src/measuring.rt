@@ -6,7 +6,7 @@ ghost use Rattle.plot.specs.Text.{pen_of, move_of};
 ghost use Rattle.plot.specs.Plot.{measured_of};
 ghost use Rattle.plot.specs.Lent.{points_of};
 
-use crate::Finished;
+use crate::{Finished, spot};
 use answer::{Answer, Refusal};
 
 // How many bytes a move takes; the pen's letters are two either way.
@@ -24,7 +24,8 @@ impl Finished<'_> {
         // What is left of the room, while the text fits: a text can be longer than any count.
         let mut left = room.checked_sub(3);
         for i in 0..self.len() {
-            let Some((px, py)) = self.spot(i) else {
+            let (x, y) = self.at(i);
+            let Some((px, py)) = spot(x, y) else {
                 return Err(Refusal::NotPrintable);
             };
             let bytes = move_length(px, py);

@@ -8,7 +8,7 @@ ghost use Rattle.plot.specs.Text.{pen_of, move_of, moves_of};
 ghost use Rattle.plot.specs.Plot.{all_printable, whole_vertex, plot_text};
 ghost use Rattle.plot.specs.Lent.{points_of};
 
-use crate::Finished;
+use crate::{Finished, spot};
 
 // A text and the place in it are two parameters: a struct of both would make each function promise that it still holds the caller's text, and say no more.
 
@@ -53,7 +53,8 @@ impl Finished<'_> {
         let mut up = true;
         for i in 0..self.len() {
             // This is never none: all points were tested.
-            let Some((px, py)) = self.spot(i) else {
+            let (x, y) = self.at(i);
+            let Some((px, py)) = spot(x, y) else {
                 return at;
             };
             let flag = self.flag(i);

@@ -1,3 +1,4 @@
 pub mod Examples
 pub mod Shapes
 pub mod Opening
+pub mod WhereRefused

@@ -1,10 +1,12 @@
--- What the contracts settle: two outcomes that satisfy one equation are equal, and so are their parts. Assumes nothing.
-use Prim.Native.Nat.{ℕ, ◌≤◌}
+-- What the contracts settle: two outcomes that satisfy one equation are equal, and so are their parts. And the fields of a command are found again in the call
+-- that is made of them. Assumes nothing.
+use Prim.Native.Nat.{ℕ, ◌+◌, ◌≤◌}
 use mathlib.Core.Path.{◌≡◌, refl, sym, ap, ◌∙◌, subst}
 use mathlib.Core.Logic.{◌⊎◌, inl, inr}
-use mathlib.Core.Bool.{Bool, cond}
-use mathlib.Core.List.{List, ◌++◌}
+use mathlib.Core.Bool.{Bool, true, false, cond}
+use mathlib.Core.List.{List, [], ◌∷◌, ◌++◌}
 use native.Mathlib.Nat.{zero-add, le_of_eq, le_trans}
+use native.Mathlib.Omega.{arith}
 use lib.Dec.{leb, le→leb}
 use lib.Arith.{lt→nleb}
 use lib.Ieee.Bits.{is_true, is_false}
@@ -35,10 +37,15 @@ use Rattle.plot.specs.Plot.{plotted_of}
 use Rattle.store.specs.declared.Call.{Call}
 use Rattle.store.specs.declared.StoreState.{StoreState}
 use Rattle.store.specs.Columns.{Columns}
+use Rattle.listing.specs.declared.Op.{Op}
+use Rattle.listing.specs.declared.Op.TheVariants as ops
 use Rattle.listing.specs.declared.BadLine.{BadLine}
 use Rattle.listing.specs.declared.Place.{Place}
 use Rattle.listing.specs.declared.Refused as stopping
-use Rattle.listing.specs.Reading.{Command, Drawing, Fault, Finish, call_as, command_as, Progress, going, finished, stopped, progress_of, Fields, read, wrong}
+use Rattle.text.specs.Bytes.{bytes}
+use Rattle.listing.specs.Grammar.{quad_keys, cubic_keys, keys_of, call_of}
+use Rattle.listing.specs.Reading.{Command, Drawing, Fault, Finish, call_as, command_as, Progress, going, finished, stopped, progress_of}
+use Rattle.listing.specs.Reading.{Fields, read, wrong, fields_from, with_fields}
 use Rattle.listing.specs.Writing.{Listing, listed, listed_as}
 use Rattle.listing.specs.Program.{listing_of}
 use Rattle.listing.specs.Told.{account_as}
@@ -47,6 +54,8 @@ use Rattle.promises.specs.Settled.{Settles, ValueSettled, ResultAndKeptSettled, 
 use Rattle.promises.specs.Settled.{DrawnSettled, TablesSettled, RanSettled, FilledSettled, PlannedSettled, DeliveredSettled, DeliversSettled, AnsweredSettled, FlattenSettled, ReplySettled, FlatReplySettled}
 use Rattle.promises.specs.Settled.{TellingSettled, ListingSettled, Lists, ListingLists, NoCall, at_fault, at_end, CallSettled, CommandSettled, HasStopped}
 use Rattle.promises.specs.Settled.{has_stopped, ReadSettled}
+use Rattle.promises.specs.Settled.{pair_in, two_points_in, three_points_in, weights_in, bad_at, PairRead, TwoPointsRead, ThreePointsRead}
+use Rattle.promises.specs.Settled.{WeightedTwoPointsRead, WeightedThreePointsRead, WeightsRead}
 
 -- a form settles an outcome if the outcome's parts can be found again in what the form puts together
 told : {A D : Type 0} (form : A → D) (back : D → A) → ((a : A) → back (form a) ≡ a) → Settles form
@@ -350,6 +359,207 @@ command_settled d r r' p p' h k = (
   sym (command_same r p) ∙ ap command_back (h ∙ sym k) ∙ command_same r' p',
   either_told NoCall place_back d (command_as r p) (command_as r' p') p p' h k (command_told r p p') (command_told r' p' p'),
 )
+
+-- ---- the fields, back from the call that is made of them
+place_same : (r : Result Call BadLine) (p : Place) → place_back p (call_as r p) ≡ p
+unfolding place_back
+place_same (Ok call) p = refl
+place_same (Err bad) p = refl
+
+-- what a call and its place tell of some of its fields, `y`, where all of them are `x`: it is shown test by test, as the fields are read
+record Told (op : Op) (Tells : Result Call BadLine → Place → Fields → Type 0) (x y : Fields) : Type 0 where
+  tells : (p : Place) → Tells (call_back (with_fields op x)) (place_back p (with_fields op x)) y
+
+module _ {op : Op} {Tells : Result Call BadLine → Place → Fields → Type 0} where
+  told_if : {x x' y y' : Fields} (b : Bool) → Told op Tells x y → Told op Tells x' y' → Told op Tells (cond b x x') (cond b y y')
+  told_if true t t' = t
+  told_if false t t' = t'
+
+  told_by : {x y : Fields} (r : Result Call BadLine) (p : Place) → Told op Tells x y → call_as r p ≡ with_fields op x → Tells r p y
+  told_by {x} {y} r p t h =
+      let place : place_back p (with_fields op x) ≡ p = ap (place_back p) (sym h) ∙ place_same r p in
+      subst (λ (q : Place). Tells r q y) place
+      (subst (λ (s : Result Call BadLine). Tells s (place_back p (with_fields op x)) y) (ap call_back (sym h) ∙ call_same r p) (t.tells p))
+
+-- one point, two or three, or the weights alone
+abbrev TellPair : Result Call BadLine → Place → Fields → Type 0
+TellPair r p y = pair_fields (pair_in r) p.at p.line ≡ y
+
+abbrev TellTwo : Result Call BadLine → Place → Fields → Type 0
+TellTwo r p y = two_points_fields (two_points_in r) p.at p.line ≡ y
+
+abbrev TellThree : Result Call BadLine → Place → Fields → Type 0
+TellThree r p y = three_points_fields (three_points_in r) p.at p.line ≡ y
+
+abbrev TellWeights : Result Call BadLine → Place → Fields → Type 0
+TellWeights r p y = pair_fields (weights_in r) p.at p.line ≡ y
+
+module _ {op : Op} {line : ℕ} where
+  pair_wrong : Told op TellPair (wrong line) (wrong line)
+  unfolding call_back line_back with_fields
+  pair_wrong = record { tells = λ p. refl }
+
+  two_wrong : Told op TellTwo (wrong line) (wrong line)
+  unfolding call_back line_back with_fields
+  two_wrong = record { tells = λ p. refl }
+
+  three_wrong : Told op TellThree (wrong line) (wrong line)
+  unfolding call_back line_back with_fields
+  three_wrong = record { tells = λ p. refl }
+
+  weights_wrong : Told op TellWeights (wrong line) (wrong line)
+  unfolding call_back line_back with_fields
+  weights_wrong = record { tells = λ p. refl }
+
+module _ {at line : ℕ} {a b : Float} where
+  move_told : Told ops.Move TellPair (read (a ∷ b ∷ []) at line) (read (a ∷ b ∷ []) at line)
+  unfolding call_back place_back with_fields call_of
+  move_told = record { tells = λ p. refl }
+
+  line_told : Told ops.Line TellPair (read (a ∷ b ∷ []) at line) (read (a ∷ b ∷ []) at line)
+  unfolding call_back place_back with_fields call_of
+  line_told = record { tells = λ p. refl }
+
+  two_told : {c d : Float} → Told ops.Quad TellTwo (read (a ∷ b ∷ c ∷ d ∷ []) at line) (read (a ∷ b ∷ c ∷ d ∷ []) at line)
+  unfolding call_back place_back with_fields call_of
+  two_told = record { tells = λ p. refl }
+
+  three_told : {c d e f : Float}
+      → Told ops.Cubic TellThree (read (a ∷ b ∷ c ∷ d ∷ e ∷ f ∷ []) at line) (read (a ∷ b ∷ c ∷ d ∷ e ∷ f ∷ []) at line)
+  unfolding call_back place_back with_fields call_of
+  three_told = record { tells = λ p. refl }
+
+  weights_told : {c d e f g h : Float}
+      → Told ops.RatCubic TellWeights (read (c ∷ d ∷ e ∷ f ∷ g ∷ h ∷ a ∷ b ∷ []) at line) (read (a ∷ b ∷ []) at line)
+  unfolding call_back place_back with_fields call_of
+  weights_told = record { tells = λ p. refl }
+
+module _ (text : List ℕ) (at line : ℕ) where
+  abbrev pair : Fields
+  pair = fields_from text at line [] (bytes "x" ∷ bytes "y" ∷ [])
+
+  abbrev two : Fields
+  two = fields_from text at line [] quad_keys
+
+  abbrev three : Fields
+  three = fields_from text at line [] cubic_keys
+
+  move_pair : Told ops.Move TellPair pair pair
+  unfolding fields_from
+  move_pair = search (told_if, move_told, pair_wrong)
+
+  line_pair : Told ops.Line TellPair pair pair
+  unfolding fields_from
+  line_pair = search (told_if, line_told, pair_wrong)
+
+  all_two : Told ops.Quad TellTwo two two
+  unfolding fields_from quad_keys
+  all_two = search (told_if, two_told, two_wrong)
+
+  all_three : Told ops.Cubic TellThree three three
+  unfolding fields_from quad_keys cubic_keys
+  all_three = search (told_if, three_told, three_wrong) depth 9
+
+pub pair_read : PairRead
+unfolding keys_of
+pair_read text at line r p (inl h) = told_by r p (move_pair text at line) h
+pair_read text at line r p (inr h) = told_by r p (line_pair text at line) h
+
+pub two_points_read : TwoPointsRead
+unfolding keys_of
+two_points_read text at line r p h = told_by r p (all_two text at line) h
+
+pub three_points_read : ThreePointsRead
+unfolding keys_of
+three_points_read text at line r p h = told_by r p (all_three text at line) h
+
+-- ---- the same of the points before a weight or two
+module _ (at line : ℕ) where
+  abbrev TellTwoBefore : Result Call BadLine → Place → Fields → Type 0
+  TellTwoBefore r p y = (two_points_fields (two_points_in r) (at + 48) (line + 4) ≡ y) ⊎ (r ≡ bad_at (line + 4))
+
+  abbrev TellThreeBefore : Result Call BadLine → Place → Fields → Type 0
+  TellThreeBefore r p y =
+      (three_points_fields (three_points_in r) (at + 72) (line + 6) ≡ y) ⊎ ((r ≡ bad_at (line + 6)) ⊎ (r ≡ bad_at (line + 7)))
+
+  two_before_wrong : {line' : ℕ} → Told ops.RatQuad TellTwoBefore (wrong line') (wrong line')
+  unfolding call_back line_back with_fields
+  two_before_wrong = record { tells = λ p. inl refl }
+
+  three_before_wrong : {line' : ℕ} → Told ops.RatCubic TellThreeBefore (wrong line') (wrong line')
+  unfolding call_back line_back with_fields
+  three_before_wrong = record { tells = λ p. inl refl }
+
+  module _ (a b c d e : Float) (at' line' : ℕ) where
+    two_before : (w : Bool)
+        → Told ops.RatQuad TellTwoBefore (cond w (read (a ∷ b ∷ c ∷ d ∷ e ∷ []) at' line') (wrong (line + 1 + 1 + 1 + 1)))
+        (read (a ∷ b ∷ c ∷ d ∷ []) (at + 12 + 12 + 12 + 12) (line + 1 + 1 + 1 + 1))
+    unfolding call_back line_back with_fields call_of
+    two_before true =
+        let i : at + 48 ≡ at + 12 + 12 + 12 + 12 = omega arith in
+        let j : line + 4 ≡ line + 1 + 1 + 1 + 1 = omega arith in
+        record { tells = λ p. inl (rw (i, j)) }
+    two_before false = let j : line + 1 + 1 + 1 + 1 ≡ line + 4 = omega arith in record { tells = λ p. inr (ap bad_at j) }
+
+    three_before : (f g h : Float) (w w' : Bool)
+        → Told ops.RatCubic TellThreeBefore
+        (cond w
+        (cond w' (read (a ∷ b ∷ c ∷ d ∷ e ∷ f ∷ g ∷ h ∷ []) at' line') (wrong (line + 1 + 1 + 1 + 1 + 1 + 1 + 1)))
+        (wrong (line + 1 + 1 + 1 + 1 + 1 + 1)))
+        (read (a ∷ b ∷ c ∷ d ∷ e ∷ f ∷ []) (at + 12 + 12 + 12 + 12 + 12 + 12) (line + 1 + 1 + 1 + 1 + 1 + 1))
+    unfolding call_back line_back with_fields call_of
+    three_before f g h true true =
+        let i : at + 72 ≡ at + 12 + 12 + 12 + 12 + 12 + 12 = omega arith in
+        let j : line + 6 ≡ line + 1 + 1 + 1 + 1 + 1 + 1 = omega arith in
+        record { tells = λ p. inl (rw (i, j)) }
+    three_before f g h true false =
+        let j : line + 1 + 1 + 1 + 1 + 1 + 1 + 1 ≡ line + 7 = omega arith in record { tells = λ p. inr (inr (ap bad_at j)) }
+    three_before f g h false w' = let j : line + 1 + 1 + 1 + 1 + 1 + 1 ≡ line + 6 = omega arith in record { tells = λ p. inr (inl (ap bad_at j)) }
+
+  two_weighted : (text : List ℕ) → Told ops.RatQuad TellTwoBefore (fields_from text at line [] (keys_of ops.RatQuad)) (two text at line)
+  unfolding fields_from keys_of quad_keys
+  two_weighted text = search (told_if, two_before, two_before_wrong) depth 9
+
+  three_weighted : (text : List ℕ) → Told ops.RatCubic TellThreeBefore (fields_from text at line [] (keys_of ops.RatCubic)) (three text at line)
+  unfolding fields_from keys_of quad_keys cubic_keys
+  three_weighted text = search (told_if, three_before, three_before_wrong) depth 9
+
+pub weighted_two_points_read : WeightedTwoPointsRead
+weighted_two_points_read text at line r p h = told_by r p (two_weighted at line text) h
+
+pub weighted_three_points_read : WeightedThreePointsRead
+weighted_three_points_read text at line r p h = told_by r p (three_weighted at line text) h
+
+-- and of two weights, from where the points before them have ended
+module _ (text : List ℕ) where
+  abbrev from_weights : ℕ → ℕ → List Float → Fields
+  from_weights at line values = fields_from text at line values (bytes "w1" ∷ bytes "w2" ∷ [])
+
+  abbrev TellBehind : Result Call BadLine → Place → Fields → Type 0
+  TellBehind r p y = (values : List Float) (at line : ℕ) → y ≡ read values at line → TellWeights r p (from_weights at line [])
+
+  behind_wrong : {line : ℕ} → Told ops.RatCubic TellBehind (wrong line) (wrong line)
+  behind_wrong = record { tells = λ p values at line' e. cc }
+
+  module _ (a b c d e f : Float) (at line : ℕ) where
+    weights : Told ops.RatCubic TellWeights (from_weights at line (a ∷ b ∷ c ∷ d ∷ e ∷ f ∷ [])) (from_weights at line [])
+    unfolding fields_from
+    weights = search (told_if, weights_told, weights_wrong)
+
+    behind : Told ops.RatCubic TellBehind (from_weights at line (a ∷ b ∷ c ∷ d ∷ e ∷ f ∷ [])) (read (a ∷ b ∷ c ∷ d ∷ e ∷ f ∷ []) at line)
+    behind = record {
+      tells = λ p values at' line' same.
+          let i : at ≡ at' = cc in
+          let j : line ≡ line' = cc in
+          weights.tells p ∙ ap (λ (n : ℕ). from_weights n line []) i ∙ ap (λ (n : ℕ). from_weights at' n []) j;
+    }
+
+  all_behind : (at line : ℕ) → Told ops.RatCubic TellBehind (fields_from text at line [] (keys_of ops.RatCubic)) (three text at line)
+  unfolding fields_from keys_of quad_keys cubic_keys
+  all_behind at line = search (told_if, behind, behind_wrong) depth 9
+
+pub weights_read : WeightsRead
+weights_read text at line r p h = told_by r p (all_behind text at line) h
 
 -- ---- the reading
 read_back : Progress → Result Unit stopping.Refused

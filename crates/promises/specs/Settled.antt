@@ -2,7 +2,7 @@
 -- what it was lent, and a definition over what it was given. So for each form that a contract has: two outcomes that satisfy it are the same, part by part. Which public
 -- function has which form is a table of docs/PROMISES.md, held to the sources by tests/settled/run.
 -- All NaNs are one value here; which bytes a NaN then has in an f32 column is not settled, and that is the one exception. Assumes nothing.
-use Rattle.std.specs.Prelude.{ℕ, ◌≤◌, ◌<◌, ◌≡◌, ◌⊎◌, Bool, List, ◌++◌, Option, None, Some, Result, ℤ, Float, length, drop, [], ◌∷◌, Ok, Err}
+use Rattle.std.specs.Prelude.{ℕ, ◌+◌, ◌≤◌, ◌<◌, ◌≡◌, ◌⊎◌, Bool, List, ◌++◌, Option, None, Some, Result, ℤ, Float, length, drop, [], ◌∷◌, Ok, Err}
 use Rattle.answer.specs.declared.Refusal.{Refusal}
 use Rattle.answer.specs.Answer.{Answer}
 use Rattle.primitives.specs.declared.State as stored
@@ -10,6 +10,7 @@ use Rattle.primitives.specs.declared.Edit as planned
 use Rattle.primitives.specs.Edits.{edited_or}
 use Rattle.primitives.specs.Edits.{State}
 use Rattle.store.specs.declared.Call.{Call}
+use Rattle.store.specs.declared.Call.TheVariants as calls
 use Rattle.point.specs.declared.Point.{Point}
 use Rattle.store.specs.declared.StoreState.{StoreState}
 use Rattle.store.specs.Columns.{Columns, columns, state_at}
@@ -22,10 +23,14 @@ use Rattle.tables.specs.Lent.{quads_mut_of, splines_mut_of, world_of, filled_wor
 use Rattle.evaluate.specs.Delivery.{delivery, delivers}
 use Rattle.flatten.specs.Answer.{answered}
 use Rattle.flatten.specs.Flatten.{Flattened, Output, output, flattening}
+use Rattle.listing.specs.declared.Op.TheVariants as ops
 use Rattle.listing.specs.declared.BadLine.{BadLine}
 use Rattle.listing.specs.declared.Place.{Place}
 use Rattle.listing.specs.declared.Refused as stopping
-use Rattle.listing.specs.Reading.{wrong, read, Fields, Command, Drawing, Fault, Finish, call_as, command_as, Progress, stopped, progress_of}
+use Rattle.listing.specs.Grammar.{quad_keys, cubic_keys}
+use Rattle.listing.specs.Reading.{FieldsCalled, wrong, read, Fields, Command, Fault, Finish, call_as, command_as, Progress, stopped, progress_of}
+use Rattle.listing.specs.Reading.{fields_from}
+use Rattle.text.specs.Bytes.{bytes}
 use Rattle.listing.specs.Writing.{listed, listed_as}
 use Rattle.listing.specs.Program.{listing_of}
 use Rattle.listing.specs.Told.{account_as, telling}
@@ -157,6 +162,70 @@ TwoPointsSettled = (end line : ℕ) → Settles (λ (r : Result (Point × Point)
 
 abbrev pub ThreePointsSettled : Type 0
 ThreePointsSettled = (end line : ℕ) → Settles (λ (r : Result (Point × Point × Point) ℕ). three_points_fields r end line)
+
+-- ---- the same values in the call that is made of them, as `call_at` (listing) promises it
+-- a call's coordinates, points or weights, or the line of the fault; for a call of another op 0, which is no line
+abbrev pub pair_in : Result Call BadLine → Result (Float × Float) ℕ
+pair_in (Ok (calls.Move p)) = Ok (p.x, p.y)
+pair_in (Ok (calls.Line p)) = Ok (p.x, p.y)
+pair_in (Ok other) = Err 0
+pair_in (Err bad) = Err bad.0
+
+abbrev pub two_points_in : Result Call BadLine → Result (Point × Point) ℕ
+two_points_in (Ok (calls.Quad first second)) = Ok (first, second)
+two_points_in (Ok (calls.RatQuad first second w)) = Ok (first, second)
+two_points_in (Ok other) = Err 0
+two_points_in (Err bad) = Err bad.0
+
+abbrev pub three_points_in : Result Call BadLine → Result (Point × Point × Point) ℕ
+three_points_in (Ok (calls.Cubic first second third)) = Ok (first, second, third)
+three_points_in (Ok (calls.RatCubic first second third w1 w2)) = Ok (first, second, third)
+three_points_in (Ok other) = Err 0
+three_points_in (Err bad) = Err bad.0
+
+abbrev pub weights_in : Result Call BadLine → Result (Float × Float) ℕ
+weights_in (Ok (calls.RatCubic first second third w1 w2)) = Ok (w1, w2)
+weights_in (Ok other) = Err 0
+weights_in (Err bad) = Err bad.0
+
+-- so the call has the values in the order of their keys, and the place is the one behind them; or the line is that of the first fault
+abbrev pub PairRead : Type 0
+PairRead =
+    (text : List ℕ) (at line : ℕ) (r : Result Call BadLine) (p : Place)
+    → FieldsCalled text at line ops.Move r p ⊎ FieldsCalled text at line ops.Line r p
+    → pair_fields (pair_in r) p.at p.line ≡ fields_from text at line [] (bytes "x" ∷ bytes "y" ∷ [])
+
+abbrev pub TwoPointsRead : Type 0
+TwoPointsRead =
+    (text : List ℕ) (at line : ℕ) (r : Result Call BadLine) (p : Place) → FieldsCalled text at line ops.Quad r p
+    → two_points_fields (two_points_in r) p.at p.line ≡ fields_from text at line [] quad_keys
+
+abbrev pub ThreePointsRead : Type 0
+ThreePointsRead =
+    (text : List ℕ) (at line : ℕ) (r : Result Call BadLine) (p : Place) → FieldsCalled text at line ops.Cubic r p
+    → three_points_fields (three_points_in r) p.at p.line ≡ fields_from text at line [] cubic_keys
+
+-- where weights follow, the same of the points before them, whose fields are lines of twelve bytes; unless the fault is at a weight
+abbrev pub bad_at : ℕ → Result Call BadLine
+bad_at line = Err (record { 0 = line })
+
+abbrev pub WeightedTwoPointsRead : Type 0
+WeightedTwoPointsRead =
+    (text : List ℕ) (at line : ℕ) (r : Result Call BadLine) (p : Place) → FieldsCalled text at line ops.RatQuad r p
+    → (two_points_fields (two_points_in r) (at + 48) (line + 4) ≡ fields_from text at line [] quad_keys) ⊎ (r ≡ bad_at (line + 4))
+
+abbrev pub WeightedThreePointsRead : Type 0
+WeightedThreePointsRead =
+    (text : List ℕ) (at line : ℕ) (r : Result Call BadLine) (p : Place) → FieldsCalled text at line ops.RatCubic r p
+    → (three_points_fields (three_points_in r) (at + 72) (line + 6) ≡ fields_from text at line [] cubic_keys)
+    ⊎ ((r ≡ bad_at (line + 6)) ⊎ (r ≡ bad_at (line + 7)))
+
+-- and two weights are read as a pair is, from where three points have ended
+abbrev pub WeightsRead : Type 0
+WeightsRead =
+    (text : List ℕ) (at line : ℕ) (r : Result Call BadLine) (p : Place) → FieldsCalled text at line ops.RatCubic r p
+    → (values : List Float) (at' line' : ℕ) → fields_from text at line [] cubic_keys ≡ read values at' line'
+    → pair_fields (weights_in r) p.at p.line ≡ fields_from text at' line' [] (bytes "w1" ∷ bytes "w2" ∷ [])
 
 -- ---- inside the program: a command of a listing. It settles the result, and the place after the command unless there is none
 pub data NoCall : Command → Type 0 where

@@ -1,5 +1,6 @@
 -- Room for what a call writes, and what writing does point by point and command by command. Assumes nothing.
 use Prim.Native.Nat.{◌+◌, ◌≤◌}
+use native.Mathlib.Nat.{le_refl}
 use native.Mathlib.Omega.{arith}
 use mathlib.Core.Path.{◌≡◌, ap}
 use mathlib.Core.Bool.{Bool, true, false}
@@ -10,6 +11,7 @@ use borrow.Author.Tests.{leb-true, le-leb, ne_eqb}
 use mathlib.Mathlib.Data.Bool.Basic.{and_elim_left, and_elim_right}
 use Rattle.answer.specs.Answer.{Done}
 use Rattle.leaves.specs.Single.{zero32}
+use Rattle.point.specs.declared.Point.{Point}
 use Rattle.point.specs.declared.WeightedPoint.{WeightedPoint}
 use Rattle.point.specs.Point.{point_at, plain}
 use lib.Seq.{drop-cons}
@@ -17,10 +19,11 @@ use native.Mathlib.Numerals.{add-one}
 use Rattle.std.proofs.Common.{ℕ, ◌<◌, List, drop, get_or, refl, cond, not, ◌||◌, ◌&&◌, eqb, add-zero, zero, suc, ◌∷◌}
 use Rattle.std.proofs.Math.ListN.{drop_of_length-le}
 use Rattle.store.specs.declared.StoreState.{StoreState}
-use Rattle.store.specs.declared.Call.TheVariants.{Build}
+use Rattle.store.specs.declared.Call.{Call}
+use Rattle.store.specs.declared.Call.TheVariants.{Move, Line, Quad, Cubic, RatQuad, RatCubic, Build}
 use Rattle.store.specs.Columns.{Columns, usable_of, even_of, state_at, move_command, put_point, put_command}
 use Rattle.store.specs.Closing.{unclosed_of}
-use Rattle.store.specs.Drawing.{Writes, closed, writes_of, room_of}
+use Rattle.store.specs.Drawing.{Writes, appended, closed, moved, writes_of, room_of}
 use Rattle.store.specs.Drawing.{Outcome, outcome, fresh_of, state_after, written, put_points, put_commands, writes}
 use Rattle.store.specs.Writing.{carried_out}
 use Rattle.store.proofs.Usable.{Counted, usable_counts}
@@ -35,6 +38,28 @@ pub record Room (n : ℕ) (c : Columns) : Type 0 where
 pub record Fitting (w : Writes) (st : StoreState) (c : Columns) : Type 0 where
   pub points : Room (w.at + length w.points) c
   pub commands : st.commands + length w.commands ≤ length c.commands
+
+-- ---- no call leaves a gap after the last point
+moved_at : (st : StoreState) (c : Columns) (p : Point) (again unclosed : Bool) → (moved st c p again unclosed).at ≤ st.points
+unfolding moved
+moved_at st c p true unclosed = omega arith
+moved_at st c p false true = le_refl st.points
+moved_at st c p false false = le_refl st.points
+
+closed_at : (st : StoreState) (c : Columns) (unclosed : Bool) → (closed st c unclosed).at ≤ st.points
+unfolding closed appended
+closed_at st c true = le_refl st.points
+closed_at st c false = le_refl st.points
+
+pub writes_at : (call : Call) (st : StoreState) (c : Columns) → (writes_of call st c).at ≤ st.points
+unfolding writes_of appended
+writes_at (Move p) st c = moved_at st c p _ _
+writes_at (Line p) st c = le_refl st.points
+writes_at (Quad p1 p2) st c = le_refl st.points
+writes_at (Cubic p1 p2 p3) st c = le_refl st.points
+writes_at (RatQuad p1 p2 w) st c = le_refl st.points
+writes_at (RatCubic p1 p2 p3 w1 w2) st c = le_refl st.points
+writes_at Build st c = closed_at st c _
 
 -- columns of one length with room in x have room in all
 pub room_fits : (st : StoreState) (c : Columns) → Counted st c → (w : Writes) → room_of w st c ≡ true → Fitting w st c

@@ -77,7 +77,7 @@ impl Drawing<'_> {
         ) == Some(0)
     }
 
-    // Flattening's test for answer 3, over the whole drawing.
+    // Flattening's test for answer 3, over the whole drawing. Sub-slices: with `take` each step would test two ends.
     pub fn drawable(&self) -> bool
         ensures { result ≡ drawable_of self.now.state (drawing_columns self.now) }
     {
@@ -89,16 +89,12 @@ impl Drawing<'_> {
             commands,
             ..
         } = self.state;
-        let drawn = self.commands.iter().take(commands).all(|c| *c <= CUBIC)
+        let drawn = self.commands[..commands].iter().all(|c| *c <= CUBIC)
             & (read(self.commands, 0, 0) == MOVE)
             & self.uses_all();
-        let held = self
-            .weight
-            .iter()
-            .take(points)
-            .all(|w| limits::weight_ok(*w))
-            & self.x.iter().take(points).all(|v| stored_ok(*v))
-            & self.y.iter().take(points).all(|v| stored_ok(*v));
+        let held = self.weight[..points].iter().all(|w| limits::weight_ok(*w))
+            & self.x[..points].iter().all(|v| stored_ok(*v))
+            & self.y[..points].iter().all(|v| stored_ok(*v));
         drawn & held
     }
 }
@@ -114,5 +110,5 @@ pub fn uses(command: u8) -> usize
 fn stored_ok(v: f32) -> bool
     ensures { result ≡ stored_ok_of v }
 {
-    (-4194304.0..=4194304.0).contains(&v)
+    matches!(v, -4194304.0..=4194304.0)
 }

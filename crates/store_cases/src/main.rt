@@ -209,7 +209,8 @@ fn main(rt: HostRuntime) -> io::Result<()> {
     let mut list = rt.stdin();
     let mut run = Run::new();
     for line in 1..=100_000 {
-        let Some(letter) = letter(&mut list)? else {
+        // A zero byte ends the list too.
+        let Some(letter @ 1..) = letter(&mut list)? else {
             break;
         };
         run.line = line;

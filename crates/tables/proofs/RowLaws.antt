@@ -53,6 +53,11 @@ module _ {A : Type 0} where
       less : (n : ℕ) → suc k < suc n → k < n
       less n m = omega arith
 
+-- ---- tables whose columns are equally long
+pub record QuadLengths (a b : QuadTable) : Type 0 where
+  pub rows : length a.rows ≡ length b.rows
+  pub partial_splines : length a.partial_splines ≡ length b.partial_splines
+
 -- ---- a row below the capacity is whole
 fits : (q : QuadTable) (i : ℕ) → i < quad_capacity_of q → i < length q.rows / 15
 unfolding quad_capacity_of
@@ -108,6 +113,9 @@ module _ (q : QuadTable) (i : ℕ) (row : QuadRow) where
       go : (b : Bool) → length (cond b (stored q i row) q).partial_splines ≡ length q.partial_splines
       go true = length-set q.partial_splines i row.spline
       go false = refl
+
+  pub lengths_stay : QuadLengths (put_quad q i row) q
+  lengths_stay = record { rows = rows_length; partial_splines = owners_length }
 
   pub capacity_stays : quad_capacity_of (put_quad q i row) ≡ quad_capacity_of q
   unfolding quad_capacity_of

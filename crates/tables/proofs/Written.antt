@@ -2,8 +2,7 @@
 use mathlib.Core.Path.{◌≡◌, ◌∙◌}
 use mathlib.Core.List.{List}
 use mathlib.Core.Bool.{false}
-use Prim.Native.Nat.{ℕ, ◌+◌, ◌-◌, ◌*◌, ◌<◌}
-use native.Mathlib.Omega.{arith}
+use Prim.Native.Nat.{ℕ, ◌+◌, ◌*◌, ◌<◌}
 use lib.Dec.{ltb, lit<}
 use lib.Ieee.{Float, nan}
 use lib.ListN.{get_or, take, drop, replicate}
@@ -14,13 +13,12 @@ use Rattle.tables.specs.Tables.{QuadTable, whole_rows_of, number_at, quad_row_at
 
 module _ (q : QuadTable) (i : ℕ) {numbers : List Float} where
   -- a row that is whole, from its 15 numbers
-  pub row_read : i < whole_rows_of q.rows → numbers ≡ take (15 * i + 15 - 15 * i) (drop (15 * i) q.rows)
+  pub row_read : i < whole_rows_of q.rows → numbers ≡ take 15 (drop (15 * i) q.rows)
       → row_of numbers (get_or q.partial_splines i 0) ≡ quad_row_at q i
   unfolding quad_row_at number_at
   row_read h e =
       rw (
         e,
-        fifteen,
         lt-ltb i (whole_rows_of q.rows) h,
         at 0 (lit< tt),
         at 1 (lit< tt),
@@ -39,9 +37,6 @@ module _ (q : QuadTable) (i : ℕ) {numbers : List Float} where
         at 14 (lit< tt),
       )
     where
-      fifteen : 15 * i + 15 - 15 * i ≡ 15
-      fifteen = omega arith
-
       at : (k : ℕ) → k < 15 → get_or (take 15 (drop (15 * i) q.rows)) k nan ≡ get_or q.rows (15 * i + k) nan
       at k h = get_or-take 15 (drop (15 * i) q.rows) k nan h ∙ get_or-drop (15 * i) q.rows k nan
 

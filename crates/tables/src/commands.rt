@@ -46,9 +46,9 @@ impl Tables<'_, '_, '_, '_> {
                 let p1 = drawing.stored_point(j);
                 Primitive::Quad(p0, p1, drawing.stored_point(j.saturating_add(1)))
             }
-            _ => return self.push_cubic(run, cubic_from(drawing, before)),
+            _ => return self.push_cubic(Ok(()), run, cubic_from(drawing, before)),
         };
-        self.push(run, p)
+        self.push(Ok(()), run, p)
     }
 
     // The tables of a drawing: its commands are taken in order, and a refusal stops the run.

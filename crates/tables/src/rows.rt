@@ -36,9 +36,9 @@ fn numbers(row: QuadRow) -> [f32; WIDTH]
     ]
 }
 
-// The row that has these numbers.
-fn quad_row(numbers: [f32; WIDTH], spline: u32) -> QuadRow
-    ensures { result ≡ row_of numbers spline }
+// The row that has these numbers, read where they lie.
+fn quad_row(numbers: &[f32; WIDTH], spline: u32) -> QuadRow
+    ensures { result ≡ row_of numbers.now spline }
 {
     let three = |k: usize| Three {
         a: numbers[k],
@@ -108,12 +108,12 @@ impl QuadColumns<'_> {
     pub fn row_at(&self, i: usize) -> QuadRow
         ensures { result ≡ quad_row_at (quads_of self.now) i }
     {
-        let mut numbers = [f32::NAN; WIDTH];
+        let spline = read(self.partial_splines, i, 0);
         if i < self.whole_rows() {
             let start = WIDTH * i;
-            numbers.copy_from_slice(&self.quad_rows[start..start + WIDTH]);
+            return quad_row(self.quad_rows[start..].first_chunk().unwrap(), spline);
         }
-        quad_row(numbers, read(self.partial_splines, i, 0))
+        quad_row(&[f32::NAN; WIDTH], spline)
     }
 
     // The sum of quad i, or NaN where its row is not whole.

@@ -7,7 +7,7 @@ ghost use Rattle.tables.specs.Lent.{quads_mut_of, splines_mut_of, SameTables, Sa
 ghost use Rattle.tables.specs.Run.{apply_of, run_of};
 
 use crate::lent::Tables;
-use answer::Refusal;
+use answer::Answer;
 use primitives::{Cubic, Edit, Primitive, Run, State};
 
 const MAX_PIECES: u32 = 1024;
@@ -33,35 +33,39 @@ impl Tables<'_, '_, '_, '_> {
         }
     }
 
-    // One primitive. On a refusal all stays.
+    // One primitive, if nothing was refused before it. On a refusal all stays.
     #[tactic(auto, unfolding(crate::specs::Run::run_of, crate::specs::Run::push_of, crate::specs::Run::apply_of))]
-    pub fn push(&mut self, run: &mut Run, p: Primitive) -> Result<(), Refusal>
+    pub fn push(&mut self, before: Answer, run: &mut Run, p: Primitive) -> Answer
         ensures same { SameTables self.old self.new }
         ensures goes_on { SameRun run.old run.new }
-        ensures ran { world_of result run.new.st self.new ≡ run_of run.old.setting run.old.caps (p ∷ []) (world_of Done run.old.st self.old) }
+        ensures ran { world_of result run.new.st self.new ≡ run_of run.old.setting run.old.caps (p ∷ []) (world_of before run.old.st self.old) }
     {
+        before?;
         let last = self.splines.view().last(run.st.splines);
         let edit = Run { last, ..*run }.plan(p)?;
         run.st = self.apply(edit);
         Ok(())
     }
 
-    // The pieces of a cubic, or the refusal of too many of them.
-    pub fn push_cubic(&mut self, run: &mut Run, c: Cubic) -> Result<(), Refusal>
+    // The pieces of a cubic, or the refusal of too many of them, if nothing was refused before.
+    pub fn push_cubic(&mut self, before: Answer, run: &mut Run, c: Cubic) -> Answer
         ensures same { SameTables self.old self.new }
         ensures goes_on { SameRun run.old run.new }
-        ensures ran { world_of result run.new.st self.new ≡ run_of run.old.setting run.old.caps (cubic_quads_of c) (world_of Done run.old.st self.old) }
+        ensures ran { world_of result run.new.st self.new ≡ run_of run.old.setting run.old.caps (cubic_quads_of c) (world_of before run.old.st self.old) }
     {
+        if before.is_err() {
+            return before;
+        }
         let n = c.pieces();
         if n > MAX_PIECES {
-            return self.push(run, Primitive::Excess);
+            return self.push(Ok(()), run, Primitive::Excess);
         }
         let incr = 1.0 / n as f32;
         let mut start = c.p0.applied();
         for i in 1..=n {
             let t = i as f32 * incr;
             let end = c.point(t);
-            self.push(run, c.piece(start, end, t - 0.5 * incr))?;
+            self.push(Ok(()), run, c.piece(start, end, t - 0.5 * incr))?;
             start = end;
         }
         Ok(())

@@ -18,13 +18,12 @@ pub fn stands_at(text: &[u8], at: usize, fixed: &[u8]) -> bool
     text.get(at..).unwrap_or_default().starts_with(fixed)
 }
 
-// Writes a byte i bytes after a place; past the end it writes nothing.
+// Writes a byte i bytes after a place; past the end it writes nothing. What is left behind the place is the same for all bytes of a string.
 pub fn put_byte(buffer: &mut [u8], at: usize, i: usize, b: u8)
     ensures { buffer.new ≡ set buffer.old (at + i) b }
 {
-    let place = at.saturating_add(i);
-    if place < buffer.len() {
-        buffer[place] = b;
+    if i < buffer.len().saturating_sub(at) {
+        buffer[at + i] = b;
     }
 }
 

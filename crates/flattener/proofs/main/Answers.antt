@@ -8,8 +8,8 @@ pub unwrap-m-requires : goal.unwrap-m-requires
 unwrap-m-requires c = rw (all_written _ _ _ _ (listing_fits _) c.listing.ensures)
 
 pub slice_bounds-output-end : goal.slice_bounds-output-end
-slice_bounds-output-end c = omega (arith, c.listing.auto.output, count_fits _ _ _ _ (listing_fits _) c.listing.ensures _ c.unwrap-m.ensures)
+slice_bounds-output-end c = omega (arith, c.listing.auto.output, count_fits _ _ _ _ _ c.listing.ensures c.unwrap-m.ensures)
 
 pub slice_bounds-write_all-end : goal.slice_bounds-write_all-end
 slice_bounds-write_all-end c =
-    sym (length-take-le _ _ (omega (arith, c.listing.auto.output, count_fits _ _ _ _ (listing_fits _) c.listing.ensures _ c.unwrap-m.ensures)))
+    sym (length-take-le _ _ (omega (arith, c.listing.auto.output, count_fits _ _ _ _ _ c.listing.ensures c.unwrap-m.ensures)))
