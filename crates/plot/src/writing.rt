@@ -52,8 +52,8 @@ impl Finished<'_> {
         let mut at = 3;
         let mut up = true;
         for i in 0..self.len() {
-            // This is never none: all points were tested.
             let (x, y) = self.at(i);
+            // This is never none: all points were tested.
             let Some((px, py)) = spot(x, y) else {
                 return at;
             };

@@ -1,6 +1,6 @@
--- What a primitive is planned as where something was refused before it. In src/ no state holds an answer, so `Run::plan` is given such a state without it: its contract tells what the plan
--- is where nothing was refused, and the law here what it then is with the refusal. A state that is kept keeps the refusal, unless the primitive is refused itself; a line or a quad that is stored
--- is planned alike. Assumes nothing.
+-- What a primitive is planned as where something was refused before it. In src/ no state holds an answer, so `Run::plan` is given such a state without it: its
+-- contract tells what the plan is where nothing was refused, and the law here what it is with the refusal. A state that is kept keeps the refusal, unless the
+-- primitive is refused itself; a line or a quad that is stored is planned alike. Assumes nothing.
 use mathlib.Core.Path.{◌≡◌, refl, ap, ◌∙◌}
 use mathlib.Core.Bool.{Bool, true, false, cond}
 use Prim.Native.Nat.{ℕ}
